@@ -1,0 +1,153 @@
+//! Batches of scripts run through both sides, and the first script that shows a difference.
+
+use crate::other::Other;
+use crate::script::generate;
+use crate::shrink::shrink;
+use engine::sheet::lines;
+use engine::{parse, sheet, Engine, Fault, Request};
+use std::ops::Range;
+
+/// The most lines that one run of a program gets, unless a single script is longer.
+const MOST_LINES: usize = 100_000;
+
+/// An input on which the two sides differ.
+pub struct Failure {
+    pub input: Vec<u8>,
+    /// It begins with an accepted FRESH, so that it stands by itself, and has to stay so.
+    pub fresh: bool,
+    pub origin: String,
+}
+
+/// How much was compared.
+#[derive(Default)]
+pub struct Count {
+    pub runs: u64,
+    pub scripts: u64,
+    pub lines: u64,
+}
+
+/// Whether the other side prints anything but what the engine prints.
+pub fn differs(other: &Other, input: &[u8]) -> Result<bool, String> {
+    Ok(other.print(input)? != sheet(input, Fault::None))
+}
+
+/// A shorter input that begins with an accepted FRESH where the first one did and still differs.
+pub fn shortest(other: &Other, failure: &Failure) -> Result<Vec<u8>, String> {
+    shrink(&failure.input, |shorter| {
+        Ok((!failure.fresh || begins_fresh(shorter)) && differs(other, shorter)?)
+    })
+}
+
+/// Whether the first line is a FRESH that is accepted.
+pub fn begins_fresh(input: &[u8]) -> bool {
+    match lines(input).first().map(|line| parse(line, Fault::None)) {
+        Some(Some(Request::Fresh(t, s, r))) => Engine::fresh(t, s, r, Fault::None).1.is_ok(),
+        _ => false,
+    }
+}
+
+/// Runs the fixed inputs, then the scripts of all seeds in batches that grow from one line.
+pub fn run(
+    other: &Other,
+    seeds: Range<u64>,
+    lines: usize,
+    count: &mut Count,
+) -> Result<Option<Failure>, String> {
+    for input in corners() {
+        count.runs += 1;
+        if differs(other, &input)? {
+            let origin = String::from("a fixed input");
+            return Ok(Some(Failure { input, fresh: false, origin }));
+        }
+    }
+    let mut most = 1;
+    let mut next = seeds.start;
+    while next < seeds.end {
+        let scripts_in_batch = (most / lines.max(1)).max(1) as u64;
+        let batch = next..(next + scripts_in_batch).min(seeds.end);
+        if let Some(failure) = run_batch(other, batch.clone(), lines, count)? {
+            return Ok(Some(failure));
+        }
+        next = batch.end;
+        most = (most * 10).min(MOST_LINES);
+    }
+    Ok(None)
+}
+
+/// Inputs that do not begin with FRESH: what `sheet` does before it, and how input can end.
+pub fn corners() -> Vec<Vec<u8>> {
+    let mut inputs: Vec<Vec<u8>> = [
+        "",
+        "\n",
+        "\n\n",
+        "PAGE",
+        "PAGE\n",
+        "\nPAGE\n\n",
+        "FRESH,0,0,0\nPAGE\n",
+        "LOAD,A,1\nRU,A\nEXEC,15,1,0\nEXEC,4,1,0\nPAGE\nEXEC,11",
+        "RN,ALLOC,L,0\nLOAD,L,0\nRU,L\nRN,ALLOC,L,0\nFRESH,257,0,0\nPAGE\n",
+        "FRESH,4,1,1\nLOAD,WHZAT,10\nRU,WHZAT\nEXEC,4,2,0\nPAGE\n",
+    ]
+    .iter()
+    .map(|text| text.as_bytes().to_vec())
+    .collect();
+    // Every byte as a line of its own, and as the last byte of a name.
+    let mut bytes = Vec::new();
+    for byte in 0..=255 {
+        bytes.extend_from_slice(&[byte, b'\n']);
+        bytes.extend_from_slice(&[b"LOAD,A", &[byte][..], b",1\n"].concat());
+    }
+    bytes.extend_from_slice(b"PAGE\n");
+    inputs.push(bytes);
+    inputs
+}
+
+/// A batch of scripts in one input; each but the last is ended by byte 10.
+fn join(scripts: &[Vec<u8>]) -> Vec<u8> {
+    let mut input: Vec<u8> = Vec::new();
+    for script in scripts {
+        if !input.is_empty() && !input.ends_with(b"\n") {
+            input.push(b'\n');
+        }
+        input.extend_from_slice(script);
+    }
+    input
+}
+
+fn run_batch(
+    other: &Other,
+    seeds: Range<u64>,
+    lines: usize,
+    count: &mut Count,
+) -> Result<Option<Failure>, String> {
+    let scripts: Vec<Vec<u8>> = seeds.clone().map(|seed| generate(seed, lines)).collect();
+    count.runs += 1;
+    count.scripts += scripts.len() as u64;
+    count.lines += (scripts.len() * lines) as u64;
+    let expected: Vec<Vec<u8>> = scripts.iter().map(|script| sheet(script, Fault::None)).collect();
+    let got = other.print(&join(&scripts))?;
+    if got == expected.concat() {
+        return Ok(None);
+    }
+    let place = first_different(&expected, &got);
+    let seed = seeds.start + place as u64;
+    if differs(other, &scripts[place])? {
+        let origin = format!("seed {}, {} lines", seed, lines);
+        return Ok(Some(Failure { input: scripts[place].clone(), fresh: true, origin }));
+    }
+    // By itself the script is answered rightly: it takes the batch to show the difference.
+    let origin = format!("the batch of seeds {}..{}, {} lines each", seeds.start, seeds.end, lines);
+    Ok(Some(Failure { input: join(&scripts), fresh: true, origin }))
+}
+
+/// The script whose part of the output is the first that is not as expected.
+fn first_different(expected: &[Vec<u8>], got: &[u8]) -> usize {
+    let mut rest = got;
+    for (place, part) in expected.iter().enumerate() {
+        match rest.strip_prefix(part.as_slice()) {
+            Some(tail) => rest = tail,
+            None => return place,
+        }
+    }
+    expected.len() - 1
+}

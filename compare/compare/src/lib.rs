@@ -1,0 +1,34 @@
+//! Scripts for the console, and the comparison of a `sheet` program with the engine on them.
+//!
+//! | file | subject |
+//! |---|---|
+//! | `prng` | numbers from a seed |
+//! | `profile` | what one script is about: tables, names, priorities, weights |
+//! | `wish` | lines that mean something in the present state |
+//! | `claims` | the numbers of such lines: tracks, resource numbers, timers |
+//! | `spoil` | lines that are nearly right, and lines that are not |
+//! | `script` | a whole script from a seed |
+//! | `other` | the program, or the mutant, that is compared |
+//! | `differ` | batches of scripts, and the first difference |
+//! | `shrink` | a shorter script that still fails |
+//! | `report` | a difference in print |
+
+pub mod claims;
+pub mod differ;
+pub mod other;
+pub mod prng;
+pub mod profile;
+pub mod report;
+pub mod script;
+pub mod shrink;
+pub mod spoil;
+pub mod wish;
+
+use std::ops::Range;
+
+/// The seeds that the tests use and that `compare run` takes unless it is told others. Within
+/// them every mutant of the engine is found.
+pub const CI_SEEDS: Range<u64> = 1..401;
+
+/// Lines per script.
+pub const CI_LINES: usize = 250;

@@ -1,0 +1,153 @@
+//! The command line: see `USAGE`.
+
+use comparer::differ::{self, shortest, Count, Failure};
+use comparer::other::Other;
+use comparer::report::report;
+use comparer::script::generate;
+use comparer::{CI_LINES, CI_SEEDS};
+use engine::fault::{Fault, FAULTS};
+use engine::sheet;
+use std::io::{self, Read, Write};
+use std::ops::Range;
+use std::process::ExitCode;
+use std::time::Duration;
+
+const USAGE: &str = "usage:
+  compare run [--seeds A..B] [--lines N] [--limit SECONDS] [--save FILE] -- PROGRAM [ARGS..]
+  compare run [--seeds A..B] [--lines N] [--save FILE] --fault NAME
+  compare faults
+  compare sheet
+  compare gen [--seed K] [--lines N]
+  compare cases [--seeds A..B] [--lines N]
+Seeds A..B are A and up, below B. Status 0: no difference; 1: a difference; 2: not run.";
+
+struct Options {
+    seeds: Range<u64>,
+    lines: usize,
+    limit: Duration,
+    save: Option<String>,
+    fault: Option<Fault>,
+    program: Vec<String>,
+}
+
+fn main() -> ExitCode {
+    match command() {
+        Ok(status) => ExitCode::from(status),
+        Err(message) => {
+            eprintln!("{}", message);
+            ExitCode::from(2)
+        }
+    }
+}
+
+fn command() -> Result<u8, String> {
+    let mut args = std::env::args().skip(1);
+    let word = args.next().unwrap_or_default();
+    let rest: Vec<String> = args.collect();
+    match word.as_str() {
+        "run" => run(options(rest)?),
+        "faults" => {
+            let list = FAULTS.iter().map(|fault| format!("{:24}{}\n", fault.name(), fault.what()));
+            print(list.collect::<String>().as_bytes())
+        }
+        "sheet" => {
+            let mut input = Vec::new();
+            io::stdin().lock().read_to_end(&mut input).map_err(|error| error.to_string())?;
+            print(&sheet(&input, Fault::None))
+        }
+        "gen" => {
+            let options = options(rest)?;
+            print(&generate(options.seeds.start, options.lines))
+        }
+        "cases" => cases(options(rest)?),
+        _ => Err(USAGE.to_string()),
+    }
+}
+
+fn options(args: Vec<String>) -> Result<Options, String> {
+    let mut options = Options {
+        seeds: CI_SEEDS,
+        lines: CI_LINES,
+        limit: Duration::from_secs(60),
+        save: None,
+        fault: None,
+        program: Vec::new(),
+    };
+    let mut args = args.into_iter();
+    while let Some(option) = args.next() {
+        if option == "--" {
+            options.program = args.by_ref().collect();
+            continue;
+        }
+        let value = args.next().ok_or(USAGE)?;
+        match option.as_str() {
+            "--seeds" => options.seeds = range(&value)?,
+            "--seed" => options.seeds.start = whole(&value)?,
+            "--lines" => options.lines = whole(&value)? as usize,
+            "--limit" => options.limit = Duration::from_secs(whole(&value)?),
+            "--save" => options.save = Some(value),
+            "--fault" => options.fault = Some(Fault::by_name(&value).ok_or("no such fault")?),
+            _ => return Err(USAGE.to_string()),
+        }
+    }
+    Ok(options)
+}
+
+fn whole(text: &str) -> Result<u64, String> {
+    text.parse().map_err(|_| format!("{} is not a number", text))
+}
+
+fn range(text: &str) -> Result<Range<u64>, String> {
+    let (start, end) = text.split_once("..").ok_or(USAGE)?;
+    Ok(whole(start)?..whole(end)?)
+}
+
+fn print(bytes: &[u8]) -> Result<u8, String> {
+    let mut out = io::stdout().lock();
+    out.write_all(bytes).and_then(|()| out.flush()).map_err(|error| error.to_string())?;
+    Ok(0)
+}
+
+fn run(options: Options) -> Result<u8, String> {
+    let other = match (options.fault, options.program.is_empty()) {
+        (Some(fault), true) => Other::Mutant(fault),
+        (None, false) => Other::Program { command: options.program, limit: options.limit },
+        _ => return Err(USAGE.to_string()),
+    };
+    let mut count = Count::default();
+    let failure = differ::run(&other, options.seeds, options.lines, &mut count)?;
+    match failure {
+        None => {
+            println!("{} runs, {} scripts, {} lines: no difference", count.runs, count.scripts, count.lines);
+            Ok(0)
+        }
+        Some(failure) => show(&other, &failure, options.save),
+    }
+}
+
+/// Shrinks a failing input and prints it with both outputs.
+fn show(other: &Other, failure: &Failure, save: Option<String>) -> Result<u8, String> {
+    let input = shortest(other, failure)?;
+    let text = report(&input, &other.print(&input)?);
+    let title = format!("difference on {}; the shortest script found:\n", failure.origin);
+    print((title + &text).as_bytes())?;
+    if let Some(file) = save {
+        std::fs::write(&file, &input).map_err(|error| format!("{}: {}", file, error))?;
+    }
+    Ok(1)
+}
+
+/// Three lines for each seed: `seed K`, `script` and `output` with their bytes in decimal.
+fn cases(options: Options) -> Result<u8, String> {
+    let mut text = String::new();
+    for seed in options.seeds {
+        let script = generate(seed, options.lines);
+        let output = sheet(&script, Fault::None);
+        text += &format!("seed {}\nscript{}\noutput{}\n", seed, decimal(&script), decimal(&output));
+    }
+    print(text.as_bytes())
+}
+
+fn decimal(bytes: &[u8]) -> String {
+    bytes.iter().map(|byte| format!(" {}", byte)).collect()
+}

@@ -1,0 +1,78 @@
+//! What is compared with the engine: a `sheet` program in a process of its own, or a mutant.
+
+use engine::{sheet, Fault};
+use std::io::{Read, Write};
+use std::process::{Child, Command, Stdio};
+use std::sync::mpsc;
+use std::thread;
+use std::time::Duration;
+
+pub enum Other {
+    Mutant(Fault),
+    Program {
+        /// The program and its arguments; not empty.
+        command: Vec<String>,
+        /// How long one run may take.
+        limit: Duration,
+    },
+}
+
+/// Appended to what a program printed that had to be stopped.
+const STOPPED: &[u8] = b"(no end within the time limit)\n";
+
+impl Other {
+    /// What it prints on this input. An error is that of starting the program, not of the program.
+    pub fn print(&self, input: &[u8]) -> Result<Vec<u8>, String> {
+        match self {
+            Other::Mutant(fault) => Ok(sheet(input, *fault)),
+            Other::Program { command, limit } => run(command, *limit, input),
+        }
+    }
+}
+
+fn run(command: &[String], limit: Duration, input: &[u8]) -> Result<Vec<u8>, String> {
+    let mut child = Command::new(&command[0])
+        .args(&command[1..])
+        .stdin(Stdio::piped())
+        .stdout(Stdio::piped())
+        .spawn()
+        .map_err(|error| format!("{}: {}", command[0], error))?;
+    feed(&mut child, input.to_vec());
+    let printed = collect(&mut child);
+    match printed.recv_timeout(limit) {
+        Ok(output) => {
+            child.wait().map_err(|error| error.to_string())?;
+            Ok(output)
+        }
+        Err(_) => {
+            // Its pipe closes with it, so the threads end as well.
+            child.kill().map_err(|error| error.to_string())?;
+            child.wait().map_err(|error| error.to_string())?;
+            let mut output = printed.recv().unwrap_or_default();
+            output.extend_from_slice(STOPPED);
+            Ok(output)
+        }
+    }
+}
+
+/// Writes the input from a thread: a program may print before it has read all of it.
+fn feed(child: &mut Child, input: Vec<u8>) {
+    if let Some(mut stdin) = child.stdin.take() {
+        thread::spawn(move || {
+            // A program that stops reading shows in what it prints.
+            let _ = stdin.write_all(&input);
+        });
+    }
+}
+
+fn collect(child: &mut Child) -> mpsc::Receiver<Vec<u8>> {
+    let (sender, receiver) = mpsc::channel();
+    if let Some(mut stdout) = child.stdout.take() {
+        thread::spawn(move || {
+            let mut output = Vec::new();
+            let _ = stdout.read_to_end(&mut output);
+            let _ = sender.send(output);
+        });
+    }
+    receiver
+}

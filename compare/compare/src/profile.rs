@@ -1,0 +1,152 @@
+//! What one script is about. A script with few names and equal priorities goes deep; the profile
+//! says which of the awkward corners it keeps to.
+
+use crate::prng::Prng;
+
+/// The kinds of lines, in the order of the weights.
+#[derive(Clone, Copy, Debug, PartialEq, Eq)]
+pub enum Topic {
+    Load,
+    Run,
+    Suspend,
+    Go,
+    Priority,
+    Off,
+    Tick,
+    Claim,
+    GiveBack,
+    GiveAll,
+    End,
+    Pause,
+    Son,
+    Start,
+    Time,
+    Timer,
+    Alloc,
+    Lock,
+    Clear,
+    Free,
+    Page,
+    Edge,
+    Spoilt,
+    Fresh,
+}
+
+use Topic::*;
+
+/// Every topic with its usual weight.
+const TOPICS: [(Topic, u64); 24] = [
+    (Load, 8),
+    (Run, 12),
+    (Suspend, 4),
+    (Go, 6),
+    (Priority, 8),
+    (Off, 5),
+    (Tick, 6),
+    (Claim, 10),
+    (GiveBack, 6),
+    (GiveAll, 2),
+    (End, 5),
+    (Pause, 3),
+    (Son, 8),
+    (Start, 4),
+    (Time, 1),
+    (Timer, 5),
+    (Alloc, 8),
+    (Lock, 10),
+    (Clear, 5),
+    (Free, 5),
+    (Page, 8),
+    (Edge, 5),
+    (Spoilt, 7),
+    (Fresh, 1),
+];
+
+/// What a script can dwell on: its topics get four times their weight.
+const THEMES: [&[Topic]; 8] = [
+    &[],
+    &[Claim, GiveBack, GiveAll, Off],
+    &[Alloc, Lock, Clear, Free, Priority],
+    &[Son, End, Off, Load, Priority],
+    &[Timer, Tick, Tick, End],
+    &[Alloc, Lock, Son, Off, Priority],
+    &[Claim, Lock, Alloc, Off, Run],
+    &[Edge, Spoilt],
+];
+
+const WORDS: [&str; 30] = [
+    "ALL", "GO", "RN", "L", "G", "A", "B", "C", "AB", "A1", "A11", "WHZAT", "Z9999", "PAGE", "TICK",
+    "EXEC", "FRESH", "LOAD", "RU", "SS", "PR", "OF", "ALLOC", "LOCK", "CLEAR", "FREE", "AAAAA",
+    "AAAAB", "END", "X",
+];
+
+const PRIORITIES: [&[u64]; 7] = [
+    &[10],
+    &[10],
+    &[10, 10, 10, 11],
+    &[1, 2],
+    &[0, 1, 10],
+    &[0, 32_767],
+    &[5, 5, 6, 7, 300],
+];
+
+pub struct Profile {
+    pub t: u64,
+    pub s: u64,
+    pub r: u64,
+    pub names: Vec<String>,
+    pub priorities: Vec<u64>,
+    topics: Vec<Topic>,
+    weights: Vec<u64>,
+}
+
+impl Profile {
+    pub fn new(prng: &mut Prng) -> Profile {
+        let crowd = prng.chance(1, 8);
+        let theme = prng.pick(&THEMES);
+        let (t, s, r) = sizes(prng);
+        let weight = |(topic, weight): &(Topic, u64)| {
+            let dwells = theme.contains(topic);
+            let full = crowd && *topic == Load;
+            let rare = crowd && *topic == Off;
+            weight * if dwells { 4 } else { 1 } * if full { 8 } else { 1 } / if rare { 4 } else { 1 }
+        };
+        Profile {
+            t,
+            s,
+            r,
+            names: if crowd { crowd_names() } else { few_names(prng) },
+            priorities: prng.pick(&PRIORITIES).to_vec(),
+            topics: TOPICS.iter().map(|(topic, _)| *topic).collect(),
+            weights: TOPICS.iter().map(weight).collect(),
+        }
+    }
+
+    pub fn topic(&self, prng: &mut Prng) -> Topic {
+        self.topics[prng.weighted(&self.weights)]
+    }
+}
+
+/// T, S and R of an accepted FRESH: mostly small, now and then at a limit.
+pub fn sizes(prng: &mut Prng) -> (u64, u64, u64) {
+    let t = prng.pick(&[1, 2, 3, 4, 5, 6, 7, 8, 8, 9, 10, 12, 16, 40, 255, 256]);
+    let s = match prng.below(10) {
+        0 => t,
+        1 => t - 1,
+        2 => t / 2,
+        3 | 4 => 1,
+        _ => 0,
+    };
+    let r = prng.pick(&[0, 1, 1, 1, 2, 2, 2, 3, 3, 4, 16]);
+    (t, s, r)
+}
+
+fn few_names(prng: &mut Prng) -> Vec<String> {
+    let count = prng.between(4, 8);
+    (0..count).map(|_| prng.pick(&WORDS).to_string()).collect()
+}
+
+/// More names than there are records.
+fn crowd_names() -> Vec<String> {
+    (1..=40).map(|k| format!("P{}", k)).collect()
+}

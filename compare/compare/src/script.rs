@@ -1,0 +1,74 @@
+//! A whole script from a seed. The generator keeps an engine beside it, so that most lines mean
+//! something in the state they meet.
+
+use crate::prng::Prng;
+use crate::profile::{Profile, Topic};
+use crate::{spoil, wish};
+use engine::sheet::print_line;
+use engine::{Engine, Fault};
+
+/// A script of so many lines. The first is an accepted FRESH; the last may lack its byte 10.
+pub fn generate(seed: u64, lines: usize) -> Vec<u8> {
+    let mut prng = Prng::new(seed);
+    let profile = Profile::new(&mut prng);
+    let mut engine = Engine::smallest(Fault::None);
+    let mut script = Vec::new();
+    for place in 0..lines {
+        let line = if place == 0 {
+            format!("FRESH,{},{},{}", profile.t, profile.s, profile.r).into_bytes()
+        } else if place + 1 == lines && prng.chance(3, 4) {
+            // What went wrong in silence shows at the end.
+            b"PAGE".to_vec()
+        } else {
+            next_line(&mut prng, &profile, &engine)
+        };
+        print_line(&mut engine, &line);
+        script.extend_from_slice(&line);
+        script.push(b'\n');
+    }
+    // An empty last line would vanish with its byte 10.
+    if lines > 1 && prng.chance(1, 3) && !script.ends_with(b"\n\n") {
+        script.pop();
+    }
+    script
+}
+
+fn next_line(prng: &mut Prng, profile: &Profile, engine: &Engine) -> Vec<u8> {
+    let topic = useful_topic(prng, profile, engine);
+    match topic {
+        Topic::Edge | Topic::Spoilt => {
+            let good = good_line(prng, profile, engine);
+            if topic == Topic::Edge {
+                spoil::edge(prng, engine, &good)
+            } else {
+                spoil::spoil(prng, &good)
+            }
+        }
+        // A script should mostly keep what it has built up.
+        Topic::Fresh if prng.chance(3, 4) => b"PAGE".to_vec(),
+        _ => wish::line(prng, profile, engine, topic).into_bytes(),
+    }
+}
+
+/// Mostly a topic for which the present state has something to act on.
+fn useful_topic(prng: &mut Prng, profile: &Profile, engine: &Engine) -> Topic {
+    for _ in 0..5 {
+        let topic = profile.topic(prng);
+        if wish::useful(engine, topic) {
+            return topic;
+        }
+    }
+    profile.topic(prng)
+}
+
+/// A good line to be made a bad one.
+fn good_line(prng: &mut Prng, profile: &Profile, engine: &Engine) -> String {
+    let topic = useful_topic(prng, profile, engine);
+    match topic {
+        Topic::Edge | Topic::Spoilt => {
+            let (t, s, r) = crate::profile::sizes(prng);
+            format!("FRESH,{},{},{}", t, s, r)
+        }
+        _ => wish::line(prng, profile, engine, topic),
+    }
+}

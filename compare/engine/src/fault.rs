@@ -1,0 +1,90 @@
+//! Engines that are wrong on purpose. A comparison that cannot tell each of them from the right
+//! engine tests too little. Every fault is one small `if` where its rule stands.
+
+macro_rules! faults {
+    ($($fault:ident, $name:literal, $what:literal;)*) => {
+        #[derive(Clone, Copy, Debug, PartialEq, Eq)]
+        pub enum Fault {
+            /// The right engine.
+            None,
+            $(#[doc = $what] $fault,)*
+        }
+
+        /// Every fault but `None`.
+        pub const FAULTS: &[Fault] = &[$(Fault::$fault,)*];
+
+        impl Fault {
+            /// The name on the command line.
+            pub fn name(self) -> &'static str {
+                match self {
+                    Fault::None => "none",
+                    $(Fault::$fault => $name,)*
+                }
+            }
+
+            pub fn what(self) -> &'static str {
+                match self {
+                    Fault::None => "the right engine",
+                    $(Fault::$fault => $what,)*
+                }
+            }
+        }
+    };
+}
+
+faults! {
+    // chains and waking
+    WokenBeforeEquals, "woken-before-equals", "a woken program is put before its equals";
+    RunBeforeEquals, "run-before-equals", "a program started by RU is put before its equals";
+    PrSameKeepsEntry, "pr-same-keeps-entry", "PR to the same number changes no place";
+    PrKeepsEntry, "pr-keeps-entry", "PR moves no program behind its equals";
+    PrScheduledOnly, "pr-scheduled-only", "PR gives a new entry in the scheduled chain alone";
+    Chain3First, "chain3-first", "chain 3 is woken before chain 5";
+    ThreePasses, "three-passes", "chain 3 is woken in three passes: sons, locks, numbers";
+    OneWakes, "one-wakes", "CLEAR and FREE wake the first that waits, no more";
+    SonLeft, "son-left", "OF 8 leaves its number in the father's why";
+    EndedWakes, "ended-wakes", "a program that holds tracks wakes by its own ending";
+    WhyKept, "why-kept", "a woken program keeps its why";
+    NoneFreedWakes, "none-freed-wakes", "EXEC 5 ALL wakes chain 5 though it freed none";
+    // tracks
+    AcrossGap, "across-gap", "free tracks are added up across a gap";
+    BestFit, "best-fit", "the shortest gap is taken, not the lowest";
+    MostIsFree, "most-is-free", "a claim above T - S is not allowed";
+    HeldNotJoined, "held-not-joined", "the page shows each held track by itself";
+    OfCountsWoken, "of-counts-woken", "OF tells programs woken, not tracks freed";
+    // ending and timers
+    Exec6FreesTracks, "exec6-frees-tracks", "EXEC 6 frees the tracks";
+    Exec6DropsTimer, "exec6-drops-timer", "EXEC 6 drops the timer";
+    OfDormantRefused, "of-dormant-refused", "OF of a dormant program is refused";
+    DueLeft, "due-left", "the due of a program that is not dormant is left";
+    OnceLeft, "once-left", "a timer of interval 0 stays after its tick";
+    TickBySetting, "tick-by-setting", "TICK goes by the order of setting";
+    TickFalling, "tick-falling", "TICK goes from the highest number down";
+    // resource numbers
+    OthersLockLeft, "others-lock-left", "another's lock stays on a deallocated number";
+    OthersNumberForgotten, "others-number-forgotten", "an ended locker of another's number wakes none";
+    ClearWakesAny, "clear-wakes-any", "CLEAR wakes those that wait for any number";
+    LockOfOwnerOnly, "lock-of-owner-only", "only the owner may lock its number";
+    OwnLockWaits, "own-lock-waits", "LOCK of a number locked by the caller waits";
+    OwnerFreesLocked, "owner-frees-locked", "the owner may free a number locked by another";
+    // answers
+    LoadHighest, "load-highest", "LOAD takes the highest unused record";
+    NameBeforeNumber, "name-before-number", "PR tests the name before the number";
+    Exec7Waits, "exec7-waits", "EXEC 7 answers 1, value 6";
+    TimeWithoutCaller, "time-without-caller", "EXEC 11 needs no caller";
+    RefusedFreshResets, "refused-fresh-resets", "a refused FRESH line yields the smallest tables";
+    // the console line
+    ElevenDigits, "eleven-digits", "numbers may have eleven digits";
+    LeadingZero, "leading-zero", "numbers may have leading zeros";
+    Wraps32, "wraps-32", "numbers are read into 32 bits";
+    LowerCase, "lower-case", "small letters are taken for capitals";
+    ReturnDropped, "return-dropped", "byte 13 at the end of a line is dropped";
+    LongLineInParts, "long-line-in-parts", "a long line is answered once per 72 bytes";
+    LastLineLost, "last-line-lost", "a last line without byte 10 does not count";
+}
+
+impl Fault {
+    pub fn by_name(name: &str) -> Option<Fault> {
+        FAULTS.iter().copied().find(|fault| fault.name() == name)
+    }
+}

@@ -1,0 +1,38 @@
+//! A second, independent engine of the executive that document 01 outlines.
+//!
+//! It keeps no links. Each program record has its state, its priority and the number of its last
+//! entry into a chain, and every chain is sorted out afresh whenever one is needed. It is meant to
+//! read like document 01, so that the proved engine can be checked against it.
+//!
+//! | file | section of 01 |
+//! |---|---|
+//! | `tables` | The tables |
+//! | `answer` | Answer numbers |
+//! | `operator` | Operator requests |
+//! | `exec`, `tracks`, `numbers` | Calls of the running program |
+//! | `waking` | Ending and waking |
+//! | `page`, `line`, `sheet` | The page and the console line |
+//! | `raw`, `sound` | the tables as a caller could hand them in, and when they are sound |
+//! | `fault` | engines that are wrong on purpose, to try the comparison |
+
+pub mod answer;
+pub mod exec;
+pub mod fault;
+pub mod line;
+pub mod numbers;
+pub mod operator;
+pub mod page;
+pub mod raw;
+pub mod sheet;
+pub mod sound;
+pub mod tables;
+pub mod tracks;
+pub mod waking;
+
+pub use answer::{Answer, Outcome, Value};
+pub use fault::Fault;
+pub use line::{parse, Request};
+pub use numbers::Kind;
+pub use raw::Raw;
+pub use sheet::sheet;
+pub use tables::{Engine, Holder, Name, Number, Program, Timer, Why};

@@ -1,0 +1,59 @@
+//! 01, "The page and the console line": the program `sheet`.
+
+use crate::answer::{self, refused, Answer, Value};
+use crate::fault::Fault;
+use crate::line::{parse, Request, LONGEST_LINE};
+use crate::tables::Engine;
+
+/// Console lines in, what `sheet` prints out.
+pub fn sheet(input: &[u8], fault: Fault) -> Vec<u8> {
+    // It starts with the smallest tables.
+    let mut engine = Engine::smallest(fault);
+    let mut output = Vec::new();
+    let mut lines = lines(input);
+    if fault == Fault::LastLineLost && !input.ends_with(b"\n") {
+        lines.pop();
+    }
+    for line in lines {
+        if fault == Fault::LongLineInParts && line.len() > LONGEST_LINE {
+            for part in line.chunks(LONGEST_LINE) {
+                output.extend(print_line(&mut engine, part));
+            }
+        } else {
+            output.extend(print_line(&mut engine, line));
+        }
+    }
+    output
+}
+
+/// The lines of the input; a last one without byte 10 counts.
+pub fn lines(input: &[u8]) -> Vec<&[u8]> {
+    let mut lines: Vec<&[u8]> = input.split(|b| *b == b'\n').collect();
+    // What follows the last byte 10 is a line only if there is something.
+    if lines.last().map_or(false, |last| last.is_empty()) {
+        lines.pop();
+    }
+    lines
+}
+
+/// `answer=a,value=v`, for PAGE the page instead.
+pub fn print_line(engine: &mut Engine, line: &[u8]) -> Vec<u8> {
+    let outcome = match parse(line, engine.fault) {
+        Some(Request::Page) => return engine.page_bytes(),
+        Some(request) => engine.perform(request, &mut []),
+        None => refused(answer::NOT_UNDERSTOOD),
+    };
+    print_answer(Answer::of(outcome)).into_bytes()
+}
+
+/// Time is printed as `day.hour.minute.second.hundredth`.
+fn print_answer(answer: Answer) -> String {
+    let value = match answer.value {
+        Value::Number(number) => number.to_string(),
+        Value::Time(parts) => {
+            let parts: Vec<String> = parts.iter().map(|part| part.to_string()).collect();
+            parts.join(".")
+        }
+    };
+    format!("answer={},value={}\n", answer.number, value)
+}

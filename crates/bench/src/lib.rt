@@ -1,0 +1,1 @@
+// No code: the bench sheet, computed through the definitions.

@@ -1,0 +1,46 @@
+-- What the program `sheet` prints for a text (01, "The page and the console line").
+-- Assumes nothing.
+use Prim.Native.Nat.{ℕ}
+use mathlib.Core.Bool.{Bool, true, false, cond, _&&_}
+use mathlib.Core.List.{List, [], _∷_, _++_, map}
+use lib.ListN.{length, take, replicate}
+use lib.Dec.{eqb}
+use Rattle.text.specs.Text.{text, decimal, between, parts}
+use Rattle.tables.specs.declared.Tables.{Tables}
+use Rattle.tables.specs.Tables.{plain, smallest}
+use Rattle.page.specs.Page.{page}
+use Rattle.page.specs.Paging.{Written}
+use Rattle.console.specs.Line.{Line, bad, PAGE, asks, lineOf}
+use Rattle.console.specs.Console.{keyed}
+
+-- the buffer that `sheet` lends: no page is longer
+abbrev pub lent : List ℕ
+lent = replicate 8192 0
+
+-- `answer=a,value=v`, the parts of a time joined by dots
+unfoldable pub answerLine : Written → List ℕ
+answerLine r = text "answer=" ++ decimal (r .number) ++ text ",value=" ++ between 46 (map decimal (r .values)) ++ (10 ∷ [])
+
+-- for PAGE the page instead
+abbrev pub shown : Line → Tables → Written → List ℕ
+shown bad t r = answerLine r
+shown PAGE t r = cond (eqb (r .number) 0) (page (plain t)) (answerLine r)
+shown (asks q) t r = answerLine r
+
+-- the lines of a text: a last one without byte 10 counts
+abbrev pub dropEmpty : List (List ℕ) → List (List ℕ)
+dropEmpty [] = []
+dropEmpty ([] ∷ []) = []
+dropEmpty ((x ∷ xs) ∷ []) = (x ∷ xs) ∷ []
+dropEmpty (l ∷ m ∷ ls) = l ∷ dropEmpty (m ∷ ls)
+
+unfoldable pub linesOf : List ℕ → List (List ℕ)
+linesOf s = dropEmpty (parts 10 s)
+
+-- line after line, the tables handed on
+unfoldable pub printed : Tables → List (List ℕ) → List ℕ
+printed t [] = []
+printed t (l ∷ ls) = let r : Written = keyed t l lent in shown (lineOf l) t r ++ printed (r .tables) ls
+
+unfoldable pub sheet : List ℕ → List ℕ
+sheet s = printed smallest (linesOf s)

@@ -1,0 +1,1 @@
+// No code: runs of calls, and what holds of them.

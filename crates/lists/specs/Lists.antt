@@ -1,0 +1,72 @@
+-- Lists, as the definitions of the other crates use them: how often a number stands in one, those that pass a test, the first that does. Nothing of the outline stands here.
+-- Assumes nothing.
+use Prim.Native.Nat.{ℕ, zero, suc, _+_, _≤_, _<_}
+use mathlib.Core.Bool.{Bool, true, false, cond, not, _&&_, _||_}
+use mathlib.Core.List.{List, [], _∷_, _++_}
+use lib.Dec.{leb, eqb}
+
+abbrev pub hit : Bool → ℕ
+hit true = 1
+hit false = 0
+
+-- 1 where the two are the same, and 0 where not
+unfoldable pub same : ℕ → ℕ → ℕ
+same i j = hit (eqb i j)
+
+-- how often p stands in a list
+abbrev pub count : ℕ → List ℕ → ℕ
+count p [] = 0
+count p (q ∷ qs) = same p q + count p qs
+
+-- those that pass a test; the first of them, or 0
+abbrev pub keep : (ℕ → Bool) → List ℕ → List ℕ
+keep f [] = []
+keep f (q ∷ qs) = cond (f q) (q ∷ keep f qs) (keep f qs)
+
+abbrev pub first : (ℕ → Bool) → List ℕ → ℕ
+first f [] = 0
+first f (q ∷ qs) = cond (f q) q (first f qs)
+
+-- all pass a test; one does
+abbrev pub every : (ℕ → Bool) → List ℕ → Bool
+every f [] = true
+every f (q ∷ qs) = f q && every f qs
+
+abbrev pub any : (ℕ → Bool) → List ℕ → Bool
+any f [] = false
+any f (q ∷ qs) = f q || any f qs
+
+-- n numbers from p up
+abbrev pub from : ℕ → ℕ → List ℕ
+from p zero = []
+from p (suc n) = p ∷ from (suc p) n
+
+-- low ≤ n ≤ high
+abbrev pub upTo : ℕ → ℕ → ℕ → Bool
+upTo low high n = leb low n && leb n high
+
+-- two lists of numbers are one
+abbrev pub alike : List ℕ → List ℕ → Bool
+alike [] [] = true
+alike [] (y ∷ ys) = false
+alike (x ∷ xs) [] = false
+alike (x ∷ xs) (y ∷ ys) = eqb x y && alike xs ys
+
+-- lists one after the other
+abbrev pub join : {A : Type 0} → List (List A) → List A
+join [] = []
+join (x ∷ xs) = x ++ join xs
+
+-- p goes behind all that come no later than it: those of a lower number and its equals
+abbrev pub insert : (ℕ → ℕ) → ℕ → List ℕ → List ℕ
+insert pr p [] = p ∷ []
+insert pr p (q ∷ qs) = cond (leb (pr q) (pr p)) (q ∷ insert pr p qs) (p ∷ q ∷ qs)
+
+abbrev pub remove : ℕ → List ℕ → List ℕ
+remove p [] = []
+remove p (q ∷ qs) = cond (eqb q p) qs (q ∷ remove p qs)
+
+-- each comes before all that stand behind it
+abbrev pub Ascending : (ℕ → ℕ → Type 0) → List ℕ → Type 0
+Ascending R [] = Unit {0}
+Ascending R (q ∷ qs) = ((r : ℕ) → 1 ≤ count r qs → R q r) × Ascending R qs

@@ -1,0 +1,1 @@
+// The page. Its bytes are a definition of specs/; the writer follows.

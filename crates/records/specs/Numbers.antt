@@ -1,0 +1,29 @@
+-- Resource numbers 1 to R: free, or owned by a program or globally; an owned one is clear or locked by one program (01, "The tables").
+-- Assumes nothing.
+use Prim.Native.Nat.{ℕ, _-_}
+use mathlib.Core.Bool.{Bool, true, false, cond, _||_}
+use mathlib.Core.List.{List, [], _∷_}
+use lib.ListN.{getD, set}
+use lib.Dec.{eqb}
+use Rattle.records.specs.declared.Resource.{Resource}
+
+-- the owner of a number that is owned globally; 0 is no owner, and no lock
+abbrev pub globally : ℕ
+globally = 33
+
+abbrev pub free : Resource
+free = record { owner = 0; lock = 0 }
+
+-- number r, and the table with another in its place
+abbrev pub numberAt : List Resource → ℕ → Resource
+numberAt xs r = getD xs (r - 1) free
+
+abbrev pub withNumber : ℕ → ℕ → ℕ → List Resource → List Resource
+withNumber r o l xs = set xs (r - 1) (record { owner = o; lock = l })
+
+-- a number that p owns or locks, and what is left of it when p ends (01, "Ending and waking")
+abbrev pub concerns : ℕ → Resource → Bool
+concerns p x = eqb (x .owner) p || eqb (x .lock) p
+
+abbrev pub without : ℕ → Resource → Resource
+without p x = cond (eqb (x .owner) p) free (cond (eqb (x .lock) p) (record { owner = x .owner; lock = 0 }) x)

@@ -1,0 +1,56 @@
+-- Program records, numbered 1 to 32 (01, "The tables").
+-- Assumes nothing.
+use Prim.Native.Nat.{ℕ, _-_, _≤_}
+use mathlib.Core.Bool.{Bool, true, false, not, _&&_}
+use mathlib.Core.List.{List, [], _∷_}
+use lib.ListN.{getD, replicate}
+use lib.Dec.{leb}
+use Rattle.lists.specs.Lists.{from, first, alike, upTo}
+use Rattle.records.specs.declared.Program.{Program}
+use Rattle.records.specs.declared.Why.{Why}
+use Rattle.records.specs.declared.Why.the-variants.{Nothing}
+
+-- the programs' numbers
+abbrev pub Known : ℕ → Type 0
+Known p = (1 ≤ p) × (p ≤ 32)
+
+abbrev pub known : ℕ → Bool
+known p = upTo 1 32 p
+
+unfoldable pub all : List ℕ
+all = from 1 32
+
+-- what an index past the records gives: no rule asks for it
+abbrev pub missing : Program
+missing = record { used = false; name = []; priority = 0; state = 0; why = Nothing; due = 0; interval = 0 }
+
+-- an unused record holds zeros
+abbrev pub unused : Program
+unused = record { used = false; name = replicate 5 0; priority = 0; state = 0; why = Nothing; due = 0; interval = 0 }
+
+-- a program just loaded: dormant, without a why or a timer
+abbrev pub newcomer : List ℕ → ℕ → Program
+newcomer nm n = record { used = true; name = nm; priority = n; state = 0; why = Nothing; due = 0; interval = 0 }
+
+-- a record with another state and why, another priority, another timer
+abbrev pub inState : ℕ → Why → Program → Program
+inState s w r = record { used = r .used; name = r .name; priority = r .priority; state = s; why = w; due = r .due; interval = r .interval }
+
+abbrev pub withPriority : ℕ → Program → Program
+withPriority n r = record { used = r .used; name = r .name; priority = n; state = r .state; why = r .why; due = r .due; interval = r .interval }
+
+abbrev pub withTimer : ℕ → ℕ → Program → Program
+withTimer d i r = record { used = r .used; name = r .name; priority = r .priority; state = r .state; why = r .why; due = d; interval = i }
+
+-- the record of program p
+abbrev pub recordAt : List Program → ℕ → Program
+recordAt ps p = getD ps (p - 1) missing
+
+-- the program of that name, or 0; the lowest unused record, or 0
+unfoldable pub find : List Program → List ℕ → ℕ
+unfolding all
+find ps nm = first (λ p. recordAt ps p .used && alike (recordAt ps p .name) nm) all
+
+unfoldable pub lowestUnused : List Program → ℕ
+unfolding all
+lowestUnused ps = first (λ p. not (recordAt ps p .used)) all

@@ -1,0 +1,60 @@
+-- Laws of the programs' numbers and of the records at them: a record that is put stands at its place and leaves the others.
+-- Assumes nothing.
+use Prim.Native.Nat.{ℕ, zero, suc, _+_, _-_, _≤_, _<_}
+use native.Mathlib.Omega.{arith}
+use native.Mathlib.Decide.{ℕ-discrete}
+use mathlib.Core.Path.{_≡_, refl, sym, ap, _∙_}
+use mathlib.Core.Logic.{_≢_}
+use mathlib.Core.Bool.{Bool, true, false, cond, _&&_}
+use mathlib.Core.List.{List, [], _∷_}
+use lib.ListN.{length, getD, set, length-set, replicate}
+use lib.Seq.{getD-set-same, getD-set-other}
+use lib.Dec.{leb}
+use borrow.Author.Tests.{leb-true, le-leb}
+use Rattle.lists.specs.Lists.{count, from}
+use Rattle.lists.proofs.Laws.{count-from, from-in, from-once}
+use Rattle.records.specs.declared.Program.{Program}
+use Rattle.records.specs.Records.{Known, known, all, missing, unused}
+use Rattle.rules.specs.Book.{Book, at, stateOf, prioOf, put}
+
+-- the test and the fact
+pub known-true : (p : ℕ) → known p ≡ true → Known p
+known-true p = go (leb 1 p) (leb p 32) refl refl
+  where
+    go : (x y : Bool) → leb 1 p ≡ x → leb p 32 ≡ y → (x && y) ≡ true → Known p
+    go true true h k e = (leb-true 1 p h, leb-true p 32 k)
+    go true false h k e = let o : _≡_ {A = ℕ} 0 1 = cc in omega arith
+    go false y h k e = let o : _≡_ {A = ℕ} 0 1 = cc in omega arith
+
+pub known-is : (p : ℕ) → Known p → known p ≡ true
+known-is p P = rw (le-leb 1 p (P .0), le-leb p 32 (P .1))
+
+-- each of the programs' numbers stands once among them all
+pub all-one : (z : ℕ) → Known z → count z all ≡ 1
+unfolding all
+all-one z Z = count-from z 1 32 (Z .0) (omega arith)
+
+pub all-once : (z : ℕ) → count z all ≤ 1
+unfolding all
+all-once z = from-once z 1 32
+
+pub all-in : (z : ℕ) → 1 ≤ count z all → Known z
+unfolding all
+all-in z h = let k = from-in z 1 32 h in (k .0, omega arith)
+
+-- the record at p, and those at other places
+module _ (b : Book) (L : length (b .programs) ≡ 32) (p : ℕ) (P : Known p) (r : Program) where
+  pub at-same : at (put p r b) p ≡ r
+  at-same = getD-set-same (b .programs) (p - 1) r missing (omega arith)
+
+pub at-other : (b : Book) (p : ℕ) → Known p → (r : Program) (z : ℕ) → Known z → z ≢ p → at (put p r b) z ≡ at b z
+at-other b p P r z Z n = getD-set-other (b .programs) (p - 1) (z - 1) r missing (λ e. n (omega arith))
+
+pub put-long : (b : Book) (p : ℕ) (r : Program) → length (b .programs) ≡ 32 → length (put p r b .programs) ≡ 32
+put-long b p r L = length-set (b .programs) (p - 1) r ∙ L
+
+-- fresh records are unused
+pub unused-all : (n i : ℕ) → i < n → getD (replicate n unused) i missing ≡ unused
+unused-all zero i h = absurd (omega arith)
+unused-all (suc n) zero h = refl
+unused-all (suc n) (suc i) h = unused-all n i (omega arith)

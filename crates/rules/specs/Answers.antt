@@ -1,0 +1,43 @@
+-- The outline's number and values for each case of an answer (01, "Answer numbers").
+-- Assumes nothing.
+use Prim.Native.Nat.{ℕ}
+use mathlib.Core.List.{List, [], _∷_}
+use Rattle.rules.specs.declared.Answer.{Answer}
+use Rattle.rules.specs.declared.Answer.the-variants.{Done, Told, Waits, NoCaller, NotAllowed, NoProgram, WrongState, NameInUse, AllUsed, NoRoom, NotHolder, NotAllocated, AtCeiling, TooShort, NotUnderstood, NotSound}
+
+abbrev pub number : Answer → ℕ
+number (Done v) = 0
+number (Told t) = 0
+number (Waits s) = 1
+number NoCaller = 2
+number NotAllowed = 3
+number NoProgram = 4
+number (WrongState s) = 5
+number NameInUse = 6
+number AllUsed = 7
+number NoRoom = 8
+number NotHolder = 9
+number NotAllocated = 10
+number AtCeiling = 11
+number (TooShort n) = 12
+number NotUnderstood = 13
+number NotSound = 14
+
+-- one value, or the five parts of the time
+abbrev pub values : Answer → List ℕ
+values (Done v) = v ∷ []
+values (Told t) = t .day ∷ t .hour ∷ t .minute ∷ t .second ∷ t .hundredth ∷ []
+values (Waits s) = s ∷ []
+values NoCaller = 0 ∷ []
+values NotAllowed = 0 ∷ []
+values NoProgram = 0 ∷ []
+values (WrongState s) = s ∷ []
+values NameInUse = 0 ∷ []
+values AllUsed = 0 ∷ []
+values NoRoom = 0 ∷ []
+values NotHolder = 0 ∷ []
+values NotAllocated = 0 ∷ []
+values AtCeiling = 0 ∷ []
+values (TooShort n) = n ∷ []
+values NotUnderstood = 0 ∷ []
+values NotSound = 0 ∷ []

@@ -1,0 +1,10 @@
+pub mod Answers
+pub mod Book
+pub mod Requests
+pub mod Plans
+pub mod Rules
+pub mod Keeper
+pub mod Sound
+pub mod Test
+pub mod Replay
+pub mod Frame

@@ -1,0 +1,198 @@
+-- The outline's rules, each once, its tests in the order 2, 3, 4, 6, 7, 10, 9, 5, 8, 11 (01, "Answer numbers"). 14, 13 and 12 are tested where the tables, the line and the buffer are.
+-- Assumes nothing.
+use Prim.Native.Nat.{ℕ, zero, suc, _+_, _-_, _*_}
+use mathlib.Core.Bool.{Bool, true, false, cond, not, _&&_, _||_}
+use mathlib.Core.List.{List, [], _∷_, _++_, map}
+use lib.ListN.{length, drop}
+use lib.Dec.{leb, ltb, eqb}
+use Rattle.lists.specs.Lists.{count, keep, first, any, from, upTo, remove}
+use Rattle.clock.specs.Clock.{ceiling, unit, timeOf}
+use Rattle.records.specs.declared.Resource.{Resource}
+use Rattle.records.specs.declared.Why.{Why}
+use Rattle.records.specs.declared.Why.the-variants.{Nothing, Tracks, Son, Lock, Number}
+use Rattle.records.specs.Names.{legal}
+use Rattle.records.specs.Records.{all, find, lowestUnused}
+use Rattle.records.specs.Numbers.{globally, numberAt, withNumber, concerns, without}
+use Rattle.tracks.specs.Tracks.{nobody, everybody, run, lowest, filled, replaced}
+use Rattle.rules.specs.Book.{Book, at, stateOf, prioOf, whyOf}
+use Rattle.rules.specs.Requests.{Order, RU, SS, GO, PR, OF, Call, EXEC4, EXEC15, EXEC5, EXEC16, EXEC5ALL, EXEC6, EXEC7, EXEC11, EXEC9, EXEC10, EXEC12, ALLOC, LOCK, CLEAR, FREE, Request, FRESH, LOAD, operator, TICK, running}
+use Rattle.rules.specs.Plans.{Deed, becomes, priced, loaded, unloaded, timed, Event, on, clocked, held, numbered, renewed, Plan, refused, done, waiting, View, need, either, found}
+
+-- the program of that name: 3 where the name is not legal, 4 where there is none
+unfoldable pub named : View → List ℕ → (ℕ → Plan) → Plan
+named v nm f = need (legal nm) 3 0 (need (ltb 0 (find (v .book .programs) nm)) 4 0 (f (find (v .book .programs) nm)))
+
+-- 5, with its state, where p is not in state s
+unfoldable pub inside : View → ℕ → ℕ → Plan → Plan
+inside v p s x = need (eqb (stateOf (v .book) p) s) 5 (stateOf (v .book) p) x
+
+-- the caller waits in state s for a reason, or is told 8
+unfoldable pub waits : ℕ → ℕ → ℕ → Why → Plan
+waits c w s y = either (eqb w 0) (waiting s (on c (becomes s y) ∷ [])) (refused 8 0)
+
+-- What a call sets free (01, "Ending and waking"): the program that ended, or 0; how many tracks; which numbers were cleared or deallocated; whether one was deallocated.
+pub record Release : Type 0 where
+  pub ended : ℕ
+  pub tracks : ℕ
+  pub cleared : ℕ → Bool
+  pub dealt : Bool
+
+-- the reason to wait in chain 3 is gone
+abbrev pub awaits : Release → Why → Bool
+awaits R Nothing = false
+awaits R (Tracks n) = false
+awaits R (Son k) = ltb 0 k && eqb k (R .ended)
+awaits R (Lock r) = R .cleared r
+awaits R Number = R .dealt
+
+-- all of chain 5 if a track was freed, then those of chain 3 whose reason is gone, each in chain order; the one that ended has left its chain
+unfoldable pub woken : View → Release → List ℕ
+woken v R =
+    cond (ltb 0 (R .tracks)) (remove (R .ended) (v .disc)) []
+    ++ keep (λ q. awaits R (whyOf (v .book) q)) (remove (R .ended) (v .general))
+
+-- the woken enter the scheduled chain one by one
+abbrev pub wake : List ℕ → List Event
+wake [] = []
+wake (q ∷ qs) = on q (becomes 1 Nothing) ∷ wake qs
+
+-- what tracks given back, a number cleared or deallocated, and the ending of p set free
+unfoldable pub frees : ℕ → Release
+frees n = record { ended = 0; tracks = n; cleared = λ r. false; dealt = false }
+
+unfoldable pub clears : ℕ → Bool → Release
+clears r d = record { ended = 0; tracks = 0; cleared = eqb r; dealt = d }
+
+unfoldable pub ends : View → ℕ → ℕ → Release
+ends v p n = record {
+  ended = p;
+  tracks = n;
+  cleared = λ r. concerns p (numberAt (v .book .resources) r);
+  dealt = any (λ r. eqb (numberAt (v .book .resources) r .owner) p) (from 1 (v .book .numbers));
+}
+
+-- the rest of an ending: p's numbers are deallocated and its locks cleared, and the woken wake
+abbrev pub settle : View → ℕ → Release → List Event
+settle v p R = numbered (map (without p) (v .book .resources)) ∷ wake (woken v R)
+
+-- OF 8 makes the record unused; OF 1 makes the program dormant without a timer
+abbrev pub dismissed : ℕ → ℕ → List Event
+dismissed k p = cond (eqb k 8) (on p unloaded ∷ []) (on p (becomes 0 Nothing) ∷ on p (timed 0 0) ∷ [])
+
+-- the figure of an order is allowed (01, "Operator requests")
+abbrev pub allowed : Order → Bool
+allowed RU = true
+allowed SS = true
+allowed GO = true
+allowed (PR n) = upTo 1 32767 n
+allowed (OF k) = eqb k 1 || eqb k 8
+
+-- what the operator asks of program p
+unfoldable pub order : View → Order → ℕ → Plan
+order v RU p = inside v p 0 (done (0 ∷ []) (on p (becomes 1 Nothing) ∷ []))
+order v SS p = inside v p 1 (done (0 ∷ []) (on p (becomes 6 Nothing) ∷ []))
+order v GO p = inside v p 6 (done (0 ∷ []) (on p (becomes 1 Nothing) ∷ []))
+order v (PR n) p = done (prioOf (v .book) p ∷ []) (on p (priced n) ∷ [])
+order v (OF k) p =
+    let n = count p (v .book .holders) in
+    done (n ∷ []) (dismissed k p ++ (held (replaced p nobody (v .book .holders)) ∷ settle v p (ends v p n)))
+
+-- a timer is due at the tick that follows; it moves on by its interval, or goes; a dormant program is scheduled
+unfoldable pub dueAt : Book → ℕ → Bool
+dueAt b p = eqb (at b p .due) (b .clock + 1)
+
+abbrev pub ticked : Book → ℕ → List Event
+ticked b p =
+    on p (timed (cond (eqb (at b p .interval) 0) 0 (at b p .due + at b p .interval)) (at b p .interval))
+    ∷ cond (eqb (stateOf b p) 0) (on p (becomes 1 Nothing) ∷ []) []
+
+abbrev pub each : (ℕ → List Event) → List ℕ → List Event
+each f [] = []
+each f (p ∷ ps) = f p ++ each f ps
+
+-- EXEC 4 and 15: the lowest run of n free tracks becomes h's
+unfoldable pub takes : View → ℕ → ℕ → ℕ → ℕ → Plan
+takes v c h n w =
+    need (upTo 1 (v .book .tracks) n && leb w 1) 3 0
+    (found (lowest n 0 (v .book .holders))
+    (λ i. done (i ∷ []) (held (filled i n h (v .book .holders)) ∷ []))
+    (waits c w 5 (Tracks n)))
+
+-- EXEC 5 and 16: n tracks from start on, each of them h's, are given back
+unfoldable pub gives : View → ℕ → ℕ → ℕ → Plan
+gives v h n start =
+    need (leb 1 n && leb (start + n) (v .book .tracks)) 3 0
+    (need (run h n (drop start (v .book .holders))) 9 0
+    (done (n ∷ []) (held (filled start n nobody (v .book .holders)) ∷ wake (woken v (frees n)))))
+
+-- number r: 3 where it is none of ours, 10 where it is not allocated
+unfoldable pub allocated : View → ℕ → (Resource → Plan) → Plan
+allocated v r f =
+    need (upTo 1 (v .book .numbers) r) 3 0
+    (need (ltb 0 (numberAt (v .book .resources) r .owner)) 10 0 (f (numberAt (v .book .resources) r)))
+
+abbrev pub number : View → ℕ → ℕ → ℕ → Event
+number v r o l = numbered (withNumber r o l (v .book .resources))
+
+-- what the running program c asks (01, "Calls of the running program")
+unfoldable pub call : View → ℕ → Call → Plan
+call v c (EXEC4 n w) = takes v c c n w
+call v c (EXEC15 n w) = takes v c everybody n w
+call v c (EXEC5 n start) = gives v c n start
+call v c (EXEC16 n start) = gives v everybody n start
+call v c EXEC5ALL =
+    let n = count c (v .book .holders) in
+    done (n ∷ []) (held (replaced c nobody (v .book .holders)) ∷ wake (woken v (frees n)))
+call v c EXEC6 = done (length (woken v (ends v c 0)) ∷ []) (on c (becomes 0 Nothing) ∷ settle v c (ends v c 0))
+call v c EXEC7 = done (0 ∷ []) (on c (becomes 6 Nothing) ∷ [])
+call v c EXEC11 = done (timeOf (v .book .clock)) []
+call v c (EXEC9 nm) = named v nm λ p. inside v p 0 (waiting 3 (on p (becomes 1 Nothing) ∷ on c (becomes 3 (Son p)) ∷ []))
+call v c (EXEC10 nm) = named v nm λ p. inside v p 0 (done (p ∷ []) (on p (becomes 1 Nothing) ∷ []))
+call v c (EXEC12 nm res mult off) =
+    need (upTo 1 4 res && leb mult 4095 && upTo 1 4095 off) 3 0 (named v nm λ p.
+    let due = v .book .clock + off * unit res in
+    done (due ∷ []) (on p (timed due (mult * unit res)) ∷ []))
+call v c (ALLOC g w) =
+    need (leb w 1) 3 0
+    (let r = first (λ r. eqb (numberAt (v .book .resources) r .owner) 0) (from 1 (v .book .numbers)) in
+    either (ltb 0 r) (done (r ∷ []) (number v r (cond g globally c) 0 ∷ [])) (waits c w 3 Number))
+call v c (LOCK r w) =
+    need (leb w 1) 3 0 (allocated v r λ x.
+    either (eqb (x .lock) c) (done (r ∷ []) [])
+    (either (eqb (x .lock) 0) (done (r ∷ []) (number v r (x .owner) c ∷ [])) (waits c w 3 (Lock r))))
+call v c (CLEAR r) =
+    allocated v r λ x.
+    either (eqb (x .lock) 0) (done (0 ∷ []) [])
+    (need (eqb (x .lock) c) 9 0
+    (done (length (woken v (clears r false)) ∷ []) (number v r (x .owner) 0 ∷ wake (woken v (clears r false)))))
+call v c (FREE r) =
+    allocated v r λ x.
+    need ((eqb (x .owner) c || eqb (x .owner) globally) && (eqb (x .lock) c || eqb (x .lock) 0)) 9 0
+    (done (length (woken v (clears r true)) ∷ []) (number v r 0 0 ∷ wake (woken v (clears r true))))
+
+-- the caller is the head of the scheduled chain: 2 where that is empty
+abbrev pub head : List ℕ → ℕ
+head [] = 0
+head (p ∷ ps) = p
+
+unfoldable pub asCaller : List ℕ → (ℕ → Plan) → Plan
+asCaller scheduled f = need (ltb 0 (head scheduled)) 2 0 (f (head scheduled))
+
+-- T from 1 to 256, S from 0 to T, R from 0 to 16 (01, "The tables")
+abbrev pub sizes : ℕ → ℕ → ℕ → Bool
+sizes T S R = upTo 1 256 T && leb S T && leb R 16
+
+-- a request, by what a rule sees and the scheduled chain
+unfoldable pub plan : View → List ℕ → Request → Plan
+plan v scheduled (FRESH T S R) = need (sizes T S R) 3 0 (done (0 ∷ []) (renewed T S R ∷ []))
+plan v scheduled (LOAD nm n) =
+    need (legal nm && leb n 32767) 3 0
+    (need (eqb (find (v .book .programs) nm) 0) 6 0
+    (need (ltb 0 (lowestUnused (v .book .programs))) 7 0
+    (done (lowestUnused (v .book .programs) ∷ []) (on (lowestUnused (v .book .programs)) (loaded nm n) ∷ []))))
+plan v scheduled (operator o nm) = need (allowed o) 3 0 (named v nm (order v o))
+plan v scheduled TICK =
+    need (ltb (v .book .clock) ceiling) 11 0
+    (done (length (keep (λ p. dueAt (v .book) p && eqb (stateOf (v .book) p) 0) all) ∷ [])
+    (clocked (v .book .clock + 1) ∷ each (ticked (v .book)) (keep (dueAt (v .book)) all)))
+plan v scheduled (running c) = asCaller scheduled (λ p. call v p c)

@@ -1,0 +1,43 @@
+-- Tracks, as a list of who holds each, from track 0 on (01, "The tables", and EXEC 4, 5, 15 and 16).
+-- Assumes nothing.
+use Prim.Native.Nat.{ℕ, zero, suc, _+_}
+use mathlib.Core.Bool.{Bool, true, false, cond}
+use mathlib.Core.List.{List, [], _∷_}
+use mathlib.Core.Option.{Option, none, some}
+use lib.ListN.{set, take}
+use lib.Dec.{eqb}
+use Rattle.tracks.specs.declared.Tracks.{Tracks}
+
+-- a holder is 0 where the track is free, a program's number, or one of these
+abbrev pub nobody : ℕ
+nobody = 0
+
+abbrev pub everybody : ℕ
+everybody = 33
+
+abbrev pub system : ℕ
+system = 34
+
+-- who holds tracks 0 to T - 1
+abbrev pub holders : Tracks → List ℕ
+holders t = take (t .count) (t .holders)
+
+-- the first n are all h's
+abbrev pub run : ℕ → ℕ → List ℕ → Bool
+run h zero xs = true
+run h (suc n) [] = false
+run h (suc n) (x ∷ xs) = elim (eqb x h) [ true ↦ run h n xs | false ↦ false ]
+
+-- where the lowest run of n free tracks begins, if the first track is i
+abbrev pub lowest : ℕ → ℕ → List ℕ → Option ℕ
+lowest n i [] = none
+lowest n i (x ∷ xs) = elim (run nobody n (x ∷ xs)) [ true ↦ some i | false ↦ lowest n (suc i) xs ]
+
+-- n tracks from start on become h's; and all that p holds
+abbrev pub filled : ℕ → ℕ → ℕ → List ℕ → List ℕ
+filled start zero h xs = xs
+filled start (suc n) h xs = set (filled start n h xs) (start + n) h
+
+abbrev pub replaced : ℕ → ℕ → List ℕ → List ℕ
+replaced p h [] = []
+replaced p h (x ∷ xs) = cond (eqb x p) h x ∷ replaced p h xs
