@@ -8,3 +8,4 @@ pub mod Sound
 pub mod Test
 pub mod Replay
 pub mod Frame
+pub mod Counts

@@ -1,10 +1,11 @@
 -- Tracks, as a list of who holds each, from track 0 on (01, "The tables", and EXEC 4, 5, 15 and 16).
 -- Assumes nothing.
-use Prim.Native.Nat.{ℕ, zero, suc, _+_}
+use Prim.Native.Nat.{ℕ, zero, suc, _+_, _≤_, _<_}
+use mathlib.Core.Path.{_≡_}
 use mathlib.Core.Bool.{Bool, true, false, cond}
 use mathlib.Core.List.{List, [], _∷_}
 use mathlib.Core.Option.{Option, none, some}
-use lib.ListN.{set, take}
+use lib.ListN.{length, getD, set, take}
 use lib.Dec.{eqb}
 use Rattle.tracks.specs.declared.Tracks.{Tracks}
 
@@ -41,3 +42,13 @@ filled start (suc n) h xs = set (filled start n h xs) (start + n) h
 abbrev pub replaced : ℕ → ℕ → List ℕ → List ℕ
 replaced p h [] = []
 replaced p h (x ∷ xs) = cond (eqb x p) h x ∷ replaced p h xs
+
+-- n free tracks stand from i on (demand 2)
+pub record FreeRun (xs : List ℕ) (i n : ℕ) : Type 0 where
+  pub within : i + n ≤ length xs
+  pub free : (k : ℕ) → k < n → getD xs (i + k) nobody ≡ nobody
+
+-- the lowest of them begins at i
+pub record LowestRun (xs : List ℕ) (i n : ℕ) : Type 0 where
+  pub there : FreeRun xs i n
+  pub least : (j : ℕ) → FreeRun xs j n → i ≤ j
