@@ -21,7 +21,10 @@ fn runs(engine: &Engine, holder: Holder) -> Vec<(u64, u64)> {
 }
 
 /// How many tracks to claim: often the longest gap, one more, or all that is free.
-pub fn count(prng: &mut Prng, engine: &Engine) -> u64 {
+pub fn count(prng: &mut Prng, engine: &Engine, gaps_wanted: bool) -> u64 {
+    if gaps_wanted && prng.chance(2, 3) {
+        return prng.between(1, 2);
+    }
     let gaps = runs(engine, Holder::Free);
     let longest = gaps.iter().map(|(_, length)| *length).max().unwrap_or(0);
     let total: u64 = gaps.iter().map(|(_, length)| *length).sum();
@@ -45,12 +48,15 @@ pub fn w(prng: &mut Prng) -> u64 {
 }
 
 /// n and start: a part of a run of this holder, now and then one track too many.
-pub fn part(prng: &mut Prng, engine: &Engine, holder: Holder) -> (u64, u64) {
+pub fn part(prng: &mut Prng, engine: &Engine, holder: Holder, gaps_wanted: bool) -> (u64, u64) {
     let held = runs(engine, holder);
     if held.is_empty() || prng.chance(1, 12) {
         return (prng.between(1, 2), prng.below(engine.t() + 1));
     }
     let (first, length) = prng.pick(&held);
+    if gaps_wanted && prng.chance(3, 4) {
+        return (1, first + prng.below(length));
+    }
     let start = first + if prng.chance(1, 2) { 0 } else { prng.below(length) };
     let rest = first + length - start;
     let n = if prng.chance(1, 2) { rest } else { prng.between(1, rest) };

@@ -1,5 +1,6 @@
 //! Batches of scripts run through both sides, and the first script that shows a difference.
 
+use crate::corners::corners;
 use crate::other::Other;
 use crate::script::generate;
 use crate::shrink::shrink;
@@ -46,20 +47,13 @@ pub fn begins_fresh(input: &[u8]) -> bool {
     }
 }
 
-/// Runs the fixed inputs, then the scripts of all seeds in batches that grow from one line.
+/// Runs the scripts of all seeds in batches that grow from one script, then the fixed inputs.
 pub fn run(
     other: &Other,
     seeds: Range<u64>,
     lines: usize,
     count: &mut Count,
 ) -> Result<Option<Failure>, String> {
-    for input in corners() {
-        count.runs += 1;
-        if differs(other, &input)? {
-            let origin = String::from("a fixed input");
-            return Ok(Some(Failure { input, fresh: false, origin }));
-        }
-    }
     let mut most = 1;
     let mut next = seeds.start;
     while next < seeds.end {
@@ -71,35 +65,18 @@ pub fn run(
         next = batch.end;
         most = (most * 10).min(MOST_LINES);
     }
-    Ok(None)
+    run_corners(other, count)
 }
 
-/// Inputs that do not begin with FRESH: what `sheet` does before it, and how input can end.
-pub fn corners() -> Vec<Vec<u8>> {
-    let mut inputs: Vec<Vec<u8>> = [
-        "",
-        "\n",
-        "\n\n",
-        "PAGE",
-        "PAGE\n",
-        "\nPAGE\n\n",
-        "FRESH,0,0,0\nPAGE\n",
-        "LOAD,A,1\nRU,A\nEXEC,15,1,0\nEXEC,4,1,0\nPAGE\nEXEC,11",
-        "RN,ALLOC,L,0\nLOAD,L,0\nRU,L\nRN,ALLOC,L,0\nFRESH,257,0,0\nPAGE\n",
-        "FRESH,4,1,1\nLOAD,WHZAT,10\nRU,WHZAT\nEXEC,4,2,0\nPAGE\n",
-    ]
-    .iter()
-    .map(|text| text.as_bytes().to_vec())
-    .collect();
-    // Every byte as a line of its own, and as the last byte of a name.
-    let mut bytes = Vec::new();
-    for byte in 0..=255 {
-        bytes.extend_from_slice(&[byte, b'\n']);
-        bytes.extend_from_slice(&[b"LOAD,A", &[byte][..], b",1\n"].concat());
+fn run_corners(other: &Other, count: &mut Count) -> Result<Option<Failure>, String> {
+    for input in corners() {
+        count.runs += 1;
+        if differs(other, &input)? {
+            let origin = String::from("a fixed input");
+            return Ok(Some(Failure { input, fresh: false, origin }));
+        }
     }
-    bytes.extend_from_slice(b"PAGE\n");
-    inputs.push(bytes);
-    inputs
+    Ok(None)
 }
 
 /// A batch of scripts in one input; each but the last is ended by byte 10.

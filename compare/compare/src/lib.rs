@@ -7,13 +7,18 @@
 //! | `wish` | lines that mean something in the present state |
 //! | `claims` | the numbers of such lines: tracks, resource numbers, timers |
 //! | `spoil` | lines that are nearly right, and lines that are not |
+//! | `tangle` | an opening in which many wait for one program |
 //! | `script` | a whole script from a seed |
+//! | `corners` | fixed inputs |
+//! | `damage` | tables that are not sound |
 //! | `other` | the program, or the mutant, that is compared |
 //! | `differ` | batches of scripts, and the first difference |
 //! | `shrink` | a shorter script that still fails |
 //! | `report` | a difference in print |
 
 pub mod claims;
+pub mod corners;
+pub mod damage;
 pub mod differ;
 pub mod other;
 pub mod prng;
@@ -22,13 +27,14 @@ pub mod report;
 pub mod script;
 pub mod shrink;
 pub mod spoil;
+pub mod tangle;
 pub mod wish;
 
 use std::ops::Range;
 
 /// The seeds that the tests use and that `compare run` takes unless it is told others. Within
 /// them every mutant of the engine is found.
-pub const CI_SEEDS: Range<u64> = 1..401;
+pub const CI_SEEDS: Range<u64> = 1..801;
 
 /// Lines per script.
 pub const CI_LINES: usize = 250;

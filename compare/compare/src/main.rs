@@ -118,7 +118,10 @@ fn run(options: Options) -> Result<u8, String> {
     let failure = differ::run(&other, options.seeds, options.lines, &mut count)?;
     match failure {
         None => {
-            println!("{} runs, {} scripts, {} lines: no difference", count.runs, count.scripts, count.lines);
+            println!(
+                "{} runs, {} scripts, {} lines: no difference",
+                count.runs, count.scripts, count.lines
+            );
             Ok(0)
         }
         Some(failure) => show(&other, &failure, options.save),

@@ -62,38 +62,46 @@ const TOPICS: [(Topic, u64); 24] = [
     (Fresh, 1),
 ];
 
-/// What a script can dwell on: its topics get four times their weight.
-const THEMES: [&[Topic]; 8] = [
-    &[],
-    &[Claim, GiveBack, GiveAll, Off],
-    &[Alloc, Lock, Clear, Free, Priority],
-    &[Son, End, Off, Load, Priority],
-    &[Timer, Tick, Tick, End],
-    &[Alloc, Lock, Son, Off, Priority],
-    &[Claim, Lock, Alloc, Off, Run],
-    &[Edge, Spoilt],
+/// What a script can dwell on: some topics get four times their weight, others a quarter of it.
+struct Theme {
+    loud: &'static [Topic],
+    quiet: &'static [Topic],
+    /// Claims of one or two tracks, given back singly: the free tracks lie in many gaps.
+    gaps: bool,
+}
+
+const fn theme(loud: &'static [Topic], quiet: &'static [Topic]) -> Theme {
+    Theme { loud, quiet, gaps: false }
+}
+
+const THEMES: [Theme; 10] = [
+    theme(&[], &[]),
+    theme(&[Claim, GiveBack, GiveAll, Off], &[]),
+    Theme { loud: &[Claim, GiveBack], quiet: &[GiveAll, Off, Alloc, Lock, Son, Fresh], gaps: true },
+    theme(&[Alloc, Lock, Clear, Free, Priority], &[Claim, Timer]),
+    theme(&[Son, End, Off, Load, Priority], &[Claim, Timer, Lock]),
+    theme(&[Timer, Tick, End], &[Claim, Alloc, Lock]),
+    theme(&[Timer, Tick, Load], &[Run, Start, Off, Claim, Alloc, Lock, Spoilt, Fresh]),
+    theme(&[Alloc, Lock, Son, Off, Priority], &[Claim, Timer, Free, Clear]),
+    theme(&[Claim, Lock, Alloc, Off, Run], &[GiveBack]),
+    theme(&[Edge, Spoilt], &[]),
 ];
 
 const WORDS: [&str; 30] = [
-    "ALL", "GO", "RN", "L", "G", "A", "B", "C", "AB", "A1", "A11", "WHZAT", "Z9999", "PAGE", "TICK",
-    "EXEC", "FRESH", "LOAD", "RU", "SS", "PR", "OF", "ALLOC", "LOCK", "CLEAR", "FREE", "AAAAA",
-    "AAAAB", "END", "X",
+    "ALL", "GO", "RN", "L", "G", "A", "B", "C", "AB", "A1", "A11", "WHZAT", "Z9999", "PAGE",
+    "TICK", "EXEC", "FRESH", "LOAD", "RU", "SS", "PR", "OF", "ALLOC", "LOCK", "CLEAR", "FREE",
+    "AAAAA", "AAAAB", "END", "X",
 ];
 
-const PRIORITIES: [&[u64]; 7] = [
-    &[10],
-    &[10],
-    &[10, 10, 10, 11],
-    &[1, 2],
-    &[0, 1, 10],
-    &[0, 32_767],
-    &[5, 5, 6, 7, 300],
-];
+const PRIORITIES: [&[u64]; 7] =
+    [&[10], &[10], &[10, 10, 10, 11], &[1, 2], &[0, 1, 10], &[0, 32_767], &[5, 5, 6, 7, 300]];
 
 pub struct Profile {
     pub t: u64,
     pub s: u64,
     pub r: u64,
+    /// Whether the free tracks should lie in many gaps.
+    pub gaps: bool,
     pub names: Vec<String>,
     pub priorities: Vec<u64>,
     topics: Vec<Topic>,
@@ -103,18 +111,22 @@ pub struct Profile {
 impl Profile {
     pub fn new(prng: &mut Prng) -> Profile {
         let crowd = prng.chance(1, 8);
-        let theme = prng.pick(&THEMES);
+        let theme = &THEMES[prng.below(THEMES.len() as u64) as usize];
         let (t, s, r) = sizes(prng);
-        let weight = |(topic, weight): &(Topic, u64)| {
-            let dwells = theme.contains(topic);
-            let full = crowd && *topic == Load;
-            let rare = crowd && *topic == Off;
-            weight * if dwells { 4 } else { 1 } * if full { 8 } else { 1 } / if rare { 4 } else { 1 }
+        let weight = |(topic, usual): &(Topic, u64)| {
+            let times = if theme.loud.contains(topic) { 16 } else { 4 };
+            let times = if theme.quiet.contains(topic) { 1 } else { times };
+            match topic {
+                Load if crowd => 8 * times * usual,
+                Off if crowd => times * usual / 4,
+                _ => times * usual,
+            }
         };
         Profile {
             t,
             s,
             r,
+            gaps: theme.gaps,
             names: if crowd { crowd_names() } else { few_names(prng) },
             priorities: prng.pick(&PRIORITIES).to_vec(),
             topics: TOPICS.iter().map(|(topic, _)| *topic).collect(),

@@ -3,6 +3,7 @@
 
 use crate::prng::Prng;
 use crate::profile::{Profile, Topic};
+use crate::tangle::tangle;
 use crate::{spoil, wish};
 use engine::sheet::print_line;
 use engine::{Engine, Fault};
@@ -13,9 +14,10 @@ pub fn generate(seed: u64, lines: usize) -> Vec<u8> {
     let profile = Profile::new(&mut prng);
     let mut engine = Engine::smallest(Fault::None);
     let mut script = Vec::new();
+    let opening = opening(&mut prng, &profile);
     for place in 0..lines {
-        let line = if place == 0 {
-            format!("FRESH,{},{},{}", profile.t, profile.s, profile.r).into_bytes()
+        let line = if place < opening.len() {
+            opening[place].clone().into_bytes()
         } else if place + 1 == lines && prng.chance(3, 4) {
             // What went wrong in silence shows at the end.
             b"PAGE".to_vec()
@@ -31,6 +33,14 @@ pub fn generate(seed: u64, lines: usize) -> Vec<u8> {
         script.pop();
     }
     script
+}
+
+fn opening(prng: &mut Prng, profile: &Profile) -> Vec<String> {
+    let mut opening = vec![format!("FRESH,{},{},{}", profile.t, profile.s, profile.r)];
+    if prng.chance(1, 6) {
+        opening.extend(tangle(prng, profile));
+    }
+    opening
 }
 
 fn next_line(prng: &mut Prng, profile: &Profile, engine: &Engine) -> Vec<u8> {

@@ -15,7 +15,8 @@ pub fn shrink(
     mut fails: impl FnMut(&[u8]) -> Result<bool, String>,
 ) -> Result<Vec<u8>, String> {
     let end = Instant::now() + PATIENCE;
-    let mut fails = |shorter: &[u8]| Ok(Instant::now() < end && fails(shorter)?);
+    let mut fails =
+        |shorter: &[u8]| -> Result<bool, String> { Ok(Instant::now() < end && fails(shorter)?) };
     let mut kept: Lines = (lines(input), true);
     if !fails(&join(&kept))? {
         kept.1 = input.ends_with(b"\n");

@@ -7,8 +7,28 @@ use engine::Engine;
 /// One number of a good line becomes another, well formed but often out of range.
 pub fn edge(prng: &mut Prng, engine: &Engine, line: &str) -> Vec<u8> {
     let near = [
-        0, 1, 2, 3, 4, 5, 7, 9, engine.t(), engine.t() + 1, engine.r(), engine.r() + 1, 256, 257,
-        4_095, 4_096, 32_767, 32_768, 65_537, 4_294_967_295, 4_294_967_296, 4_294_967_297,
+        0,
+        1,
+        2,
+        3,
+        4,
+        5,
+        7,
+        9,
+        engine.t(),
+        engine.t() + 1,
+        engine.r(),
+        engine.r() + 1,
+        256,
+        257,
+        4_095,
+        4_096,
+        32_767,
+        32_768,
+        65_537,
+        4_294_967_295,
+        4_294_967_296,
+        4_294_967_297,
         9_999_999_999,
     ];
     let number = prng.pick(&near);
@@ -110,8 +130,25 @@ fn blank_put(prng: &mut Prng, line: &str) -> Vec<u8> {
 
 fn exec_unlisted(prng: &mut Prng, line: &str) -> Vec<u8> {
     let number = prng.pick(&[
-        "0", "1", "2", "3", "8", "13", "14", "17", "04", "06", "105", "256", "4294967300",
-        "4294967302", "4294967307", "4294967312", "9999999999", "ALL", "",
+        "0",
+        "1",
+        "2",
+        "3",
+        "8",
+        "13",
+        "14",
+        "17",
+        "04",
+        "06",
+        "105",
+        "256",
+        "4294967300",
+        "4294967302",
+        "4294967307",
+        "4294967312",
+        "9999999999",
+        "ALL",
+        "",
     ]);
     match line.strip_prefix("EXEC,") {
         Some(rest) => {
@@ -147,8 +184,8 @@ fn any_bytes(prng: &mut Prng) -> Vec<u8> {
 
 fn name_changed(prng: &mut Prng) -> Vec<u8> {
     let name = prng.pick(&[
-        "1A", "A B", "A_", "Aa", "a", "ABCDEF", "A ", " A", "", "A-B", "9", "ABCDE1", "A\0", "\u{c4}",
-        "A.", "A@", "A[", "A/", "A:", "@", "[",
+        "1A", "A B", "A_", "Aa", "a", "ABCDEF", "A ", " A", "", "A-B", "9", "ABCDE1", "A\0",
+        "\u{c4}", "A.", "A@", "A[", "A/", "A:", "@", "[",
     ]);
     let form = prng.pick(&["LOAD,*,10", "RU,*", "PR,*,1", "OF,*,1", "EXEC,9,*", "EXEC,12,*,1,0,1"]);
     form.replace('*', name).into_bytes()
@@ -157,9 +194,33 @@ fn name_changed(prng: &mut Prng) -> Vec<u8> {
 fn word_changed(prng: &mut Prng, line: &str) -> Vec<u8> {
     let rest = line.find(',').map_or("", |place| &line[place..]);
     let word = prng.pick(&[
-        "RUN", "R", "ON", "TI", "TICKS", "PAGES", "FRESH", "EXEC", "EXEX", "RN", "RNX", "LOAD", "GO", "SS",
-        "RU", "PAGE", "TICK", "RN,ALLOC", "RN,ALLOC,X", "RN,LOCK", "RN,CLEAR", "RN,FREED", "RN,L", "EXEC,16",
-        "EXEC,5,ALL", "EXEC,16,ALL", "EXEC,5",
+        "RUN",
+        "R",
+        "ON",
+        "TI",
+        "TICKS",
+        "PAGES",
+        "FRESH",
+        "EXEC",
+        "EXEX",
+        "RN",
+        "RNX",
+        "LOAD",
+        "GO",
+        "SS",
+        "RU",
+        "PAGE",
+        "TICK",
+        "RN,ALLOC",
+        "RN,ALLOC,X",
+        "RN,LOCK",
+        "RN,CLEAR",
+        "RN,FREED",
+        "RN,L",
+        "EXEC,16",
+        "EXEC,5,ALL",
+        "EXEC,16,ALL",
+        "EXEC,5",
     ]);
     format!("{}{}", word, rest).into_bytes()
 }

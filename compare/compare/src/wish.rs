@@ -14,7 +14,19 @@ fn needs_caller(topic: Topic) -> bool {
     use Topic::*;
     matches!(
         topic,
-        Claim | GiveBack | GiveAll | End | Pause | Son | Start | Time | Timer | Alloc | Lock | Clear | Free
+        Claim
+            | GiveBack
+            | GiveAll
+            | End
+            | Pause
+            | Son
+            | Start
+            | Time
+            | Timer
+            | Alloc
+            | Lock
+            | Clear
+            | Free
     )
 }
 
@@ -83,9 +95,9 @@ fn running(prng: &mut Prng, profile: &Profile, engine: &Engine, topic: Topic) ->
     match topic {
         Topic::Claim => {
             let exec = prng.pick(&[4, 4, 4, 15]);
-            format!("EXEC,{},{},{}", exec, claims::count(prng, engine), w)
+            format!("EXEC,{},{},{}", exec, claims::count(prng, engine, profile.gaps), w)
         }
-        Topic::GiveBack => give_back(prng, engine),
+        Topic::GiveBack => give_back(prng, profile, engine),
         Topic::GiveAll => String::from("EXEC,5,ALL"),
         Topic::End => String::from("EXEC,6"),
         Topic::Pause => String::from("EXEC,7"),
@@ -93,7 +105,8 @@ fn running(prng: &mut Prng, profile: &Profile, engine: &Engine, topic: Topic) ->
         Topic::Start => format!("EXEC,10,{}", name(prng, profile, engine, &[DORMANT])),
         Topic::Timer => {
             let (resolution, multiple, offset) = claims::timer(prng, engine);
-            let named = name(prng, profile, engine, &ANY);
+            let states: &[u8] = if prng.chance(1, 2) { &[DORMANT] } else { &ANY };
+            let named = name(prng, profile, engine, states);
             format!("EXEC,12,{},{},{},{}", named, resolution, multiple, offset)
         }
         Topic::Alloc => format!("RN,ALLOC,{},{}", prng.pick(&["L", "L", "L", "G"]), w),
@@ -104,13 +117,13 @@ fn running(prng: &mut Prng, profile: &Profile, engine: &Engine, topic: Topic) ->
     }
 }
 
-fn give_back(prng: &mut Prng, engine: &Engine) -> String {
+fn give_back(prng: &mut Prng, profile: &Profile, engine: &Engine) -> String {
     let own = engine.caller().map_or(Holder::Global, Holder::Program);
     if prng.chance(2, 3) {
-        let (n, start) = claims::part(prng, engine, own);
+        let (n, start) = claims::part(prng, engine, own, profile.gaps);
         format!("EXEC,5,{},{}", n, start)
     } else {
-        let (n, start) = claims::part(prng, engine, Holder::Global);
+        let (n, start) = claims::part(prng, engine, Holder::Global, profile.gaps);
         format!("EXEC,16,{},{}", n, start)
     }
 }

@@ -1,7 +1,7 @@
 //! 01, "Calls of the running program": EXEC 6, 7, 9, 10, 11 and 12. The tracks and the resource
 //! numbers have files of their own. Every call first needs a caller (2), then its parameters (3).
 
-use crate::answer::{allow, done, waits, Answer, Outcome, Value};
+use crate::answer::{self, allow, done, waits, Answer, Outcome, Value};
 use crate::fault::Fault;
 use crate::tables::{
     legal_name, Engine, Name, Timer, Why, DORMANT, GENERAL_WAIT, SCHEDULED, SUSPENDED,
@@ -48,6 +48,9 @@ impl Engine {
     fn schedule_target(&mut self, name: Name) -> Result<usize, Answer> {
         allow(legal_name(name))?;
         let target = self.find(name)?;
+        if self.fault == Fault::StateOfCaller && self.programs[&target].state != DORMANT {
+            return Err(Answer::new(answer::WRONG_STATE, u64::from(SCHEDULED)));
+        }
         self.in_state(target, DORMANT)?;
         self.enter(target, SCHEDULED, Why::Nothing);
         Ok(target)
@@ -66,7 +69,8 @@ impl Engine {
         let day = self.clock / TICKS_OF_A_DAY % 365 + 1;
         let hundredths = self.clock % TICKS_OF_A_DAY;
         let seconds = hundredths / 100;
-        [day, seconds / 3600, seconds / 60 % 60, seconds % 60, hundredths % 100]
+        let minute = if self.fault == Fault::SecondsRunOn { 3600 } else { 60 };
+        [day, seconds / 3600, seconds / 60 % 60, seconds % minute, hundredths % 100]
     }
 
     /// EXEC 12: sets or replaces the timer of any program, in any state. Value due.
@@ -80,8 +84,11 @@ impl Engine {
         // Counted with the entries, for the mutant alone.
         self.entries += 1;
         let setting = self.entries as u64;
-        let program = self.program(p);
-        program.timer = Some(Timer { due, interval: multiple * unit, setting });
+        let mut interval = multiple * unit;
+        if let (Fault::IntervalLeft, Some(old)) = (self.fault, self.programs[&p].timer) {
+            interval = old.interval;
+        }
+        self.program(p).timer = Some(Timer { due, interval, setting });
         done(due)
     }
 }

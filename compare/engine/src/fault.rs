@@ -42,14 +42,18 @@ faults! {
     Chain3First, "chain3-first", "chain 3 is woken before chain 5";
     ThreePasses, "three-passes", "chain 3 is woken in three passes: sons, locks, numbers";
     OneWakes, "one-wakes", "CLEAR and FREE wake the first that waits, no more";
+    WalkStops, "walk-stops", "the walk of chain 3 ends at the first that does not wake";
     SonLeft, "son-left", "OF 8 leaves its number in the father's why";
     EndedWakes, "ended-wakes", "a program that holds tracks wakes by its own ending";
     WhyKept, "why-kept", "a woken program keeps its why";
     NoneFreedWakes, "none-freed-wakes", "EXEC 5 ALL wakes chain 5 though it freed none";
     // tracks
     AcrossGap, "across-gap", "free tracks are added up across a gap";
+    LastTrackLost, "last-track-lost", "the last track is never found free";
     BestFit, "best-fit", "the shortest gap is taken, not the lowest";
     MostIsFree, "most-is-free", "a claim above T - S is not allowed";
+    PartFreed, "part-freed", "a refused EXEC 5 has freed the tracks before the wrong one";
+    GlobalWakesNone, "global-wakes-none", "EXEC 16 wakes nobody";
     HeldNotJoined, "held-not-joined", "the page shows each held track by itself";
     OfCountsWoken, "of-counts-woken", "OF tells programs woken, not tracks freed";
     // ending and timers
@@ -57,21 +61,28 @@ faults! {
     Exec6DropsTimer, "exec6-drops-timer", "EXEC 6 drops the timer";
     OfDormantRefused, "of-dormant-refused", "OF of a dormant program is refused";
     DueLeft, "due-left", "the due of a program that is not dormant is left";
+    IntervalLeft, "interval-left", "EXEC 12 leaves the interval of a timer that was set";
+    TickCountsDue, "tick-counts-due", "TICK counts all that are due";
     OnceLeft, "once-left", "a timer of interval 0 stays after its tick";
     TickBySetting, "tick-by-setting", "TICK goes by the order of setting";
     TickFalling, "tick-falling", "TICK goes from the highest number down";
     // resource numbers
     OthersLockLeft, "others-lock-left", "another's lock stays on a deallocated number";
-    OthersNumberForgotten, "others-number-forgotten", "an ended locker of another's number wakes none";
+    LocksKept, "locks-kept", "an ended program keeps its locks on numbers of others";
+    OthersForgotten, "others-forgotten", "ending the locker of another's number wakes none";
+    AllocHighest, "alloc-highest", "ALLOC takes the highest free number";
     ClearWakesAny, "clear-wakes-any", "CLEAR wakes those that wait for any number";
     LockOfOwnerOnly, "lock-of-owner-only", "only the owner may lock its number";
     OwnLockWaits, "own-lock-waits", "LOCK of a number locked by the caller waits";
     OwnerFreesLocked, "owner-frees-locked", "the owner may free a number locked by another";
     // answers
     LoadHighest, "load-highest", "LOAD takes the highest unused record";
+    StateOfCaller, "state-of-caller", "answer 5 to EXEC 9 and 10 has value 1";
     NameBeforeNumber, "name-before-number", "PR tests the name before the number";
     Exec7Waits, "exec7-waits", "EXEC 7 answers 1, value 6";
     TimeWithoutCaller, "time-without-caller", "EXEC 11 needs no caller";
+    SecondsRunOn, "seconds-run-on", "the seconds of the time are not those of the minute";
+    FreshKeepsClock, "fresh-keeps-clock", "an accepted FRESH line leaves the clock";
     RefusedFreshResets, "refused-fresh-resets", "a refused FRESH line yields the smallest tables";
     // the console line
     ElevenDigits, "eleven-digits", "numbers may have eleven digits";

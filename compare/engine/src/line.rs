@@ -162,7 +162,10 @@ impl Engine {
 
     /// "FRESH,T,S,R (where refused, the tables given to the line stay)"
     fn fresh_line(&mut self, t: u64, s: u64, r: u64) -> Outcome {
-        let (tables, outcome) = Engine::fresh(t, s, r, self.fault);
+        let (mut tables, outcome) = Engine::fresh(t, s, r, self.fault);
+        if self.fault == Fault::FreshKeepsClock {
+            tables.clock = self.clock;
+        }
         if outcome.is_ok() || self.fault == Fault::RefusedFreshResets {
             *self = tables;
         }

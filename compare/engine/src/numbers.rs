@@ -21,7 +21,12 @@ impl Engine {
             Kind::Local => Holder::Program(caller),
             Kind::Global => Holder::Global,
         };
-        if let Some(place) = self.numbers.iter().position(|n| n.owner == Holder::Free) {
+        let is_free = |number: &Number| number.owner == Holder::Free;
+        let lowest = match self.fault {
+            Fault::AllocHighest => self.numbers.iter().rposition(is_free),
+            _ => self.numbers.iter().position(is_free),
+        };
+        if let Some(place) = lowest {
             // A free number has no lock; only mutants have left one here.
             self.numbers[place].owner = owner;
             return done(place as u64 + 1);

@@ -100,6 +100,8 @@ impl Engine {
             let dormant = self.programs[&p].state == DORMANT;
             if dormant {
                 self.enter(p, SCHEDULED, Why::Nothing);
+            }
+            if dormant || self.fault == Fault::TickCountsDue {
                 scheduled += 1;
             }
             if dormant || self.fault != Fault::DueLeft {

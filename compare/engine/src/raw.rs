@@ -3,9 +3,7 @@
 
 use crate::answer::{self, Answer, Outcome};
 use crate::fault::Fault;
-use crate::tables::{
-    Engine, Holder, Name, Number, Program, Timer, Why, CHAINS, RECORDS,
-};
+use crate::tables::{Engine, Holder, Name, Number, Program, Timer, Why, CHAINS, RECORDS};
 
 /// As `Why`, with any number in it.
 #[derive(Clone, Copy, Debug, PartialEq, Eq)]

@@ -40,7 +40,8 @@ impl Engine {
         }
         let mut length = 0;
         for track in 0..self.t() {
-            if self.tracks[track as usize] == Holder::Free {
+            let lost = self.fault == Fault::LastTrackLost && track + 1 == self.t();
+            if self.tracks[track as usize] == Holder::Free && !lost {
                 length += 1;
             } else if self.fault != Fault::AcrossGap {
                 length = 0;
@@ -84,11 +85,16 @@ impl Engine {
             _ => return refused(answer::NOT_ALLOWED),
         };
         let run = &mut self.tracks[start as usize..end as usize];
-        require(run.iter().all(|track| *track == holder), answer::NOT_HOLDER)?;
-        for track in run {
-            *track = Holder::Free;
+        let fitting = run.iter().take_while(|track| **track == holder).count();
+        if fitting as u64 == n || self.fault == Fault::PartFreed {
+            for track in &mut run[..fitting] {
+                *track = Holder::Free;
+            }
         }
-        self.wake(&Released { tracks: n, ..Released::default() });
+        require(fitting as u64 == n, answer::NOT_HOLDER)?;
+        if holder != Holder::Global || self.fault != Fault::GlobalWakesNone {
+            self.wake(&Released { tracks: n, ..Released::default() });
+        }
         done(n)
     }
 

@@ -69,9 +69,9 @@ impl Engine {
                 *number = FREE_NUMBER;
                 number.lock = lock;
                 released.deallocated.push(r);
-            } else if lock_of_p {
+            } else if lock_of_p && self.fault != Fault::LocksKept {
                 number.lock = None;
-                if self.fault != Fault::OthersNumberForgotten {
+                if self.fault != Fault::OthersForgotten {
                     released.cleared.push(r);
                 }
             }
@@ -107,6 +107,8 @@ impl Engine {
                 if self.fault == Fault::OneWakes && released.ended.is_none() {
                     break;
                 }
+            } else if self.fault == Fault::WalkStops {
+                break;
             }
         }
         woken

@@ -12,21 +12,22 @@ fn not_understood(line: &[u8]) {
     assert_eq!(printed, b"answer=13,value=0\n", "{:?}", String::from_utf8_lossy(line));
 }
 
+/// Parted by bars, since some of the lines have blanks.
+const WRONG: &str =
+    "|,|TICK,|,TICK|TICK,1|PAGE,|PAGES|tick|Tick| TICK|TICK |TICK\r|FRESH|FRESH,1,0\
+    |FRESH,1,0,0,0|FRESH,01,0,0|FRESH,1,00,0|FRESH,+1,0,0|FRESH,-1,0,0|FRESH,,0,0|FRESH,1, 0,0\
+    |FRESH,12345678901,0,0|LOAD,A|LOAD,A,|LOAD,,1|LOAD,A,1,1|LOAD,1A,1|LOAD,a,1|LOAD,ABCDEF,1\
+    |LOAD,A B,1|LOAD,A_B,1|LOAD,A,B|RU|RU,|RU,A,1|RU,A |SS|GO|PR,A|OF,A|OF,A,01|OF,A,-1|EXEC|EXEC,\
+    |EXEC,4|EXEC,4,1|EXEC,4,1,0,0|EXEC,04,1,0|EXEC,1|EXEC,2|EXEC,3|EXEC,8|EXEC,13|EXEC,14|EXEC,17\
+    |EXEC,4294967300,1,0|EXEC,5|EXEC,5,3|EXEC,5,ALL,1|EXEC,5,all|EXEC,16,ALL|EXEC,6,0|EXEC,7,\
+    |EXEC,9|EXEC,9,1|EXEC,11,1|EXEC,12,A,1,0|EXEC,12,A,1,0,1,1|EXEC,15,ALL|RN|RN,ALLOC|RN,ALLOC,L\
+    |RN,ALLOC,X,0|RN,ALLOC,l,0|RN,ALLOC,LG,0|RN,ALLOC,,0|RN,LOCK,1|RN,LOCK,1,0,0|RN,CLEAR\
+    |RN,CLEAR,1,0|RN,FREE|RN,FREE,A|RN,L,0";
+
 #[test]
 fn lines_that_are_not_understood() {
-    let lines = [
-        "", ",", "TICK,", ",TICK", "TICK,1", "PAGE,", "PAGES", "tick", "Tick", " TICK", "TICK ", "TICK\r",
-        "FRESH", "FRESH,1,0", "FRESH,1,0,0,0", "FRESH,01,0,0", "FRESH,1,00,0", "FRESH,+1,0,0", "FRESH,-1,0,0",
-        "FRESH,,0,0", "FRESH,1, 0,0", "FRESH,12345678901,0,0", "LOAD,A", "LOAD,A,", "LOAD,,1", "LOAD,A,1,1",
-        "LOAD,1A,1", "LOAD,a,1", "LOAD,ABCDEF,1", "LOAD,A B,1", "LOAD,A_B,1", "LOAD,A,B", "RU", "RU,", "RU,A,1",
-        "RU,A ", "SS", "GO", "PR,A", "OF,A", "OF,A,01", "OF,A,-1", "EXEC", "EXEC,", "EXEC,4", "EXEC,4,1",
-        "EXEC,4,1,0,0", "EXEC,04,1,0", "EXEC,1", "EXEC,2", "EXEC,3", "EXEC,8", "EXEC,13", "EXEC,14", "EXEC,17",
-        "EXEC,4294967300,1,0", "EXEC,5", "EXEC,5,3", "EXEC,5,ALL,1", "EXEC,5,all", "EXEC,16,ALL", "EXEC,6,0",
-        "EXEC,7,", "EXEC,9", "EXEC,9,1", "EXEC,11,1", "EXEC,12,A,1,0", "EXEC,12,A,1,0,1,1", "EXEC,15,ALL",
-        "RN", "RN,ALLOC", "RN,ALLOC,L", "RN,ALLOC,X,0", "RN,ALLOC,l,0", "RN,ALLOC,LG,0", "RN,ALLOC,,0",
-        "RN,LOCK,1", "RN,LOCK,1,0,0", "RN,CLEAR", "RN,CLEAR,1,0", "RN,FREE", "RN,FREE,A", "RN,L,0",
-    ];
-    for line in lines {
+    assert!(WRONG.split('|').count() > 80);
+    for line in WRONG.split('|') {
         not_understood(line.as_bytes());
     }
 }
@@ -65,11 +66,37 @@ fn every_byte_in_a_name() {
 fn numbers_out_of_range_are_3() {
     let start = "FRESH,4,1,2 LOAD,A,10 RU,A";
     let lines = [
-        "FRESH,9999999999,0,0", "LOAD,B,32768", "LOAD,B,9999999999", "PR,A,0", "PR,A,32768", "OF,A,0", "OF,A,2",
-        "OF,A,9", "EXEC,4,0,0", "EXEC,4,5,0", "EXEC,4,1,2", "EXEC,15,0,1", "EXEC,15,5,1", "EXEC,5,0,1",
-        "EXEC,5,1,4", "EXEC,5,5,0", "EXEC,16,0,0", "EXEC,16,1,4", "EXEC,12,A,0,0,1", "EXEC,12,A,5,0,1",
-        "EXEC,12,A,1,4096,1", "EXEC,12,A,1,0,0", "EXEC,12,A,1,0,4096", "RN,ALLOC,L,2", "RN,LOCK,0,0",
-        "RN,LOCK,3,0", "RN,LOCK,1,2", "RN,CLEAR,0", "RN,CLEAR,3", "RN,FREE,0", "RN,FREE,3",
+        "FRESH,9999999999,0,0",
+        "LOAD,B,32768",
+        "LOAD,B,9999999999",
+        "PR,A,0",
+        "PR,A,32768",
+        "OF,A,0",
+        "OF,A,2",
+        "OF,A,9",
+        "EXEC,4,0,0",
+        "EXEC,4,5,0",
+        "EXEC,4,1,2",
+        "EXEC,15,0,1",
+        "EXEC,15,5,1",
+        "EXEC,5,0,1",
+        "EXEC,5,1,4",
+        "EXEC,5,5,0",
+        "EXEC,16,0,0",
+        "EXEC,16,1,4",
+        "EXEC,12,A,0,0,1",
+        "EXEC,12,A,5,0,1",
+        "EXEC,12,A,1,4096,1",
+        "EXEC,12,A,1,0,0",
+        "EXEC,12,A,1,0,4096",
+        "RN,ALLOC,L,2",
+        "RN,LOCK,0,0",
+        "RN,LOCK,3,0",
+        "RN,LOCK,1,2",
+        "RN,CLEAR,0",
+        "RN,CLEAR,3",
+        "RN,FREE,0",
+        "RN,FREE,3",
     ];
     for line in lines {
         assert_eq!(last(&format!("{} {}", start, line)), "3,0", "{}", line);
@@ -99,7 +126,8 @@ fn tests_run_in_their_order() {
 
 #[test]
 fn names_may_look_like_words() {
-    let start = "LOAD,ALL,5 LOAD,GO,5 LOAD,RN,5 LOAD,L,5 LOAD,G,5 RU,ALL EXEC,10,GO EXEC,9,RN GO,GO";
+    let start =
+        "LOAD,ALL,5 LOAD,GO,5 LOAD,RN,5 LOAD,L,5 LOAD,G,5 RU,ALL EXEC,10,GO EXEC,9,RN GO,GO";
     assert_eq!(answers(start), "0,1 0,2 0,3 0,4 0,5 0,0 0,2 1,3 5,1");
     assert_eq!(page(start, "name"), ["ALL", "GO", "RN", "L", "G"]);
 }
@@ -125,7 +153,8 @@ fn smallest_tables_before_any_fresh() {
 
 #[test]
 fn a_long_sheet_is_quick() {
-    let script = "FRESH,256,0,16\nLOAD,A,1\nRU,A\nEXEC,4,7,1\nEXEC,5,ALL\nEXEC,11\nTICK\nOF,A,8\n".repeat(12_500);
+    let script = "FRESH,256,0,16\nLOAD,A,1\nRU,A\nEXEC,4,7,1\nEXEC,5,ALL\nEXEC,11\nTICK\nOF,A,8\n"
+        .repeat(12_500);
     let start = std::time::Instant::now();
     let printed = sheet(script.as_bytes(), Fault::None);
     assert_eq!(printed.iter().filter(|b| **b == 10).count(), 100_000);

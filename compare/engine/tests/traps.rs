@@ -52,7 +52,8 @@ fn a_removed_son_is_nobodys_son() {
 
 #[test]
 fn all_that_wait_for_a_lock_wake() {
-    let start = "FRESH,1,0,1 LOAD,A,10 LOAD,B,10 LOAD,C,10 LOAD,D,10 RU,A RN,ALLOC,G,0 RN,LOCK,1,0 \
+    let start =
+        "FRESH,1,0,1 LOAD,A,10 LOAD,B,10 LOAD,C,10 LOAD,D,10 RU,A RN,ALLOC,G,0 RN,LOCK,1,0 \
         RU,B RU,C RU,D PR,A,10 RN,LOCK,1,0 RN,LOCK,1,0 RN,LOCK,1,0";
     assert_eq!(chain(start, 3), "2,3,4");
     let cleared = format!("{} RN,CLEAR,1", start);
@@ -122,7 +123,8 @@ fn an_ended_locker_of_anothers_number_wakes() {
 
 #[test]
 fn clearing_wakes_nobody_who_waits_for_any_number() {
-    let start = "FRESH,1,0,1 LOAD,A,10 LOAD,B,10 RU,A RN,ALLOC,G,0 RN,LOCK,1,0 RU,B PR,A,10 RN,ALLOC,L,0";
+    let start =
+        "FRESH,1,0,1 LOAD,A,10 LOAD,B,10 RU,A RN,ALLOC,G,0 RN,LOCK,1,0 RU,B PR,A,10 RN,ALLOC,L,0";
     assert_eq!(page(start, "why"), ["-", "number"]);
     assert_eq!(last(&format!("{} RN,CLEAR,1", start)), "0,0");
     assert_eq!(last(&format!("{} EXEC,6", start)), "0,0");

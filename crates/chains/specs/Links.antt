@@ -46,8 +46,8 @@ pub record Links (l : List ℕ) : Type 0 where
 
 unfoldable pub testLinks : List ℕ → Bool
 testLinks l =
-    every (λ s. leads l s (getD (read l) s [])) (from 1 6) && eqb (getD l 0 0) 0
-    && every (λ p. not (eqb (total p (read l)) 0) || eqb (getD l (7 + p) 0) 0) (from 0 33)
+    let m : List (List ℕ) = read l in
+    every (λ s. leads l s (getD m s [])) (from 1 6) && eqb (getD l 0 0) 0 && every (λ p. not (eqb (total p m) 0) || eqb (getD l (7 + p) 0) 0) (from 0 33)
 
 -- a chain laid out from slot s, and all of them from slot s on
 abbrev pub layChain : List ℕ → ℕ → List ℕ → List ℕ

@@ -2,11 +2,11 @@
 -- Assumes nothing.
 use Prim.Native.Nat.{ℕ, _+_, _-_, _≤_, _<_}
 use mathlib.Core.Path.{_≡_}
-use mathlib.Core.Bool.{Bool, _&&_}
+use mathlib.Core.Bool.{Bool, true, _&&_}
 use mathlib.Core.List.{List, [], _∷_, _++_}
-use lib.ListN.{getD, take, replicate}
+use lib.ListN.{getD, take, drop, replicate}
 use lib.Dec.{eqb}
-use Rattle.lists.specs.Lists.{every, from}
+use Rattle.lists.specs.Lists.{every}
 use Rattle.records.specs.declared.Resource.{Resource}
 use Rattle.records.specs.declared.Numbers.{Numbers}
 use Rattle.records.specs.Numbers.{free, numberAt}
@@ -37,11 +37,16 @@ ledgerOf b = record {
 
 -- entries at T and above, or above R, are blank
 pub record Blank (l : Ledger) : Type 0 where
-  pub tracks : (i : ℕ) → l .tracks .count ≤ i → i < 256 → getD (l .tracks .holders) i nobody ≡ nobody
-  pub numbers : (r : ℕ) → l .numbers .count < r → r ≤ 16 → numberAt (l .numbers .resources) r ≡ free
+  pub tracks : (i : ℕ) → l .tracks .count ≤ i → getD (l .tracks .holders) i nobody ≡ nobody
+  pub numbers : (r : ℕ) → l .numbers .count < r → numberAt (l .numbers .resources) r ≡ free
+
+-- all are blank
+abbrev pub noHolders : List ℕ → Bool
+noHolders xs = every (λ h. eqb h nobody) xs
+
+abbrev pub noNumbers : List Resource → Bool
+noNumbers [] = true
+noNumbers (x ∷ xs) = eqb (x .owner) 0 && eqb (x .lock) 0 && noNumbers xs
 
 unfoldable pub testBlank : Ledger → Bool
-testBlank l =
-    every (λ i. eqb (getD (l .tracks .holders) i nobody) nobody) (from (l .tracks .count) (256 - l .tracks .count))
-    && every (λ r. eqb (numberAt (l .numbers .resources) r .owner) 0 && eqb (numberAt (l .numbers .resources) r .lock) 0)
-    (from (1 + l .numbers .count) (16 - l .numbers .count))
+testBlank l = noHolders (drop (l .tracks .count) (l .tracks .holders)) && noNumbers (drop (l .numbers .count) (l .numbers .resources))

@@ -35,7 +35,7 @@ same-eq i j h = go (ℕ-discrete i j)
     go (no n) = absurd (omega (arith, same-ne i j n))
 
 -- counts
-count-cond : (b : Bool) (x n : ℕ) (c d : List ℕ) → count x c ≡ n → count x d ≡ n → count x (cond b c d) ≡ n
+pub count-cond : (b : Bool) (x n : ℕ) (c d : List ℕ) → count x c ≡ n → count x d ≡ n → count x (cond b c d) ≡ n
 count-cond true x n c d h k = h
 count-cond false x n c d h k = k
 

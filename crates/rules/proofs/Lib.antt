@@ -1,1 +1,12 @@
 pub mod Places
+pub mod Agree
+pub mod AgreeTables
+pub mod Sorting
+pub mod Fits
+pub mod Alike
+pub mod Notes
+pub mod Parts
+pub mod Refusals
+pub mod Demand
+pub mod FrameLaws
+pub mod Guard

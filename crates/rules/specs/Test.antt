@@ -20,7 +20,6 @@ use Rattle.rules.specs.Sound.{suits}
 
 -- a test of every program, every track, every number
 abbrev pub programs : (ℕ → Bool) → Bool
-unfolding all
 programs f = every f all
 
 abbrev pub tracks : Book → (ℕ → Bool) → Bool

@@ -15,16 +15,14 @@ pub fn script(lines: &str) -> String {
 /// The answers as `number,value`, one for each line of a script without PAGE.
 pub fn answers(lines: &str) -> String {
     let printed = run(&script(lines));
-    let pairs: Vec<String> = printed
-        .lines()
-        .map(|line| line.replace("answer=", "").replace("value=", ""))
-        .collect();
+    let pairs: Vec<String> =
+        printed.lines().map(|line| line.replace("answer=", "").replace("value=", "")).collect();
     pairs.join(" ")
 }
 
 /// The last answer of a script.
 pub fn last(lines: &str) -> String {
-    answers(lines).split(' ').last().unwrap_or("").to_string()
+    answers(lines).rsplit(' ').next().unwrap_or("").to_string()
 }
 
 /// Every line of the final page that has this key.

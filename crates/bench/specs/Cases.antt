@@ -1,0 +1,233 @@
+-- The bench sheet and more, as one table (01, "Bench sheet", "Errors a good programmer makes here"). Each number and value stands as the outline says it.
+-- Assumes nothing.
+use Prim.Native.Nat.{ℕ, _+_}
+use Prim.Native.String.{String}
+use mathlib.Core.Bool.{Bool, true, false}
+use mathlib.Core.List.{List, [], _∷_, _++_}
+use lib.ListN.{set, replicate}
+use Rattle.text.specs.Text.{text}
+use Rattle.records.specs.Records.{newcomer, inState}
+use Rattle.records.specs.declared.Why.the-variants.{Nothing}
+use Rattle.rules.specs.Requests.{EXEC5, running}
+use Rattle.rules.specs.Book.{put, withClock, freshBook}
+use Rattle.rules.specs.Keeper.{lists, State}
+use Rattle.tables.specs.declared.Tables.{Tables}
+use Rattle.tables.specs.Tables.{lay, smallest}
+use Rattle.bench.specs.Case.{Step, key, ask, chain, noted, clock, written, Case, Printed, Bench}
+
+-- a case that starts with the smallest tables, as `sheet` does
+abbrev case : List Step → Case
+case ss = record { start = smallest; steps = ss }
+
+-- a line that is done with value v; one that makes its caller wait; one that is refused
+abbrev ok : String → ℕ → Step
+ok s v = key s 0 (v ∷ [])
+
+abbrev waits : String → ℕ → Step
+waits s v = key s 1 (v ∷ [])
+
+abbrev told : String → ℕ → Step
+told s a = key s a (0 ∷ [])
+
+-- program A, of priority 10, is the running one, at a clock
+abbrev aRunning : ℕ → State lists
+aRunning c = record {
+  book = put 1 (inState 1 Nothing (newcomer (text "A    ") 10)) (withClock c (freshBook 4 1 1));
+  kept = [] ∷ (1 ∷ []) ∷ [] ∷ [] ∷ [] ∷ [] ∷ [] ∷ [];
+}
+
+-- the same with a link that leads from A to A
+abbrev circular : Tables
+circular = record { ledger = lay (aRunning 0) .ledger; links = set (lay (aRunning 0) .links) 8 1 }
+
+abbrev workedPage : String
+workedPage = "page=rte2\nclock=0\ntracks=4\nsystem=1\nnumbers=1\nprograms=1\nid=1\nname=WHZAT\npriority=10\nstate=1\nwhy=-\ndue=-\ninterval=-\nchain1=1\nchain3=\nchain5=\nchain6=\nheld=1-2:1\nend=page\n"
+
+-- 01's worked example, then bench 1 and 11
+abbrev bench1 : Case
+bench1 = case (
+    ok "FRESH,4,1,1" 0 ∷ ok "LOAD,WHZAT,10" 1 ∷ ok "RU,WHZAT" 0 ∷ ok "EXEC,4,2,0" 1 ∷ written 169 0 (169 ∷ []) (text workedPage)
+    ∷ written 168 12 (169 ∷ []) (replicate 168 0) ∷ written 171 0 (169 ∷ []) (text workedPage ++ (0 ∷ 0 ∷ []))
+    ∷ told "EXEC,4,2,1" 8 ∷ ok "EXEC,4,1,1" 3 ∷ [])
+
+abbrev bench2 : Case
+bench2 = case (ok "FRESH,256,1,0" 0 ∷ ok "LOAD,A,10" 1 ∷ ok "RU,A" 0 ∷ told "EXEC,4,257,1" 3 ∷ told "EXEC,4,256,1" 8 ∷ [])
+
+abbrev bench3 : Case
+bench3 = case (
+    ok "FRESH,4,1,1" 0 ∷ ok "LOAD,A,10" 1 ∷ ok "LOAD,B,10" 2 ∷ ok "RU,B" 0 ∷ ok "RU,A" 0 ∷ chain 1 (2 ∷ 1 ∷ []) ∷ ok "PR,B,10" 10 ∷ chain 1 (1 ∷ 2 ∷ []) ∷ [])
+
+abbrev bench4 : Case
+bench4 = case (ok "FRESH,4,1,1" 0 ∷ ok "LOAD,A,10" 1 ∷ ok "RU,A" 0 ∷ key "EXEC,9,A" 5 (1 ∷ []) ∷ chain 1 (1 ∷ []) ∷ [])
+
+abbrev bench5 : Case
+bench5 = case (
+    ok "FRESH,4,1,1" 0 ∷ ok "LOAD,A,10" 1 ∷ ok "LOAD,B,10" 2 ∷ ok "RU,A" 0 ∷ waits "EXEC,9,B" 3 ∷ chain 1 (2 ∷ []) ∷ noted 1 3 2 0 0
+    ∷ ok "OF,B,8" 0 ∷ chain 1 (1 ∷ []) ∷ noted 1 1 0 0 0 ∷ told "RU,B" 4 ∷ ok "LOAD,B,7" 2 ∷ [])
+
+abbrev bench6 : Case
+bench6 = case (told "EXEC,6" 2 ∷ [])
+
+abbrev bench7 : Case
+bench7 = case (ok "FRESH,4,1,1" 0 ∷ ok "LOAD,A,10" 1 ∷ ok "RU,A" 0 ∷ told "EXEC,5,0,1" 3 ∷ ok "EXEC,5,ALL" 0 ∷ [])
+
+abbrev bench8 : Case
+bench8 = record {
+  start = lay (aRunning 8_639_999);
+  steps = key "EXEC,11" 0 (1 ∷ 23 ∷ 59 ∷ 59 ∷ 99 ∷ []) ∷ ok "TICK" 0 ∷ clock 8_640_000 ∷ key "EXEC,11" 0 (2 ∷ 0 ∷ 0 ∷ 0 ∷ 0 ∷ []) ∷ [];
+}
+
+abbrev bench9 : Case
+bench9 = case (
+    ok "FRESH,4,1,1" 0 ∷ ok "LOAD,A,10" 1 ∷ ok "RU,A" 0 ∷ ok "EXEC,12,A,3,0,7" 42_000 ∷ noted 1 1 0 42_000 0 ∷ ok "EXEC,12,A,3,0,1" 6_000 ∷ noted 1 1 0 6_000 0 ∷ [])
+
+abbrev bench10 : Case
+bench10 = case (
+    ok "LOAD,A,10" 1 ∷ ok "PR,A,32767" 10 ∷ told "PR,A,32768" 3 ∷ told "PR,A,0" 3 ∷ [])
+
+-- errors a good programmer makes: a woken program put before its equals
+abbrev behindEquals : Case
+behindEquals = case (
+    ok "FRESH,4,0,0" 0 ∷ ok "LOAD,A,10" 1 ∷ ok "LOAD,B,10" 2 ∷ ok "LOAD,C,10" 3 ∷ ok "RU,A" 0 ∷ ok "EXEC,4,4,0" 0 ∷ ok "SS,A" 0 ∷ ok "RU,B" 0
+    ∷ waits "EXEC,4,1,0" 5 ∷ ok "GO,A" 0 ∷ ok "RU,C" 0 ∷ ok "EXEC,5,ALL" 4 ∷ chain 1 (1 ∷ 3 ∷ 2 ∷ []) ∷ chain 5 [] ∷ [])
+
+-- a run found by adding up free tracks that do not touch
+abbrev gap : Case
+gap = case (
+    ok "FRESH,3,0,0" 0 ∷ ok "LOAD,A,10" 1 ∷ ok "RU,A" 0 ∷ ok "EXEC,4,3,0" 0 ∷ ok "EXEC,5,1,0" 1 ∷ ok "EXEC,5,1,2" 1
+    ∷ told "EXEC,4,2,1" 8 ∷ ok "EXEC,4,1,1" 0 ∷ ok "EXEC,15,1,1" 2 ∷ [])
+
+-- a timer of a waiting program left at its old due; a timer that fires once goes
+abbrev movedOn : Case
+movedOn = case (
+    ok "FRESH,2,2,0" 0 ∷ ok "LOAD,A,1" 1 ∷ ok "LOAD,B,5" 2 ∷ ok "RU,A" 0 ∷ ok "EXEC,12,A,1,3,1" 1 ∷ ok "EXEC,12,B,1,0,2" 2 ∷ waits "EXEC,4,1,0" 5
+    ∷ ok "TICK" 0 ∷ noted 1 5 0 4 3 ∷ ok "TICK" 1 ∷ noted 2 1 0 0 0 ∷ ok "TICK" 0 ∷ ok "TICK" 0 ∷ noted 1 5 0 7 3 ∷ [])
+
+-- a removed program's number left in a waiter's why, then met by the next program loaded there
+abbrev removedSon : Case
+removedSon = case (
+    ok "FRESH,1,0,0" 0 ∷ ok "LOAD,A,10" 1 ∷ ok "LOAD,B,10" 2 ∷ ok "RU,A" 0 ∷ waits "EXEC,9,B" 3 ∷ ok "OF,B,8" 0 ∷ noted 1 1 0 0 0 ∷ ok "LOAD,C,10" 2
+    ∷ ok "RU,C" 0 ∷ chain 1 (1 ∷ 2 ∷ []) ∷ ok "OF,C,1" 0 ∷ chain 1 (1 ∷ []) ∷ [])
+
+-- chain 3 is walked while it changes: all three wake, in chain order
+abbrev allWake : Case
+allWake = case (
+    ok "FRESH,1,0,2" 0 ∷ ok "LOAD,H,10" 1 ∷ ok "LOAD,B,10" 2 ∷ ok "LOAD,C,10" 3 ∷ ok "LOAD,D,10" 4 ∷ ok "RU,H" 0 ∷ ok "RN,ALLOC,G,0" 1 ∷ ok "RN,LOCK,1,0" 1
+    ∷ ok "SS,H" 0 ∷ ok "RU,B" 0 ∷ waits "RN,LOCK,1,0" 3 ∷ ok "RU,C" 0 ∷ waits "RN,LOCK,1,0" 3 ∷ ok "RU,D" 0 ∷ waits "RN,LOCK,1,0" 3
+    ∷ chain 3 (2 ∷ 3 ∷ 4 ∷ []) ∷ ok "GO,H" 0 ∷ ok "RN,CLEAR,1" 3 ∷ chain 1 (1 ∷ 2 ∷ 3 ∷ 4 ∷ []) ∷ chain 3 [] ∷ [])
+
+-- one walk of chain 3, not one for sons, one for locks and one for numbers
+abbrev oneWalk : Case
+oneWalk = case (
+    ok "FRESH,1,0,1" 0 ∷ ok "LOAD,F,10" 1 ∷ ok "LOAD,H,10" 2 ∷ ok "LOAD,N,10" 3 ∷ ok "LOAD,L,10" 4 ∷ ok "RU,F" 0 ∷ waits "EXEC,9,H" 3
+    ∷ ok "RN,ALLOC,L,0" 1 ∷ ok "RN,LOCK,1,0" 1 ∷ ok "SS,H" 0 ∷ ok "RU,N" 0 ∷ waits "RN,ALLOC,L,0" 3 ∷ ok "RU,L" 0 ∷ waits "RN,LOCK,1,0" 3
+    ∷ chain 3 (1 ∷ 3 ∷ 4 ∷ []) ∷ ok "GO,H" 0 ∷ ok "EXEC,6" 3 ∷ chain 1 (1 ∷ 3 ∷ 4 ∷ []) ∷ [])
+
+-- chain 5 wakes before chain 3
+abbrev discFirst : Case
+discFirst = case (
+    ok "FRESH,1,0,0" 0 ∷ ok "LOAD,F,10" 1 ∷ ok "LOAD,H,10" 2 ∷ ok "LOAD,W,10" 3 ∷ ok "RU,F" 0 ∷ waits "EXEC,9,H" 3 ∷ ok "EXEC,4,1,0" 0 ∷ ok "SS,H" 0
+    ∷ ok "RU,W" 0 ∷ waits "EXEC,4,1,0" 5 ∷ ok "OF,H,1" 1 ∷ chain 1 (3 ∷ 1 ∷ []) ∷ [])
+
+-- the ended program is not woken by its own tracks
+abbrev notItself : Case
+notItself = case (
+    ok "FRESH,2,0,0" 0 ∷ ok "LOAD,A,10" 1 ∷ ok "RU,A" 0 ∷ ok "EXEC,4,1,0" 0 ∷ waits "EXEC,4,2,0" 5 ∷ ok "OF,A,1" 1 ∷ chain 1 [] ∷ chain 5 [] ∷ noted 1 0 0 0 0 ∷ [])
+
+-- another's lock on a deallocated number goes
+abbrev lockGoes : Case
+lockGoes = case (
+    ok "FRESH,1,0,1" 0 ∷ ok "LOAD,A,10" 1 ∷ ok "LOAD,B,10" 2 ∷ ok "RU,A" 0 ∷ ok "RN,ALLOC,L,0" 1 ∷ ok "SS,A" 0 ∷ ok "RU,B" 0 ∷ ok "RN,LOCK,1,0" 1
+    ∷ ok "OF,A,1" 0 ∷ told "RN,CLEAR,1" 10 ∷ ok "RN,ALLOC,L,0" 1 ∷ [])
+
+-- a lock on another's number is cleared by its holder's ending, and its waiter wakes
+abbrev lockerEnds : Case
+lockerEnds = case (
+    ok "FRESH,1,0,1" 0 ∷ ok "LOAD,A,10" 1 ∷ ok "LOAD,B,10" 2 ∷ ok "LOAD,C,10" 3 ∷ ok "RU,A" 0 ∷ ok "RN,ALLOC,L,0" 1 ∷ ok "SS,A" 0 ∷ ok "RU,B" 0
+    ∷ ok "RN,LOCK,1,0" 1 ∷ ok "SS,B" 0 ∷ ok "RU,C" 0 ∷ waits "RN,LOCK,1,0" 3 ∷ ok "OF,B,1" 0 ∷ chain 1 (3 ∷ []) ∷ [])
+
+-- who waits for any number does not wake where a number is only cleared
+abbrev onlyCleared : Case
+onlyCleared = case (
+    ok "FRESH,1,0,1" 0 ∷ ok "LOAD,A,10" 1 ∷ ok "LOAD,B,10" 2 ∷ ok "RU,A" 0 ∷ ok "RN,ALLOC,G,0" 1 ∷ ok "RN,LOCK,1,0" 1 ∷ ok "SS,A" 0 ∷ ok "RU,B" 0
+    ∷ waits "RN,ALLOC,L,0" 3 ∷ ok "GO,A" 0 ∷ ok "RN,CLEAR,1" 0 ∷ chain 3 (2 ∷ []) ∷ ok "RN,LOCK,1,0" 1 ∷ ok "OF,A,1" 0 ∷ chain 3 (2 ∷ []) ∷ [])
+
+-- EXEC 6 keeps tracks and timer; OF of the dormant program frees them
+abbrev kept : Case
+kept = case (
+    ok "FRESH,2,0,0" 0 ∷ ok "LOAD,A,10" 1 ∷ ok "RU,A" 0 ∷ ok "EXEC,4,2,0" 0 ∷ ok "EXEC,12,A,1,0,9" 9 ∷ ok "EXEC,6" 0 ∷ noted 1 0 0 9 0
+    ∷ ok "OF,A,1" 2 ∷ noted 1 0 0 0 0 ∷ [])
+
+-- PR enters every chain anew, even for the same number
+abbrev pricedAnew : Case
+pricedAnew = case (
+    ok "FRESH,1,1,0" 0 ∷ ok "LOAD,A,10" 1 ∷ ok "LOAD,B,10" 2 ∷ ok "RU,A" 0 ∷ waits "EXEC,4,1,0" 5 ∷ ok "RU,B" 0 ∷ waits "EXEC,4,1,0" 5
+    ∷ chain 5 (1 ∷ 2 ∷ []) ∷ ok "PR,A,10" 10 ∷ chain 5 (2 ∷ 1 ∷ []) ∷ ok "LOAD,C,10" 3 ∷ ok "LOAD,D,10" 4 ∷ ok "RU,C" 0 ∷ ok "SS,C" 0 ∷ ok "RU,D" 0
+    ∷ ok "SS,D" 0 ∷ chain 6 (3 ∷ 4 ∷ []) ∷ ok "PR,C,10" 10 ∷ chain 6 (4 ∷ 3 ∷ []) ∷ [])
+
+-- timers due at one tick: by program number
+abbrev byNumber : Case
+byNumber = case (
+    ok "FRESH,1,0,0" 0 ∷ ok "LOAD,A,10" 1 ∷ ok "LOAD,B,10" 2 ∷ ok "LOAD,C,5" 3 ∷ ok "RU,C" 0 ∷ ok "EXEC,12,B,1,0,2" 2 ∷ ok "EXEC,12,A,1,0,2" 2
+    ∷ ok "TICK" 0 ∷ ok "TICK" 2 ∷ chain 1 (3 ∷ 1 ∷ 2 ∷ []) ∷ [])
+
+-- numbers of ten digits are taken whole; eleven are not understood; sums of large parameters do not wrap
+abbrev largeNumbers : Case
+largeNumbers = case (
+    ok "LOAD,A,10" 1 ∷ ok "RU,A" 0 ∷ told "OF,A,4294967297" 3 ∷ told "EXEC,4294967300" 13 ∷ told "EXEC,4,9999999999,0" 3 ∷ told "EXEC,4,10000000000,0" 13
+    ∷ told "EXEC,4,01,0" 13 ∷ ask (running (EXEC5 18_446_744_073_709_551_615 18_446_744_073_709_551_615)) 3 (0 ∷ []) ∷ [])
+
+-- tables whose links go round in a circle: 14 for any request, and the tables stay
+abbrev notSound : Case
+notSound = record { start = circular; steps = told "TICK" 14 ∷ told "FRESH,4,1,1" 14 ∷ told "no such line" 14 ∷ told "PAGE" 14 ∷ clock 0 ∷ [] }
+
+-- EXEC 11 needs a caller; EXEC 7 is done with value 0
+abbrev needsCaller : Case
+needsCaller = case (told "EXEC,11" 2 ∷ told "EXEC,8" 13 ∷ told "EXEC,4,0,9" 2 ∷ ok "LOAD,A,10" 1 ∷ ok "RU,A" 0 ∷ ok "EXEC,7" 0 ∷ chain 6 (1 ∷ []) ∷ [])
+
+-- 5 gives the named program's state
+abbrev wrongState : Case
+wrongState = case (
+    ok "FRESH,1,1,0" 0 ∷ ok "LOAD,A,10" 1 ∷ ok "LOAD,B,10" 2 ∷ ok "LOAD,C,20" 3 ∷ ok "RU,A" 0 ∷ waits "EXEC,4,1,0" 5 ∷ ok "RU,C" 0
+    ∷ key "EXEC,9,A" 5 (5 ∷ []) ∷ waits "EXEC,9,B" 3 ∷ key "EXEC,9,C" 5 (3 ∷ []) ∷ key "GO,B" 5 (1 ∷ []) ∷ key "SS,C" 5 (3 ∷ []) ∷ [])
+
+-- a refused FRESH keeps the tables; an accepted one begins anew
+abbrev refusedFresh : Case
+refusedFresh = case (
+    ok "LOAD,A,10" 1 ∷ told "FRESH,0,0,0" 3 ∷ told "FRESH,4,5,1" 3 ∷ told "FRESH,4,1,17" 3 ∷ told "FRESH,4,1" 13 ∷ ok "RU,A" 0
+    ∷ ok "FRESH,4,4,16" 0 ∷ told "RU,A" 4 ∷ [])
+
+-- a program run at equal priority is not made the caller
+abbrev notTheCaller : Case
+notTheCaller = case (ok "LOAD,A,10" 1 ∷ ok "LOAD,B,10" 2 ∷ ok "RU,A" 0 ∷ ok "RU,B" 0 ∷ ok "EXEC,7" 0 ∷ chain 1 (2 ∷ []) ∷ chain 6 (1 ∷ []) ∷ [])
+
+-- a woken father of a better priority makes the next call
+abbrev fatherNext : Case
+fatherNext = case (
+    ok "LOAD,F,1" 1 ∷ ok "LOAD,S,10" 2 ∷ ok "LOAD,Z,10" 3 ∷ ok "RU,F" 0 ∷ waits "EXEC,9,S" 3 ∷ ok "RU,Z" 0 ∷ ok "EXEC,6" 1 ∷ ok "EXEC,7" 0
+    ∷ chain 1 (3 ∷ []) ∷ chain 6 (1 ∷ []) ∷ [])
+
+-- the worked example as `sheet` prints it; no text, an empty line, a line without its byte 10, one too long, a time
+abbrev sheets : List Printed
+sheets =
+    record {
+      typed = "FRESH,4,1,1\nLOAD,WHZAT,10\nRU,WHZAT\nEXEC,4,2,0\nPAGE\n";
+      prints = text "answer=0,value=0\nanswer=0,value=1\nanswer=0,value=0\nanswer=0,value=1\n" ++ text workedPage;
+    }
+    ∷ record { typed = ""; prints = [] }
+    ∷ record { typed = "\n"; prints = text "answer=13,value=0\n" }
+    ∷ record { typed = "LOAD,A,0\nRU,A\nEXEC,11"; prints = text "answer=0,value=1\nanswer=0,value=0\nanswer=0,value=1.0.0.0.0\n" }
+    ∷ record {
+      typed = "AAAAAAAAAAAAAAAAAAAAAAAAAAAAAAAAAAAAAAAAAAAAAAAAAAAAAAAAAAAAAAAAAAAAAAAAAAAAAAAAAAAAAAAAAAAA\nLOAD,A,0\r\n";
+      prints = text "answer=13,value=0\nanswer=13,value=0\n";
+    }
+    ∷ []
+
+unfoldable pub bench : Bench
+bench = record {
+  cases =
+      bench1 ∷ bench2 ∷ bench3 ∷ bench4 ∷ bench5 ∷ bench6 ∷ bench7 ∷ bench8 ∷ bench9 ∷ bench10 ∷ behindEquals ∷ gap ∷ movedOn ∷ removedSon ∷ allWake
+      ∷ oneWalk ∷ discFirst ∷ notItself ∷ lockGoes ∷ lockerEnds ∷ onlyCleared ∷ kept ∷ pricedAnew ∷ byNumber ∷ largeNumbers ∷ notSound ∷ needsCaller
+      ∷ wrongState ∷ refusedFresh ∷ notTheCaller ∷ fatherNext ∷ [];
+  sheets = sheets;
+}

@@ -1,0 +1,71 @@
+-- Tests and what they say: conjunctions, implications, a test of every number of a list, the equality of two lists.
+-- Assumes nothing.
+use Prim.Native.Nat.{ℕ, zero, suc, _+_, _≤_, _<_}
+use native.Mathlib.Omega.{arith}
+use mathlib.Core.Path.{_≡_, refl, sym, ap, ap₂, _∙_}
+use mathlib.Core.Logic.{_≢_}
+use mathlib.Core.Bool.{Bool, true, false, not, _&&_, _||_}
+use mathlib.Core.List.{List, [], _∷_}
+use lib.Dec.{leb, ltb, eqb}
+use borrow.Author.Tests.{eq-eqb, ne-eqb, eqb-true, eqb-false, leb-true, le-leb}
+use Rattle.lists.specs.Lists.{count, every, from, upTo, alike}
+use Rattle.lists.proofs.Laws.{same-refl, among}
+
+pub false-true : {A : Type 0} → false ≡ true → A
+false-true e = absurd (let z : _≡_ {A = ℕ} 0 1 = cc in omega arith)
+
+-- both
+pub both : (a b : Bool) → (a && b) ≡ true → (a ≡ true) × (b ≡ true)
+both true b e = (refl, e)
+both false b e = false-true e
+
+pub and : {a b : Bool} → a ≡ true → b ≡ true → (a && b) ≡ true
+and h k = ap₂ _&&_ h k
+
+-- the one unless the other
+pub unless : (a b : Bool) → (not a || b) ≡ true → a ≡ true → b ≡ true
+unless true b e h = e
+unless false b e h = false-true h
+
+pub implies : (a b : Bool) → (a ≡ true → b ≡ true) → (not a || b) ≡ true
+implies true b f = f refl
+implies false b f = refl
+
+pub otherwise : (a b : Bool) → (a || b) ≡ true → a ≡ false → b ≡ true
+otherwise true b e h = false-true (sym h)
+otherwise false b e h = e
+
+pub or : (a b : Bool) → (a ≡ false → b ≡ true) → (a || b) ≡ true
+or true b f = refl
+or false b f = f refl
+
+-- every number of a list
+pub every-in : (f : ℕ → Bool) (c : List ℕ) → every f c ≡ true → (x : ℕ) → 1 ≤ count x c → f x ≡ true
+every-in f [] e x h = absurd (omega arith)
+every-in f (q ∷ qs) e x h =
+    let b = both (f q) (every f qs) e in
+    among (λ y. f y ≡ true) q x qs (b .0) (every-in f qs (b .1) x) h
+
+pub every-is : (f : ℕ → Bool) (c : List ℕ) → ((x : ℕ) → 1 ≤ count x c → f x ≡ true) → every f c ≡ true
+every-is f [] h = refl
+every-is f (q ∷ qs) h = and (h q (omega (arith, same-refl q))) (every-is f qs (λ x k. h x (omega arith)))
+
+-- from low to high
+pub upTo-true : (l h n : ℕ) → upTo l h n ≡ true → (l ≤ n) × (n ≤ h)
+upTo-true l h n e = let b = both (leb l n) (leb n h) e in (leb-true l n (b .0), leb-true n h (b .1))
+
+pub upTo-is : (l h n : ℕ) → l ≤ n → n ≤ h → upTo l h n ≡ true
+upTo-is l h n a b = and (le-leb l n a) (le-leb n h b)
+
+-- two lists
+pub alike-true : (xs ys : List ℕ) → alike xs ys ≡ true → xs ≡ ys
+alike-true [] [] e = refl
+alike-true [] (y ∷ ys) e = false-true e
+alike-true (x ∷ xs) [] e = false-true e
+alike-true (x ∷ xs) (y ∷ ys) e =
+    let b = both (eqb x y) (alike xs ys) e in
+    ap₂ _∷_ (eqb-true x y (b .0)) (alike-true xs ys (b .1))
+
+pub alike-refl : (xs : List ℕ) → alike xs xs ≡ true
+alike-refl [] = refl
+alike-refl (x ∷ xs) = and (eq-eqb x x refl) (alike-refl xs)

@@ -1,0 +1,98 @@
+-- Demand 3 on chains, in one statement: from sound tables and entries that account for them, after any run of requests, refused ones among them, the kept
+-- chains are what the replay says, which keeps none. States that are alike stay so at every event; that a chain is the sorted list follows, since there is one only.
+-- Assumes nothing.
+use Prim.Native.Nat.{ℕ, _≤_, _<_}
+use native.Mathlib.Omega.{arith}
+use mathlib.Core.Path.{_≡_, refl, sym, ap, _∙_}
+use mathlib.Core.Logic.{_≢_}
+use mathlib.Core.List.{List, [], _∷_}
+use lib.ListN.{getD}
+use borrow.Author.Tests.{lt-ltb}
+use Rattle.lists.specs.Lists.{same, count}
+use Rattle.lists.proofs.Laws.{same-refl, same-ne}
+use Rattle.records.specs.Records.{Known}
+use Rattle.rules.specs.Book.{Book, stateOf}
+use Rattle.rules.specs.Requests.{Call, Request, running}
+use Rattle.rules.specs.Plans.{View, refused, need}
+use Rattle.rules.specs.Rules.{call, asCaller, plan}
+use Rattle.rules.specs.Keeper.{lists, Entries, entries, sorted, State, view, scheduled, asks, runs, answers, fresh}
+use Rattle.rules.specs.Sound.{Sound}
+use Rattle.rules.specs.Replay.{Fits, Accounts, First}
+use Rattle.rules.proofs.Fits.{fits-state, sorted-fits}
+use Rattle.rules.proofs.Alike.{Alike, fresh-alike, order-alike, runs-alike, answers-alike}
+use Rattle.rules.proofs.Notes.{notes, alike-accounts, accounts-alike, chained-accounts}
+
+-- a call of the running program acts for the first of those in state 1; where there is none it is refused
+pub data Acts (a : State lists) (en : ℕ → ℕ) (c : Call) : Type 0 where
+  for-none : ((z : ℕ) → Known z → stateOf (a .book) z ≢ 1) → asks lists a (running c) ≡ refused 2 0 → Acts a en c
+  for-first : (p : ℕ) → First (a .book) en 1 p → asks lists a (running c) ≡ call (view lists a) p c → Acts a en c
+
+-- the chains a, and the replay t that keeps none
+pub record Holds (a : State lists) (t : State entries) : Type 0 where
+  pub book : t .book ≡ a .book
+  pub accounts : Accounts a (t .kept)
+  pub sorts : (s : ℕ) → 1 ≤ s → s < 7 → Fits (a .book) (t .kept .entry) s (sorted (a .book) (t .kept) s)
+  pub chains : (s : ℕ) → 1 ≤ s → s < 7 → getD (a .kept) s [] ≡ sorted (a .book) (t .kept) s
+  pub acts : (c : Call) → Acts a (t .kept .entry) c
+
+-- the same after a run of requests, which have the same answers
+pub record Replayed (a : State lists) (t : State entries) (qs : List Request) : Type 0 where
+  pub holds : Holds (runs lists a qs) (runs entries t qs)
+  pub answered : answers lists a qs ≡ answers entries t qs
+
+-- the first of a chain, and an empty one
+head-first : (b : Book) (en : ℕ → ℕ) (s p : ℕ) (ps : List ℕ) → Fits b en s (p ∷ ps) → First b en s p
+head-first b en s p ps F =
+    let here : 1 ≤ count p (p ∷ ps) = omega (arith, same-refl p) in
+    record {
+      known = F .within p here;
+      there = fits-state b en s (p ∷ ps) F p here;
+      least = λ z Z e n. F .ascends .0 z (omega (arith, F .member z Z, ap (λ (x : ℕ). same x s) e, same-refl s, same-ne z p n));
+    }
+
+none-there : (b : Book) (en : ℕ → ℕ) (s : ℕ) → Fits b en s [] → (z : ℕ) → Known z → stateOf b z ≢ s
+none-there b en s F z Z e = omega (arith, F .member z Z, ap (λ (x : ℕ). same x s) e, same-refl s)
+
+for-nobody : (v : View) (c : Call) → plan v [] (running c) ≡ refused 2 0
+unfolding plan asCaller need
+for-nobody v c = refl
+
+for-head : (v : View) (p : ℕ) (ps : List ℕ) (c : Call) → 1 ≤ p → plan v (p ∷ ps) (running c) ≡ call v p c
+unfolding plan asCaller need
+for-head v p ps c h = rw (lt-ltb 0 p h)
+
+alike-acts : (a : State lists) (t : State entries) → Alike a t → (c : Call) → Acts a (t .kept .entry) c
+alike-acts a t A c = go (scheduled lists a) refl (A .fits 1 (omega arith) (omega arith))
+  where
+    go : (l : List ℕ) → scheduled lists a ≡ l → Fits (a .book) (t .kept .entry) 1 l → Acts a (t .kept .entry) c
+    go [] e F = for-none (none-there (a .book) (t .kept .entry) 1 F) (ap (λ (l : List ℕ). plan (view lists a) l (running c)) e ∙ for-nobody (view lists a) c)
+    go (p ∷ ps) e F =
+        let f : First (a .book) (t .kept .entry) 1 p = head-first (a .book) (t .kept .entry) 1 p ps F in
+        for-first p f (ap (λ (l : List ℕ). plan (view lists a) l (running c)) e ∙ for-head (view lists a) p ps c (f .known .0))
+
+alike-holds : (a : State lists) (t : State entries) → Alike a t → Holds a t
+alike-holds a t A = record {
+  book = A .book;
+  accounts = alike-accounts a t A;
+  sorts = λ s l h. sorted-fits (a .book) (t .kept) (A .noted) s l;
+  chains = λ s l h. sym (order-alike a t A s l h) ∙ ap (λ (b : Book). sorted b (t .kept) s) (A .book);
+  acts = alike-acts a t A;
+}
+
+alike-replayed : (a : State lists) (t : State entries) → Alike a t → (qs : List Request) → Replayed a t qs
+alike-replayed a t A qs = record {
+  holds = alike-holds (runs lists a qs) (runs entries t qs) (runs-alike qs a t A);
+  answered = answers-alike qs a t A;
+}
+
+-- from any sound tables on, and any entries that account for them
+pub demand : (a : State lists) (e : Entries) → Sound a → Accounts a e → (qs : List Request) → Replayed a (record { book = a .book; kept = e }) qs
+demand a e S A = alike-replayed a (record { book = a .book; kept = e }) (accounts-alike a e (S .shape) A)
+
+-- sound tables have such entries
+pub accounted : (a : State lists) → Sound a → Accounts a (notes (a .book) (a .kept))
+accounted a S = chained-accounts a (S .chains)
+
+-- from fresh tables of any size on
+pub demand-fresh : (T S R : ℕ) (qs : List Request) → Replayed (fresh lists T S R) (fresh entries T S R) qs
+demand-fresh T S R = alike-replayed (fresh lists T S R) (fresh entries T S R) (fresh-alike T S R)

@@ -1,0 +1,54 @@
+-- A request that is refused has a number of the outline's list, 2 to 14, and leaves the state as it was: for every request, under any keeper.
+-- A plan that is a refusal holds no events, so nothing can happen; its number is read off the rules by the one walk over them.
+-- Assumes nothing.
+use Prim.Native.Nat.{ℕ, _≤_}
+use native.Mathlib.Omega.{arith}
+use mathlib.Core.Path.{_≡_, refl, ap, subst}
+use mathlib.Core.List.{List, [], _∷_}
+use Rattle.lists.proofs.Tests.{upTo-true}
+use Rattle.rules.specs.Requests.{Request}
+use Rattle.rules.specs.Plans.{Plan, refused, done, waiting, View, numberOf, eventsOf}
+use Rattle.rules.specs.Rules.{plan}
+use Rattle.rules.specs.Keeper.{Keeper, State, play, view, scheduled, asks, after, runs}
+use Rattle.rules.proofs.Parts.{Listed, plan-of}
+
+-- what is said of the answer to a request
+pub record Answered (K : Keeper) (t : State K) (q : Request) : Type 0 where
+  pub highest : numberOf (asks K t q) ≤ 14
+  pub lowest : (a v : ℕ) → asks K t q ≡ refused a v → 2 ≤ a
+  pub nothing : 2 ≤ numberOf (asks K t q) → eventsOf (asks K t q) ≡ []
+  pub stays : 2 ≤ numberOf (asks K t q) → after K t q ≡ t
+
+plan-listed : (v : View) (c : List ℕ) (q : Request) → Listed (plan v c q)
+plan-listed v c q =
+    plan-of (λ p d. Unit {0}) (Unit {0}) v c q (record {
+      fresh = λ T S R e. tt;
+      caller = λ h d. tt;
+      named = λ h d. tt;
+      due = λ e x k h d. tt;
+      woken = λ x h. tt;
+    }) .number
+
+listed-highest : (x : Plan) → Listed x → numberOf x ≤ 14
+listed-highest (refused a v) h = upTo-true 2 14 a h .1
+listed-highest (done vs es) h = omega arith
+listed-highest (waiting s es) h = omega arith
+
+refusal-nothing : (x : Plan) → 2 ≤ numberOf x → eventsOf x ≡ []
+refusal-nothing (refused a v) h = refl
+refusal-nothing (done vs es) h = absurd (omega arith)
+refusal-nothing (waiting s es) h = absurd (omega arith)
+
+pub answered : (K : Keeper) (t : State K) (q : Request) → Answered K t q
+answered K t q =
+    let listed : Listed (asks K t q) = plan-listed (view K t) (scheduled K t) q in
+    record {
+      highest = listed-highest (asks K t q) listed;
+      lowest = λ a v e. upTo-true 2 14 a (subst Listed e listed) .0;
+      nothing = refusal-nothing (asks K t q);
+      stays = λ h. ap (λ (es : List _). play K es t) (refusal-nothing (asks K t q) h);
+    }
+
+-- a run goes on after a refusal as if it had not been asked
+pub refused-run : (K : Keeper) (t : State K) (q : Request) (qs : List Request) → 2 ≤ numberOf (asks K t q) → runs K t (q ∷ qs) ≡ runs K t qs
+refused-run K t q qs h = ap (λ (u : State K). runs K u qs) (answered K t q .stays h)
