@@ -4,6 +4,7 @@ use Prim.Native.Nat.{ℕ, _+_, _*_, _/_, _%_}
 use mathlib.Core.Bool.{cond}
 use mathlib.Core.List.{List, [], _∷_}
 use lib.Dec.{eqb}
+use Rattle.clock.specs.declared.Time.{Time}
 
 -- the highest reading of the clock (01, "The tables")
 abbrev pub ceiling : ℕ
@@ -20,3 +21,7 @@ farthest = 1_474_200_000
 -- day, hour, minute, second and hundredth (01, EXEC 11)
 unfoldable pub timeOf : ℕ → List ℕ
 timeOf c = (c / 8_640_000 % 365 + 1) ∷ (c / 360_000 % 24) ∷ (c / 6_000 % 60) ∷ (c / 100 % 60) ∷ (c % 100) ∷ []
+
+-- the same five numbers, as the code hands them over
+abbrev pub partsOf : Time → List ℕ
+partsOf t = t .day ∷ t .hour ∷ t .minute ∷ t .second ∷ t .hundredth ∷ []

@@ -3,15 +3,15 @@
 use Prim.Native.Nat.{ℕ, _+_, _-_, _≤_, _<_}
 use mathlib.Core.Path.{_≡_}
 use mathlib.Core.Bool.{Bool, true, _&&_}
-use mathlib.Core.List.{List, [], _∷_, _++_}
-use lib.ListN.{getD, take, drop, replicate}
+use mathlib.Core.List.{List, [], _∷_}
+use lib.ListN.{getD, drop}
 use lib.Dec.{eqb}
 use Rattle.lists.specs.Lists.{every}
 use Rattle.records.specs.declared.Resource.{Resource}
-use Rattle.records.specs.declared.Numbers.{Numbers}
 use Rattle.records.specs.Numbers.{free, numberAt}
-use Rattle.tracks.specs.declared.Tracks.{Tracks}
-use Rattle.tracks.specs.Tracks.{nobody, holders}
+use Rattle.records.specs.Numbers as numbers
+use Rattle.tracks.specs.Tracks.{nobody}
+use Rattle.tracks.specs.Tracks as tracks
 use Rattle.rules.specs.Book.{Book}
 use Rattle.ledger.specs.declared.Ledger.{Ledger}
 
@@ -23,16 +23,16 @@ bookOf l = record {
   tracks = l .tracks .count;
   system = l .tracks .system;
   numbers = l .numbers .count;
-  holders = holders (l .tracks);
-  resources = take (l .numbers .count) (l .numbers .resources);
+  holders = tracks.holders (l .tracks);
+  resources = numbers.resources (l .numbers);
 }
 
 abbrev pub ledgerOf : Book → Ledger
 ledgerOf b = record {
   programs = b .programs;
   clock = record { ticks = b .clock };
-  tracks = record { count = b .tracks; system = b .system; holders = b .holders ++ replicate (256 - b .tracks) nobody };
-  numbers = record { count = b .numbers; resources = b .resources ++ replicate (16 - b .numbers) free };
+  tracks = tracks.tableOf (b .tracks) (b .system) (b .holders);
+  numbers = numbers.tableOf (b .numbers) (b .resources);
 }
 
 -- entries at T and above, or above R, are blank

@@ -2,10 +2,11 @@
 -- Assumes nothing.
 use Prim.Native.Nat.{ℕ, _-_}
 use mathlib.Core.Bool.{Bool, true, false, cond, _||_}
-use mathlib.Core.List.{List, [], _∷_}
-use lib.ListN.{getD, set}
+use mathlib.Core.List.{List, [], _∷_, _++_}
+use lib.ListN.{getD, set, take, replicate}
 use lib.Dec.{eqb}
 use Rattle.records.specs.declared.Resource.{Resource}
+use Rattle.records.specs.declared.Numbers.{Numbers}
 
 -- the owner of a number that is owned globally; 0 is no owner, and no lock
 abbrev pub globally : ℕ
@@ -13,6 +14,13 @@ globally = 33
 
 abbrev pub free : Resource
 free = record { owner = 0; lock = 0 }
+
+-- numbers 1 to R; and the table of R numbers, blank behind
+abbrev pub resources : Numbers → List Resource
+resources t = take (t .count) (t .resources)
+
+abbrev pub tableOf : ℕ → List Resource → Numbers
+tableOf R xs = record { count = R; resources = xs ++ replicate (16 - R) free }
 
 -- number r, and the table with another in its place
 abbrev pub numberAt : List Resource → ℕ → Resource

@@ -2,6 +2,7 @@
 -- Assumes nothing.
 use Prim.Native.Nat.{ℕ}
 use mathlib.Core.List.{List, [], _∷_}
+use Rattle.clock.specs.Clock.{partsOf}
 use Rattle.rules.specs.declared.Answer.{Answer}
 use Rattle.rules.specs.declared.Answer.the-variants.{Done, Told, Waits, NoCaller, NotAllowed, NoProgram, WrongState, NameInUse, AllUsed, NoRoom, NotHolder, NotAllocated, AtCeiling, TooShort, NotUnderstood, NotSound}
 
@@ -26,7 +27,7 @@ number NotSound = 14
 -- one value, or the five parts of the time
 abbrev pub values : Answer → List ℕ
 values (Done v) = v ∷ []
-values (Told t) = t .day ∷ t .hour ∷ t .minute ∷ t .second ∷ t .hundredth ∷ []
+values (Told t) = partsOf t
 values (Waits s) = s ∷ []
 values NoCaller = 0 ∷ []
 values NotAllowed = 0 ∷ []

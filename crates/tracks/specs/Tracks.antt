@@ -1,11 +1,11 @@
 -- Tracks, as a list of who holds each, from track 0 on (01, "The tables", and EXEC 4, 5, 15 and 16).
 -- Assumes nothing.
-use Prim.Native.Nat.{ℕ, zero, suc, _+_, _≤_, _<_}
+use Prim.Native.Nat.{ℕ, zero, suc, _+_, _-_, _≤_, _<_}
 use mathlib.Core.Path.{_≡_}
 use mathlib.Core.Bool.{Bool, true, false, cond}
-use mathlib.Core.List.{List, [], _∷_}
+use mathlib.Core.List.{List, [], _∷_, _++_}
 use mathlib.Core.Option.{Option, none, some}
-use lib.ListN.{length, getD, set, take}
+use lib.ListN.{length, getD, set, take, replicate}
 use lib.Dec.{eqb}
 use Rattle.tracks.specs.declared.Tracks.{Tracks}
 
@@ -19,9 +19,12 @@ everybody = 33
 abbrev pub system : ℕ
 system = 34
 
--- who holds tracks 0 to T - 1
+-- who holds tracks 0 to T - 1; and the table of T tracks with those holders, S of them the system's, blank behind
 abbrev pub holders : Tracks → List ℕ
 holders t = take (t .count) (t .holders)
+
+abbrev pub tableOf : ℕ → ℕ → List ℕ → Tracks
+tableOf T S xs = record { count = T; system = S; holders = xs ++ replicate (256 - T) nobody }
 
 -- the first n are all h's
 abbrev pub run : ℕ → ℕ → List ℕ → Bool
