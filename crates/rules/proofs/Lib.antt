@@ -10,3 +10,8 @@ pub mod Refusals
 pub mod Demand
 pub mod FrameLaws
 pub mod Guard
+pub mod IfDone
+pub mod Claims
+pub mod Freed
+pub mod Rising
+pub mod CountLaws
