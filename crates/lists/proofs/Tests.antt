@@ -6,9 +6,10 @@ use mathlib.Core.Path.{_≡_, refl, sym, ap, ap₂, _∙_}
 use mathlib.Core.Logic.{_≢_}
 use mathlib.Core.Bool.{Bool, true, false, not, _&&_, _||_}
 use mathlib.Core.List.{List, [], _∷_}
+use lib.ListN.{getD}
 use lib.Dec.{leb, ltb, eqb}
 use borrow.Author.Tests.{eq-eqb, ne-eqb, eqb-true, eqb-false, leb-true, le-leb}
-use Rattle.lists.specs.Lists.{count, every, from, upTo, alike}
+use Rattle.lists.specs.Lists.{count, every, along, from, upTo, alike}
 use Rattle.lists.proofs.Laws.{same-refl, among}
 
 pub false-true : {A : Type 0} → false ≡ true → A
@@ -49,6 +50,25 @@ every-in f (q ∷ qs) e x h =
 pub every-is : (f : ℕ → Bool) (c : List ℕ) → ((x : ℕ) → 1 ≤ count x c → f x ≡ true) → every f c ≡ true
 every-is f [] h = refl
 every-is f (q ∷ qs) h = and (h q (omega (arith, same-refl q))) (every-is f qs (λ x k. h x (omega arith)))
+
+-- n places from i on
+pub along-in : {A : Type 0} (d : A) (f : ℕ → A → Bool) (i n : ℕ) (xs : List A) → along d f i n xs ≡ true → (k : ℕ) → k < n → f (k + i) (getD xs k d) ≡ true
+along-in d f i zero xs e k h = absurd (omega arith)
+along-in d f i (suc n) [] e zero h = ap (λ (x : ℕ). f x d) (omega arith) ∙ (both (f i d) (along d f (suc i) n []) e) .0
+along-in d f i (suc n) [] e (suc k) h =
+    ap (λ (x : ℕ). f x d) (omega arith) ∙ along-in d f (suc i) n [] ((both (f i d) (along d f (suc i) n []) e) .1) k (omega arith)
+along-in d f i (suc n) (x ∷ xs) e zero h = ap (λ (y : ℕ). f y x) (omega arith) ∙ (both (f i x) (along d f (suc i) n xs) e) .0
+along-in d f i (suc n) (x ∷ xs) e (suc k) h =
+    ap (λ (y : ℕ). f y (getD xs k d)) (omega arith) ∙ along-in d f (suc i) n xs ((both (f i x) (along d f (suc i) n xs) e) .1) k (omega arith)
+
+pub along-is : {A : Type 0} (d : A) (f : ℕ → A → Bool) (i n : ℕ) (xs : List A) → ((k : ℕ) → k < n → f (k + i) (getD xs k d) ≡ true) → along d f i n xs ≡ true
+along-is d f i zero xs h = refl
+along-is d f i (suc n) [] h =
+    and (ap (λ (x : ℕ). f x d) (omega arith) ∙ h 0 (omega arith))
+    (along-is d f (suc i) n [] (λ k l. ap (λ (x : ℕ). f x d) (omega arith) ∙ h (suc k) (omega arith)))
+along-is d f i (suc n) (x ∷ xs) h =
+    and (ap (λ (y : ℕ). f y x) (omega arith) ∙ h 0 (omega arith))
+    (along-is d f (suc i) n xs (λ k l. ap (λ (y : ℕ). f y (getD xs k d)) (omega arith) ∙ h (suc k) (omega arith)))
 
 -- from low to high
 pub upTo-true : (l h n : ℕ) → upTo l h n ≡ true → (l ≤ n) × (n ≤ h)

@@ -36,6 +36,12 @@ abbrev pub any : (ℕ → Bool) → List ℕ → Bool
 any f [] = false
 any f (q ∷ qs) = f q || any f qs
 
+-- a test of n places and what stands at each, from place i on; d is what stands past the end
+abbrev pub along : {A : Type 0} → A → (ℕ → A → Bool) → ℕ → ℕ → List A → Bool
+along d f i zero xs = true
+along d f i (suc n) [] = f i d && along d f (suc i) n []
+along d f i (suc n) (x ∷ xs) = f i x && along d f (suc i) n xs
+
 -- n numbers from p up
 abbrev pub from : ℕ → ℕ → List ℕ
 from p zero = []

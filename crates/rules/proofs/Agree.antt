@@ -10,41 +10,44 @@ use mathlib.Core.List.{List, [], _∷_}
 use lib.ListN.{getD}
 use lib.Dec.{leb, ltb, eqb}
 use borrow.Author.Tests.{eq-eqb, ne-eqb, eqb-true, eqb-false, leb-true, le-leb, ltb-true, ltb-false, lt-ltb, le-ltb}
-use Rattle.lists.specs.Lists.{same, count, every, from, upTo, alike, Ascending}
-use Rattle.lists.proofs.Laws.{same-refl, count-from, from-in}
-use Rattle.lists.proofs.Tests.{false-true, both, and, unless, implies, otherwise, or, every-in, every-is, upTo-true, upTo-is, alike-true, alike-refl}
-use Rattle.clock.specs.Clock.{ceiling, farthest}
+use Rattle.lists.specs.Lists.{along, alike}
+use Rattle.lists.proofs.Tests.{false-true, both, and, unless, implies, otherwise, or, along-in, along-is, upTo-true, upTo-is, alike-true, alike-refl}
+use Rattle.clock.specs.Clock.{farthest}
 use Rattle.records.specs.declared.Program.{Program}
 use Rattle.records.specs.declared.Resource.{Resource}
 use Rattle.records.specs.declared.Why.{Why}
 use Rattle.records.specs.declared.Why.the-variants.{Nothing, Tracks, Son, Lock, Number}
 use Rattle.records.specs.Names.{legal}
-use Rattle.records.specs.Records.{Known, known, all, unused}
-use Rattle.records.specs.Numbers.{globally, numberAt}
-use Rattle.tracks.specs.Tracks.{system}
+use Rattle.records.specs.Records.{Known, known, missing, unused}
+use Rattle.records.specs.Numbers.{free, numberAt}
+use Rattle.tracks.specs.Tracks.{nobody}
 use Rattle.rules.specs.Book.{Book, at, stateOf, prioOf, whyOf, holderOf}
-use Rattle.rules.specs.Sound.{Ours, Names, Zeros, Chains, suits, Whys, System, Users, Unlocked, Limits, Dues}
-use Rattle.rules.specs.Test.{programs, tracks, numbers, nothing, sonOf, zeros, rising, used, testNames, testZeros, testChains, testWhys, testSystem, testUsers, testUnlocked, testLimits, testDues}
-use Rattle.rules.proofs.Places.{known-true, known-is, all-one, all-in}
+use Rattle.rules.specs.Sound.{Ours, Names, Zeros, suits, Whys, Dues}
+use Rattle.rules.specs.Test.{programs, tracks, numbers, nothing, sonOf, zeros, testNames, testZeros, testWhys, testDues}
+use Rattle.rules.proofs.Places.{known-true}
 
 -- every program, track and number
-pub program-in : (f : ℕ → Bool) → programs f ≡ true → (p : ℕ) → Known p → f p ≡ true
-program-in f e p P = every-in f all e p (omega (arith, all-one p P))
+pub program-in : (b : Book) (f : ℕ → Program → Bool) → programs b f ≡ true → (p : ℕ) → Known p → f p (at b p) ≡ true
+program-in b f e p P =
+    ap (λ (x : ℕ). f x (at b p)) (omega arith) ∙ along-in missing f 1 32 (b .programs) e (p - 1) (omega arith)
 
-pub program-is : (f : ℕ → Bool) → ((p : ℕ) → Known p → f p ≡ true) → programs f ≡ true
-program-is f h = every-is f all (λ p k. h p (all-in p k))
+pub program-is : (b : Book) (f : ℕ → Program → Bool) → ((p : ℕ) → Known p → f p (at b p) ≡ true) → programs b f ≡ true
+program-is b f h =
+    along-is missing f 1 32 (b .programs) (λ k l. ap (λ (x : ℕ). f (k + 1) (getD (b .programs) x missing)) (omega arith) ∙ h (k + 1) (omega arith, omega arith))
 
-pub track-in : (b : Book) (f : ℕ → Bool) → tracks b f ≡ true → (i : ℕ) → i < b .tracks → f i ≡ true
-track-in b f e i h = every-in f (from 0 (b .tracks)) e i (omega (arith, count-from i 0 (b .tracks) (omega arith) (omega arith)))
+pub track-in : (b : Book) (f : ℕ → ℕ → Bool) → tracks b f ≡ true → (i : ℕ) → i < b .tracks → f i (holderOf b i) ≡ true
+track-in b f e i h = ap (λ (x : ℕ). f x (holderOf b i)) (omega arith) ∙ along-in nobody f 0 (b .tracks) (b .holders) e i h
 
-pub track-is : (b : Book) (f : ℕ → Bool) → ((i : ℕ) → i < b .tracks → f i ≡ true) → tracks b f ≡ true
-track-is b f h = every-is f (from 0 (b .tracks)) (λ i k. h i (omega (arith, (from-in i 0 (b .tracks) k) .1)))
+pub track-is : (b : Book) (f : ℕ → ℕ → Bool) → ((i : ℕ) → i < b .tracks → f i (holderOf b i) ≡ true) → tracks b f ≡ true
+track-is b f h = along-is nobody f 0 (b .tracks) (b .holders) (λ i l. ap (λ (x : ℕ). f x (holderOf b i)) (omega arith) ∙ h i l)
 
 pub number-in : (b : Book) (f : Resource → Bool) → numbers b f ≡ true → (r : ℕ) → Ours b r → f (numberAt (b .resources) r) ≡ true
-number-in b f e r h = every-in (λ r. f (numberAt (b .resources) r)) (from 1 (b .numbers)) e r (omega (arith, count-from r 1 (b .numbers) (h .0) (omega arith)))
+number-in b f e r h = along-in free (λ r x. f x) 1 (b .numbers) (b .resources) e (r - 1) (omega arith)
 
 pub number-is : (b : Book) (f : Resource → Bool) → ((r : ℕ) → Ours b r → f (numberAt (b .resources) r) ≡ true) → numbers b f ≡ true
-number-is b f h = every-is (λ r. f (numberAt (b .resources) r)) (from 1 (b .numbers)) (λ r k. let i = from-in r 1 (b .numbers) k in h r (i .0, omega (arith, i .1)))
+number-is b f h =
+    along-is free (λ r x. f x) 1 (b .numbers) (b .resources)
+    (λ k l. ap (λ (x : ℕ). f (getD (b .resources) x free)) (omega arith) ∙ h (k + 1) (omega arith, omega arith))
 
 -- a test that fails
 pub not-is : (a : Bool) → a ≡ false → not a ≡ true
@@ -59,10 +62,10 @@ pub true-false : {A : Type 0} (a : Bool) → a ≡ true → a ≡ false → A
 true-false a h k = false-true (sym k ∙ h)
 
 -- names
-distinctly : Book → ℕ → ℕ → Bool
-distinctly b p q = eqb p q || not (at b q .used) || not (alike (at b p .name) (at b q .name))
+distinctly : ℕ → Program → ℕ → Program → Bool
+distinctly p r q s = eqb p q || not (s .used) || not (alike (r .name) (s .name))
 
-distinct-true : (b : Book) (p q : ℕ) → distinctly b p q ≡ true → at b q .used ≡ true → at b p .name ≡ at b q .name → p ≡ q
+distinct-true : (b : Book) (p q : ℕ) → distinctly p (at b p) q (at b q) ≡ true → at b q .used ≡ true → at b p .name ≡ at b q .name → p ≡ q
 unfolding distinctly
 distinct-true b p q e u n = yes-or-no (eqb p q) (eqb-true p q) (λ w.
     let z : not (at b q .used) ≡ false = ap not u in
@@ -70,7 +73,7 @@ distinct-true b p q e u n = yes-or-no (eqb p q) (eqb-true p q) (λ w.
     let m : not (alike (at b p .name) (at b q .name)) ≡ true = otherwise (eqb p q || not (at b q .used)) (not (alike (at b p .name) (at b q .name))) e (rw (w, z)) in
     true-false (not (alike (at b p .name) (at b q .name))) m (ap not k))
 
-distinct-is : (b : Book) (p q : ℕ) → (at b q .used ≡ true → at b p .name ≡ at b q .name → p ≡ q) → distinctly b p q ≡ true
+distinct-is : (b : Book) (p q : ℕ) → (at b q .used ≡ true → at b p .name ≡ at b q .name → p ≡ q) → distinctly p (at b p) q (at b q) ≡ true
 unfolding distinctly
 distinct-is b p q h =
     or (eqb p q || not (at b q .used)) (not (alike (at b p .name) (at b q .name)))
@@ -84,25 +87,28 @@ distinct-is b p q h =
     go false false i j e k = false-true (sym e)
     go false true i j e k = absurd (eqb-false p q i (h j (alike-true (at b p .name) (at b q .name) k)))
 
+named-well : Book → ℕ → Program → Bool
+unfolding distinctly
+named-well b p r = legal (r .name) && programs b (distinctly p r)
+
 pub names-clause : (b : Book) → testNames b ≡ true → Names b
-unfolding testNames distinctly
+unfolding testNames named-well distinctly
 names-clause b e = record {
   lawful = λ p P u. (here p P u) .0;
-  distinct = λ p q P Q u w n. distinct-true b p q (program-in (distinctly b p) ((here p P u) .1) q Q) w n;
+  distinct = λ p q P Q u w n. distinct-true b p q (program-in b (distinctly p (at b p)) ((here p P u) .1) q Q) w n;
 }
   where
-    here : (p : ℕ) → Known p → at b p .used ≡ true → (legal (at b p .name) ≡ true) × (programs (distinctly b p) ≡ true)
+    here : (p : ℕ) → Known p → at b p .used ≡ true → (legal (at b p .name) ≡ true) × (programs b (distinctly p (at b p)) ≡ true)
     here p P u =
-        both (legal (at b p .name)) (programs (distinctly b p))
-        (unless (at b p .used) (legal (at b p .name) && programs (distinctly b p))
-        (program-in (λ p. not (at b p .used) || (legal (at b p .name) && programs (distinctly b p))) e p P) u)
+        both (legal (at b p .name)) (programs b (distinctly p (at b p)))
+        (unless (at b p .used) (named-well b p (at b p)) (program-in b (λ p r. not (r .used) || named-well b p r) e p P) u)
 
 pub names-test : (b : Book) → Names b → testNames b ≡ true
-unfolding testNames distinctly
+unfolding testNames named-well distinctly
 names-test b N =
-    program-is (λ p. not (at b p .used) || (legal (at b p .name) && programs (distinctly b p)))
-    (λ p P. implies (at b p .used) (legal (at b p .name) && programs (distinctly b p))
-    (λ u. and (N .lawful p P u) (program-is (distinctly b p) (λ q Q. distinct-is b p q (λ w n. N .distinct p q P Q u w n)))))
+    program-is b (λ p r. not (r .used) || named-well b p r) (λ p P.
+    implies (at b p .used) (named-well b p (at b p)) (λ u.
+    and (N .lawful p P u) (program-is b (distinctly p (at b p)) (λ q Q. distinct-is b p q (λ w n. N .distinct p q P Q u w n)))))
 
 -- zeros
 nothing-true : (w : Why) → nothing w ≡ true → w ≡ Nothing
@@ -130,28 +136,34 @@ zeros-true r e u =
 zeros-is : (r : Program) → r ≡ unused → zeros r ≡ true
 zeros-is r e = rw e
 
+tidy : Program → Bool
+tidy r = (r .used || zeros r) && (not (eqb (r .due) 0) || eqb (r .interval) 0)
+
 pub zeros-clause : (b : Book) → testZeros b ≡ true → Zeros b
-unfolding testZeros
+unfolding testZeros tidy
 zeros-clause b e = record {
   empty = λ p P u. zeros-true (at b p) (otherwise (at b p .used) (zeros (at b p)) ((here p P) .0) u) u;
   timeless = λ p P z. eqb-true (at b p .interval) 0 (unless (eqb (at b p .due) 0) (eqb (at b p .interval) 0) ((here p P) .1) (eq-eqb (at b p .due) 0 z));
 }
   where
     here : (p : ℕ) → Known p → ((at b p .used || zeros (at b p)) ≡ true) × ((not (eqb (at b p .due) 0) || eqb (at b p .interval) 0) ≡ true)
-    here p P = both (at b p .used || zeros (at b p)) (not (eqb (at b p .due) 0) || eqb (at b p .interval) 0)
-        (program-in (λ p. (at b p .used || zeros (at b p)) && (not (eqb (at b p .due) 0) || eqb (at b p .interval) 0)) e p P)
+    here p P = both (at b p .used || zeros (at b p)) (not (eqb (at b p .due) 0) || eqb (at b p .interval) 0) (program-in b (λ p r. tidy r) e p P)
 
 pub zeros-test : (b : Book) → Zeros b → testZeros b ≡ true
-unfolding testZeros
+unfolding testZeros tidy
 zeros-test b Z =
-    program-is (λ p. (at b p .used || zeros (at b p)) && (not (eqb (at b p .due) 0) || eqb (at b p .interval) 0))
-    (λ p P. and
+    program-is b (λ p r. tidy r) (λ p P.
+    and
     (or (at b p .used) (zeros (at b p)) (λ u. zeros-is (at b p) (Z .empty p P u)))
     (implies (eqb (at b p .due) 0) (eqb (at b p .interval) 0) (λ z. eq-eqb (at b p .interval) 0 (Z .timeless p P (eqb-true (at b p .due) 0 z)))))
 
 -- whys
-awaits-one : Book → ℕ → ℕ → Bool
-awaits-one b p q = eqb p q || not (eqb (sonOf (whyOf b p)) (sonOf (whyOf b q)))
+awaits-one : ℕ → Program → ℕ → Program → Bool
+awaits-one p r q s = eqb p q || not (eqb (sonOf (r .why)) (sonOf (s .why)))
+
+waits-well : Book → ℕ → Program → Bool
+unfolding awaits-one
+waits-well b p r = suits b p (r .state) (r .why) && (eqb (sonOf (r .why)) 0 || programs b (awaits-one p r))
 
 son-known : (b : Book) (p s k : ℕ) → suits b p s (Son k) ≡ true → Known k
 son-known b p s k e =
@@ -169,7 +181,7 @@ son-why (Lock r) k h e = absurd (omega arith)
 son-why Number k h e = absurd (omega arith)
 
 pub whys-clause : (b : Book) → testWhys b ≡ true → Whys b
-unfolding testWhys awaits-one
+unfolding testWhys waits-well awaits-one
 whys-clause b e = record {
   fitting = λ p P. (here p P) .0;
   once = λ p q k P Q h j.
@@ -177,58 +189,64 @@ whys-clause b e = record {
       let sp : sonOf (whyOf b p) ≡ k = ap sonOf h in
       let sq : sonOf (whyOf b q) ≡ k = ap sonOf j in
       let n : eqb (sonOf (whyOf b p)) 0 ≡ false = ne-eqb (sonOf (whyOf b p)) 0 (λ w. omega (arith, K .0)) in
-      let t : awaits-one b p q ≡ true = program-in (awaits-one b p) (otherwise (eqb (sonOf (whyOf b p)) 0) (programs (awaits-one b p)) ((here p P) .1) n) q Q in
+      let t : awaits-one p (at b p) q (at b q) ≡ true =
+      program-in b (awaits-one p (at b p)) (otherwise (eqb (sonOf (whyOf b p)) 0) (programs b (awaits-one p (at b p))) ((here p P) .1) n) q Q in
       yes-or-no (eqb p q) (eqb-true p q) (λ w.
       true-false (not (eqb (sonOf (whyOf b p)) (sonOf (whyOf b q)))) (otherwise (eqb p q) (not (eqb (sonOf (whyOf b p)) (sonOf (whyOf b q)))) t w)
       (ap not (eq-eqb (sonOf (whyOf b p)) (sonOf (whyOf b q)) (sp ∙ sym sq))));
 }
   where
-    here : (p : ℕ) → Known p → (suits b p (stateOf b p) (whyOf b p) ≡ true) × ((eqb (sonOf (whyOf b p)) 0 || programs (awaits-one b p)) ≡ true)
-    here p P = both (suits b p (stateOf b p) (whyOf b p)) (eqb (sonOf (whyOf b p)) 0 || programs (awaits-one b p))
-        (program-in (λ p. suits b p (stateOf b p) (whyOf b p) && (eqb (sonOf (whyOf b p)) 0 || programs (awaits-one b p))) e p P)
+    here : (p : ℕ) → Known p → (suits b p (stateOf b p) (whyOf b p) ≡ true) × ((eqb (sonOf (whyOf b p)) 0 || programs b (awaits-one p (at b p))) ≡ true)
+    here p P =
+        both (suits b p (stateOf b p) (whyOf b p)) (eqb (sonOf (whyOf b p)) 0 || programs b (awaits-one p (at b p))) (program-in b (waits-well b) e p P)
+
+positive : (n : ℕ) → (n ≡ 0 → ⊥) → 1 ≤ n
+positive zero h = absurd (h refl)
+positive (suc n) h = omega arith
 
 pub whys-test : (b : Book) → Whys b → testWhys b ≡ true
-unfolding testWhys awaits-one
+unfolding testWhys waits-well awaits-one
 whys-test b W =
-    program-is (λ p. suits b p (stateOf b p) (whyOf b p) && (eqb (sonOf (whyOf b p)) 0 || programs (awaits-one b p)))
-    (λ p P. and (W .fitting p P)
-    (or (eqb (sonOf (whyOf b p)) 0) (programs (awaits-one b p)) (λ n.
-    let l : 1 ≤ sonOf (whyOf b p) = pos (sonOf (whyOf b p)) (eqb-false (sonOf (whyOf b p)) 0 n) in
-    program-is (awaits-one b p) (λ q Q.
+    program-is b (waits-well b) (λ p P.
+    and (W .fitting p P)
+    (or (eqb (sonOf (whyOf b p)) 0) (programs b (awaits-one p (at b p))) (λ n.
+    let l : 1 ≤ sonOf (whyOf b p) = positive (sonOf (whyOf b p)) (eqb-false (sonOf (whyOf b p)) 0 n) in
+    program-is b (awaits-one p (at b p)) (λ q Q.
     or (eqb p q) (not (eqb (sonOf (whyOf b p)) (sonOf (whyOf b q)))) (λ w.
     not-is (eqb (sonOf (whyOf b p)) (sonOf (whyOf b q))) (ne-eqb (sonOf (whyOf b p)) (sonOf (whyOf b q)) (λ s.
-    eqb-false p q w (W .once p q (sonOf (whyOf b p)) P Q (son-why (whyOf b p) (sonOf (whyOf b p)) l refl) (son-why (whyOf b q) (sonOf (whyOf b p)) l (sym s))))))))))
-  where
-    pos : (n : ℕ) → (n ≡ 0 → ⊥) → 1 ≤ n
-    pos zero h = absurd (h refl)
-    pos (suc n) h = omega arith
+    eqb-false p q w
+    (W .once p q (sonOf (whyOf b p)) P Q (son-why (whyOf b p) (sonOf (whyOf b p)) l refl) (son-why (whyOf b q) (sonOf (whyOf b p)) l (sym s))))))))))
 
 -- dues
-in-time : Book → ℕ → Bool
-in-time b p = ltb (b .clock) (at b p .due) && leb (at b p .due) (b .clock + farthest)
+in-time : Book → Program → Bool
+in-time b r = ltb (b .clock) (r .due) && leb (r .due) (b .clock + farthest)
+
+timed-well : Book → Program → Bool
+unfolding in-time
+timed-well b r = (eqb (r .due) 0 || in-time b r) && leb (r .interval) farthest
 
 pub dues-clause : (b : Book) → testDues b ≡ true → Dues b
-unfolding testDues in-time
+unfolding testDues timed-well in-time
 dues-clause b e = record {
   above = λ p P n. ltb-true (b .clock) (at b p .due) ((timely p P n) .0);
   near = λ p P n. leb-true (at b p .due) (b .clock + farthest) ((timely p P n) .1);
   steps = λ p P. leb-true (at b p .interval) farthest ((here p P) .1);
 }
   where
-    here : (p : ℕ) → Known p → ((eqb (at b p .due) 0 || in-time b p) ≡ true) × (leb (at b p .interval) farthest ≡ true)
-    here p P = both (eqb (at b p .due) 0 || in-time b p) (leb (at b p .interval) farthest)
-        (program-in (λ p. (eqb (at b p .due) 0 || in-time b p) && leb (at b p .interval) farthest) e p P)
+    here : (p : ℕ) → Known p → ((eqb (at b p .due) 0 || in-time b (at b p)) ≡ true) × (leb (at b p .interval) farthest ≡ true)
+    here p P = both (eqb (at b p .due) 0 || in-time b (at b p)) (leb (at b p .interval) farthest) (program-in b (λ p r. timed-well b r) e p P)
 
     timely : (p : ℕ) → Known p → at b p .due ≢ 0 → (ltb (b .clock) (at b p .due) ≡ true) × (leb (at b p .due) (b .clock + farthest) ≡ true)
-    timely p P n = both (ltb (b .clock) (at b p .due)) (leb (at b p .due) (b .clock + farthest))
-        (otherwise (eqb (at b p .due) 0) (in-time b p) ((here p P) .0) (ne-eqb (at b p .due) 0 n))
+    timely p P n =
+        both (ltb (b .clock) (at b p .due)) (leb (at b p .due) (b .clock + farthest))
+        (otherwise (eqb (at b p .due) 0) (in-time b (at b p)) ((here p P) .0) (ne-eqb (at b p .due) 0 n))
 
 pub dues-test : (b : Book) → Dues b → testDues b ≡ true
-unfolding testDues in-time
+unfolding testDues timed-well in-time
 dues-test b D =
-    program-is (λ p. (eqb (at b p .due) 0 || in-time b p) && leb (at b p .interval) farthest)
-    (λ p P. and
-    (or (eqb (at b p .due) 0) (in-time b p) (λ n.
+    program-is b (λ p r. timed-well b r) (λ p P.
+    and
+    (or (eqb (at b p .due) 0) (in-time b (at b p)) (λ n.
     and (lt-ltb (b .clock) (at b p .due) (D .above p P (eqb-false (at b p .due) 0 n)))
     (le-leb (at b p .due) (b .clock + farthest) (D .near p P (eqb-false (at b p .due) 0 n)))))
     (le-leb (at b p .interval) farthest (D .steps p P)))

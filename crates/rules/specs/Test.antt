@@ -5,28 +5,28 @@ use mathlib.Core.Bool.{Bool, true, false, not, _&&_, _||_, Bool·beq}
 use mathlib.Core.List.{List, [], _∷_}
 use lib.ListN.{length, getD}
 use lib.Dec.{leb, ltb, eqb}
-use Rattle.lists.specs.Lists.{same, count, every, from, upTo, alike}
+use Rattle.lists.specs.Lists.{same, count, every, along, from, upTo, alike}
 use Rattle.clock.specs.Clock.{ceiling, farthest}
 use Rattle.records.specs.declared.Program.{Program}
 use Rattle.records.specs.declared.Resource.{Resource}
 use Rattle.records.specs.declared.Why.{Why}
 use Rattle.records.specs.declared.Why.the-variants.{Nothing, Tracks, Son, Lock, Number}
 use Rattle.records.specs.Names.{legal}
-use Rattle.records.specs.Records.{known, all, unused}
-use Rattle.records.specs.Numbers.{globally, numberAt}
-use Rattle.tracks.specs.Tracks.{system}
-use Rattle.rules.specs.Book.{Book, at, stateOf, prioOf, whyOf, holderOf}
+use Rattle.records.specs.Records.{known, missing, unused}
+use Rattle.records.specs.Numbers.{globally, free}
+use Rattle.tracks.specs.Tracks.{nobody, system}
+use Rattle.rules.specs.Book.{Book, at, prioOf}
 use Rattle.rules.specs.Sound.{suits}
 
--- a test of every program, every track, every number
-abbrev pub programs : (ℕ → Bool) → Bool
-programs f = every f all
+-- a test of every program and its record, every track and its holder, every number
+abbrev pub programs : Book → (ℕ → Program → Bool) → Bool
+programs b f = along missing f 1 32 (b .programs)
 
-abbrev pub tracks : Book → (ℕ → Bool) → Bool
-tracks b f = every f (from 0 (b .tracks))
+abbrev pub tracks : Book → (ℕ → ℕ → Bool) → Bool
+tracks b f = along nobody f 0 (b .tracks) (b .holders)
 
 abbrev pub numbers : Book → (Resource → Bool) → Bool
-numbers b f = every (λ r. f (numberAt (b .resources) r)) (from 1 (b .numbers))
+numbers b f = along free (λ r x. f x) 1 (b .numbers) (b .resources)
 
 abbrev pub nothing : Why → Bool
 nothing Nothing = true
@@ -50,11 +50,10 @@ zeros r =
 
 unfoldable pub testNames : Book → Bool
 testNames b =
-    programs λ p. not (at b p .used)
-    || (legal (at b p .name) && programs λ q. eqb p q || not (at b q .used) || not (alike (at b p .name) (at b q .name)))
+    programs b λ p r. not (r .used) || (legal (r .name) && programs b λ q s. eqb p q || not (s .used) || not (alike (r .name) (s .name)))
 
 unfoldable pub testZeros : Book → Bool
-testZeros b = programs λ p. (at b p .used || zeros (at b p)) && (not (eqb (at b p .due) 0) || eqb (at b p .interval) 0)
+testZeros b = programs b λ p r. (r .used || zeros r) && (not (eqb (r .due) 0) || eqb (r .interval) 0)
 
 -- priorities never fall
 abbrev pub rising : (ℕ → ℕ) → List ℕ → Bool
@@ -63,22 +62,22 @@ rising pr (q ∷ qs) = every (λ r. leb (pr q) (pr r)) qs && rising pr qs
 
 unfoldable pub testChains : Book → List (List ℕ) → Bool
 testChains b m =
-    every (λ s. programs (λ p. eqb (count p (getD m s [])) (same (stateOf b p) s)) && every known (getD m s []) && rising (prioOf b) (getD m s [])) (from 1 6)
+    every (λ s. programs b (λ p r. eqb (count p (getD m s [])) (same (r .state) s)) && every known (getD m s []) && rising (prioOf b) (getD m s [])) (from 1 6)
 
 unfoldable pub testWhys : Book → Bool
 testWhys b =
-    programs λ p. suits b p (stateOf b p) (whyOf b p)
-    && (eqb (sonOf (whyOf b p)) 0 || programs λ q. eqb p q || not (eqb (sonOf (whyOf b p)) (sonOf (whyOf b q))))
+    programs b λ p r. suits b p (r .state) (r .why)
+    && (eqb (sonOf (r .why)) 0 || programs b λ q s. eqb p q || not (eqb (sonOf (r .why)) (sonOf (s .why))))
 
 unfoldable pub testSystem : Book → Bool
-testSystem b = tracks b λ i. Bool·beq (ltb i (b .system)) (eqb (holderOf b i) system)
+testSystem b = tracks b λ i h. Bool·beq (ltb i (b .system)) (eqb h system)
 
 -- who is a program is a used one
 abbrev pub used : Book → ℕ → Bool
 used b p = not (known p) || at b p .used
 
 unfoldable pub testUsers : Book → Bool
-testUsers b = tracks b (λ i. used b (holderOf b i)) && numbers b (λ x. used b (x .owner) && used b (x .lock))
+testUsers b = tracks b (λ i h. used b h) && numbers b (λ x. used b (x .owner) && used b (x .lock))
 
 unfoldable pub testUnlocked : Book → Bool
 testUnlocked b = numbers b λ x. not (eqb (x .owner) 0) || eqb (x .lock) 0
@@ -86,9 +85,9 @@ testUnlocked b = numbers b λ x. not (eqb (x .owner) 0) || eqb (x .lock) 0
 unfoldable pub testLimits : Book → Bool
 testLimits b =
     upTo 1 256 (b .tracks) && leb (b .system) (b .tracks) && leb (b .numbers) 16 && leb (b .clock) ceiling
-    && programs (λ p. leb (prioOf b p) 32767) && tracks b (λ i. leb (holderOf b i) system)
+    && programs b (λ p r. leb (r .priority) 32767) && tracks b (λ i h. leb h system)
     && numbers b (λ x. leb (x .owner) globally && leb (x .lock) 32)
 
 unfoldable pub testDues : Book → Bool
 testDues b =
-    programs λ p. (eqb (at b p .due) 0 || (ltb (b .clock) (at b p .due) && leb (at b p .due) (b .clock + farthest))) && leb (at b p .interval) farthest
+    programs b λ p r. (eqb (r .due) 0 || (ltb (b .clock) (r .due) && leb (r .due) (b .clock + farthest))) && leb (r .interval) farthest
