@@ -174,6 +174,23 @@ first-in f (q ∷ qs) h = go (f q) (first-in f qs) h
     go true ih k = omega (arith, same-refl q)
     go false ih k = omega (arith, ih k)
 
+pub first-true : (f : ℕ → Bool) (c : List ℕ) → 1 ≤ first f c → f (first f c) ≡ true
+first-true f [] h = absurd (omega arith)
+first-true f (q ∷ qs) h = go (f q) refl (first-true f qs) h
+  where
+    go : (b : Bool) → f q ≡ b → (1 ≤ first f qs → f (first f qs) ≡ true) → 1 ≤ cond b q (first f qs) → f (cond b q (first f qs)) ≡ true
+    go true e ih k = e
+    go false e ih k = ih k
+
+-- where there is no first none passes; 0, which stands for none, may not be listed itself
+pub first-none : (f : ℕ → Bool) (c : List ℕ) (x : ℕ) → count 0 c ≡ 0 → first f c ≡ 0 → 1 ≤ count x c → f x ≡ false
+first-none f [] x z e h = absurd (omega arith)
+first-none f (q ∷ qs) x z e h = go (f q) refl (first-none f qs x (omega arith)) e
+  where
+    go : (b : Bool) → f q ≡ b → (first f qs ≡ 0 → 1 ≤ count x qs → f x ≡ false) → cond b q (first f qs) ≡ 0 → f x ≡ false
+    go true w ih k = absurd (omega (arith, ap (same 0) k, same-refl 0))
+    go false w ih k = among (λ y. f y ≡ false) q x qs w (ih k) h
+
 -- what is not there cannot be taken out
 pub remove-absent : (p : ℕ) (c : List ℕ) → count p c ≡ 0 → remove p c ≡ c
 remove-absent p [] h = refl

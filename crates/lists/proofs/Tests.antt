@@ -15,6 +15,10 @@ use Rattle.lists.proofs.Laws.{same-refl, among}
 pub false-true : {A : Type 0} → false ≡ true → A
 false-true e = absurd (let z : _≡_ {A = ℕ} 0 1 = cc in omega arith)
 
+-- a test does not both pass and fail
+pub clash : {A : Type 0} {t : Bool} → t ≡ true → t ≡ false → A
+clash h k = false-true (sym k ∙ h)
+
 -- both
 pub both : (a b : Bool) → (a && b) ≡ true → (a ≡ true) × (b ≡ true)
 both true b e = (refl, e)
@@ -89,3 +93,6 @@ alike-true (x ∷ xs) (y ∷ ys) e =
 pub alike-refl : (xs : List ℕ) → alike xs xs ≡ true
 alike-refl [] = refl
 alike-refl (x ∷ xs) = and (eq-eqb x x refl) (alike-refl xs)
+
+pub alike-is : (xs ys : List ℕ) → xs ≡ ys → alike xs ys ≡ true
+alike-is xs ys e = rw e (alike-refl ys)

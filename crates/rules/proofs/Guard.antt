@@ -3,19 +3,16 @@
 -- Assumes nothing.
 use Prim.Native.Nat.{ℕ, _≤_}
 use native.Mathlib.Omega.{arith}
-use mathlib.Core.Bool.{not, _&&_}
 use mathlib.Core.List.{List, [], _∷_}
-use Rattle.lists.specs.Lists.{count, alike}
-use Rattle.lists.proofs.Laws.{same-refl, first-in}
-use Rattle.records.specs.declared.Program.{Program}
-use Rattle.records.specs.Records.{Known, all, recordAt, find, lowestUnused}
+use Rattle.lists.specs.Lists.{count}
+use Rattle.records.specs.Records.{Known}
 use Rattle.rules.specs.Requests.{Call, EXEC4, EXEC15, EXEC5, EXEC16, EXEC5ALL, EXEC6, EXEC7, EXEC11, EXEC9, EXEC10, EXEC12, ALLOC, LOCK, CLEAR, FREE, Request, FRESH, LOAD, operator, TICK, running}
 use Rattle.rules.specs.Plans.{View, eventsOf}
 use Rattle.rules.specs.Rules.{Release, head, plan}
 use Rattle.rules.specs.Keeper.{lists, State, view, scheduled, asks}
 use Rattle.rules.specs.Sound.{Chains}
 use Rattle.rules.specs.Frame.{callerOf, namedBy, namedIn, Woken, tracks-freed, reason-gone}
-use Rattle.rules.proofs.Places.{all-in}
+use Rattle.rules.proofs.Finding.{find-bears, unused-known, head-in}
 use Rattle.rules.proofs.Parts.{Upon, plan-of}
 
 -- the chains that a rule sees hold known programs only
@@ -23,18 +20,6 @@ pub record Seen (v : View) (c : List ℕ) : Type 0 where
   pub scheduled : (x : ℕ) → 1 ≤ count x c → Known x
   pub general : (x : ℕ) → 1 ≤ count x (v .general) → Known x
   pub disc : (x : ℕ) → 1 ≤ count x (v .disc) → Known x
-
-pub find-known : (ps : List Program) (nm : List ℕ) → 1 ≤ find ps nm → Known (find ps nm)
-unfolding find
-find-known ps nm h = all-in (find ps nm) (first-in (λ p. recordAt ps p .used && alike (recordAt ps p .name) nm) all h)
-
-pub unused-known : (ps : List Program) → 1 ≤ lowestUnused ps → Known (lowestUnused ps)
-unfolding lowestUnused
-unused-known ps h = all-in (lowestUnused ps) (first-in (λ p. not (recordAt ps p .used)) all h)
-
-head-in : (c : List ℕ) → 1 ≤ head c → 1 ≤ count (head c) c
-head-in [] h = h
-head-in (p ∷ ps) h = omega (arith, same-refl p)
 
 module _ (v : View) (c : List ℕ) (S : Seen v c) where
   caller-known : (q : Request) → 1 ≤ callerOf c q → Known (callerOf c q)
@@ -53,9 +38,9 @@ module _ (v : View) (c : List ℕ) (S : Seen v c) where
   call-known EXEC6 h = absurd (omega arith)
   call-known EXEC7 h = absurd (omega arith)
   call-known EXEC11 h = absurd (omega arith)
-  call-known (EXEC9 nm) h = find-known (v .book .programs) nm h
-  call-known (EXEC10 nm) h = find-known (v .book .programs) nm h
-  call-known (EXEC12 nm r m o) h = find-known (v .book .programs) nm h
+  call-known (EXEC9 nm) h = find-bears (v .book .programs) nm h .known
+  call-known (EXEC10 nm) h = find-bears (v .book .programs) nm h .known
+  call-known (EXEC12 nm r m o) h = find-bears (v .book .programs) nm h .known
   call-known (ALLOC g w) h = absurd (omega arith)
   call-known (LOCK r w) h = absurd (omega arith)
   call-known (CLEAR r) h = absurd (omega arith)
@@ -64,7 +49,7 @@ module _ (v : View) (c : List ℕ) (S : Seen v c) where
   named-known : (q : Request) → 1 ≤ namedIn (v .book) q → Known (namedIn (v .book) q)
   named-known (FRESH T S R) h = absurd (omega arith)
   named-known (LOAD nm n) h = unused-known (v .book .programs) h
-  named-known (operator o nm) h = find-known (v .book .programs) nm h
+  named-known (operator o nm) h = find-bears (v .book .programs) nm h .known
   named-known TICK h = absurd (omega arith)
   named-known (running r) h = call-known r h
 

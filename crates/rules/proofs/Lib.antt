@@ -1,6 +1,7 @@
 pub mod Places
 pub mod Agree
 pub mod AgreeTables
+pub mod Finding
 pub mod Sorting
 pub mod Fits
 pub mod Alike
@@ -15,3 +16,16 @@ pub mod Claims
 pub mod Freed
 pub mod Rising
 pub mod CountLaws
+pub mod Deeds
+pub mod Chaining
+pub mod Fine
+pub mod Apt
+pub mod Making
+pub mod Passing
+pub mod Waking
+pub mod Ending
+pub mod Ticking
+pub mod SoundFresh
+pub mod Keeping
+pub mod SoundCalls
+pub mod SoundRuns
