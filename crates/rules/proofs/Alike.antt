@@ -249,7 +249,7 @@ module _ (p : ℕ) (P : Known p) where
   left-state : (a : State lists) → length (a .book .programs) ≡ 32 → stateOf (leave lists p a .book) p ≡ 0
   left-state a L = state-same (a .book) L p P (inState 0 Nothing (at (a .book) p))
 
-  act-alike : (d : Deed) (a : State lists) (t : State entries) → Alike a t → Alike (act lists p d a) (act entries p d t)
+  pub act-alike : (d : Deed) (a : State lists) (t : State entries) → Alike a t → Alike (act lists p d a) (act entries p d t)
   unfolding act
   act-alike (becomes s w) a t A = enter-alike s w (leave lists p a) (leave entries p t) (leave-alike a t A) (left-state a (A .noted .long))
   act-alike (priced n) a t A =

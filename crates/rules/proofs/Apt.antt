@@ -15,8 +15,7 @@ use Rattle.records.specs.Records.{Known, recordAt}
 use Rattle.rules.specs.Book.{Book, at, stateOf, whyOf}
 use Rattle.rules.specs.Plans.{Deed, becomes, priced, loaded, unloaded, timed, on, held, numbered}
 use Rattle.rules.specs.Keeper.{Keeper, lists, State, act, step}
-use Rattle.rules.proofs.Places.{known-is}
-use Rattle.rules.proofs.Deeds.{made, Turned, act-turned}
+use Rattle.rules.proofs.Deeds.{made, Turned, act-turned, step-act}
 use Rattle.rules.proofs.Chaining.{Ordered, act-order}
 use Rattle.rules.proofs.Fine.{Slack, Right, Sonny, Uses, Tracked, Owned, Numbered, Fine}
 
@@ -165,18 +164,9 @@ act-over K p (loaded nm n) t = refl
 act-over K p unloaded t = refl
 act-over K p (timed d i) t = refl
 
-step-act : (K : Keeper) (p : ℕ) → Known p → (d : Deed) (t : State K) → step K (on p d) t ≡ act K p d t
-unfolding step
-step-act K p P d t = rw (known-is p P)
-
 pub step-over : (K : Keeper) (p : ℕ) → Known p → (d : Deed) (t : State K)
     → step K (on p d) t ≡ record { book = over (act K p d t .book .programs) (t .book); kept = act K p d t .kept }
 step-over K p P d t = step-act K p P d t ∙ act-over K p d t
-
-pub step-turned : (K : Keeper) (p : ℕ) → Known p → (d : Deed) (t : State K) → length (t .book .programs) ≡ 32
-    → Turned p (made d (at (t .book) p)) (t .book .programs) (step K (on p d) t .book .programs)
-step-turned K p P d t L =
-    subst (λ (u : State K). Turned p (made d (at (t .book) p)) (t .book .programs) (u .book .programs)) (sym (step-act K p P d t)) (act-turned K p P t L d)
 
 pub fine-on : (e : Slack) (p : ℕ) → Known p → (d : Deed) (a : State lists) → Fine e a → Apt e (a .book) p (made d (at (a .book) p)) → Fine e (step lists (on p d) a)
 fine-on e p P d a F A =

@@ -180,13 +180,13 @@ module _ (a : State lists) (S : Sound a) where
         so = λ z. ap (λ (n : ℕ). n ∷ [])
             (woken-awoken (ends v c 0) refl (step lists (on c (becomes 0 Nothing)) a) (settle v c (ends v c 0))
             (numbers (wake-rises (woken v (ends v c 0)) (woken-known (ends v c 0) refl)))
-            (becomes-long lists a c C 0 Nothing (S .shape .programs)) (λ x X k. before c C x X k (ℕ-discrete x c)));
+            (becomes-long lists a c C (S .shape .programs) 0 Nothing) (λ x X k. before c C x X k (ℕ-discrete x c)));
       })
     where
       before : (c : ℕ) → Known c → (x : ℕ) → Known x → stateOf (step lists (on c (becomes 0 Nothing)) a .book) x ≡ 1 → Dec (x ≡ c) → stateOf (a .book) x ≡ 1
       before c C x X k (yes e) =
-          absurd (omega (arith, ap (stateOf (step lists (on c (becomes 0 Nothing)) a .book)) e, becomes-same lists a c C 0 Nothing (S .shape .programs)))
-      before c C x X k (no n) = sym (becomes-other lists a c C 0 Nothing x X n) ∙ k
+          absurd (omega (arith, ap (stateOf (step lists (on c (becomes 0 Nothing)) a .book)) e, becomes-same lists a c C (S .shape .programs) 0 Nothing))
+      before c C x X k (no n) = sym (becomes-other lists a c C (S .shape .programs) 0 Nothing x X n) ∙ k
 
   clearing-wakes : (r : ℕ) → IfDone Wakes (asks lists a (running (CLEAR r)))
   unfolding plan call clears

@@ -1,7 +1,7 @@
 -- What a deed leaves of the records: the program's own becomes what the deed says, and the others stay. Each deed puts a record once or twice at one place.
 -- Assumes nothing.
 use Prim.Native.Nat.{ℕ}
-use mathlib.Core.Path.{_≡_, ap, _∙_}
+use mathlib.Core.Path.{_≡_, sym, ap, _∙_, subst}
 use mathlib.Core.Logic.{_≢_}
 use mathlib.Core.List.{List}
 use lib.ListN.{length}
@@ -9,9 +9,9 @@ use Rattle.records.specs.declared.Program.{Program}
 use Rattle.records.specs.declared.Why.the-variants.{Nothing}
 use Rattle.records.specs.Records.{Known, recordAt, unused, newcomer, inState, withPriority, withTimer}
 use Rattle.rules.specs.Book.{Book, at, put}
-use Rattle.rules.specs.Plans.{Deed, becomes, priced, loaded, unloaded, timed}
-use Rattle.rules.specs.Keeper.{Keeper, State, act}
-use Rattle.rules.proofs.Places.{at-same, at-other, put-long}
+use Rattle.rules.specs.Plans.{Deed, becomes, priced, loaded, unloaded, timed, on}
+use Rattle.rules.specs.Keeper.{Keeper, State, act, step}
+use Rattle.rules.proofs.Places.{known-is, at-same, at-other, put-long}
 
 -- the record after a deed
 abbrev pub made : Deed → Program → Program
@@ -65,3 +65,13 @@ module _ (K : Keeper) (p : ℕ) (P : Known p) (t : State K) (L : length (t .book
   act-turned (loaded nm n) = turned-again (t .book .programs) gone p _ (newcomer nm n) P out
   act-turned unloaded = turned-again (t .book .programs) gone p _ unused P out
   act-turned (timed d i) = turned-put (t .book) p (withTimer d i (at (t .book) p)) P L
+
+-- the same of an event
+pub step-act : (K : Keeper) (p : ℕ) → Known p → (d : Deed) (t : State K) → step K (on p d) t ≡ act K p d t
+unfolding step
+step-act K p P d t = rw (known-is p P)
+
+pub step-turned : (K : Keeper) (p : ℕ) → Known p → (d : Deed) (t : State K) → length (t .book .programs) ≡ 32
+    → Turned p (made d (at (t .book) p)) (t .book .programs) (step K (on p d) t .book .programs)
+step-turned K p P d t L =
+    subst (λ (u : State K). Turned p (made d (at (t .book) p)) (t .book .programs) (u .book .programs)) (sym (step-act K p P d t)) (act-turned K p P t L d)

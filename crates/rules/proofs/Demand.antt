@@ -87,7 +87,7 @@ alike-replayed a t A qs = record {
 
 -- from any sound tables on, and any entries that account for them
 pub demand : (a : State lists) (e : Entries) → Sound a → Accounts a e → (qs : List Request) → Replayed a (record { book = a .book; kept = e }) qs
-demand a e S A = alike-replayed a (record { book = a .book; kept = e }) (accounts-alike a e (S .shape) A)
+demand a e S A = alike-replayed a (record { book = a .book; kept = e }) (accounts-alike a e (S .shape .programs) (S .shape .chains) A)
 
 -- sound tables have such entries
 pub accounted : (a : State lists) → Sound a → Accounts a (notes (a .book) (a .kept))

@@ -11,6 +11,7 @@ pub mod Refusals
 pub mod Demand
 pub mod FrameLaws
 pub mod Guard
+pub mod Order
 pub mod IfDone
 pub mod Claims
 pub mod Freed

@@ -15,7 +15,7 @@ use Rattle.lists.proofs.Laws.{same-refl, same-le, same-eq, ascending-map}
 use Rattle.records.specs.Records.{Known, known}
 use Rattle.rules.specs.Book.{Book, stateOf, prioOf}
 use Rattle.rules.specs.Keeper.{lists, entries, Entries, State}
-use Rattle.rules.specs.Sound.{Chains, Shape}
+use Rattle.rules.specs.Sound.{Chains}
 use Rattle.rules.specs.Replay.{Before, Accounts}
 use Rattle.rules.proofs.Places.{known-true, known-is}
 use Rattle.rules.proofs.Alike.{Alike}
@@ -33,11 +33,12 @@ alike-chained a t A = record {
 pub alike-accounts : (a : State lists) (t : State entries) → Alike a t → Accounts a (t .kept)
 alike-accounts a t A = record { early = A .noted .early; apart = A .noted .apart; fits = A .fits }
 
-pub accounts-alike : (a : State lists) (e : Entries) → Shape a → Accounts a e → Alike a (record { book = a .book; kept = e })
-accounts-alike a e F A = record {
+pub accounts-alike : (a : State lists) (e : Entries) → length (a .book .programs) ≡ 32 → length (a .kept) ≡ 7 → Accounts a e
+    → Alike a (record { book = a .book; kept = e })
+accounts-alike a e L K A = record {
   book = refl;
-  noted = record { long = F .programs; early = A .early; apart = A .apart };
-  seven = F .chains;
+  noted = record { long = L; early = A .early; apart = A .apart };
+  seven = K;
   fits = A .fits;
 }
 
@@ -156,5 +157,6 @@ chained-accounts a C = record {
 }
 
 -- so every state with its chains in order has one that it is alike to
-pub chained-alike : (a : State lists) → Shape a → Chains (a .book) (a .kept) → Alike a (record { book = a .book; kept = notes (a .book) (a .kept) })
-chained-alike a F C = accounts-alike a (notes (a .book) (a .kept)) F (chained-accounts a C)
+pub chained-alike : (a : State lists) → length (a .book .programs) ≡ 32 → length (a .kept) ≡ 7 → Chains (a .book) (a .kept)
+    → Alike a (record { book = a .book; kept = notes (a .book) (a .kept) })
+chained-alike a L K C = accounts-alike a (notes (a .book) (a .kept)) L K (chained-accounts a C)

@@ -15,52 +15,35 @@ use Rattle.lists.proofs.Laws.{same-refl, same-eq}
 use Rattle.records.specs.declared.Resource.{Resource}
 use Rattle.records.specs.declared.Why.{Why}
 use Rattle.records.specs.declared.Why.the-variants.{Nothing}
-use Rattle.records.specs.Records.{Known, inState, withTimer}
-use Rattle.rules.specs.Book.{Book, at, stateOf}
-use Rattle.rules.specs.Plans.{Deed, becomes, timed, Event, on, clocked, held, numbered}
+use Rattle.records.specs.Records.{Known}
+use Rattle.rules.specs.Book.{Book, stateOf}
+use Rattle.rules.specs.Plans.{becomes, timed, Event, on, clocked, held, numbered}
 use Rattle.rules.specs.Rules.{wake, ticked, each}
-use Rattle.rules.specs.Keeper.{Keeper, State, leave, act, step, play}
-use Rattle.rules.proofs.Places.{known-is, at-same, at-other, put-long}
+use Rattle.rules.specs.Keeper.{Keeper, State, step, play}
+use Rattle.rules.proofs.Deeds.{step-turned}
 
 -- p takes a state, or its timer is set
-module _ (K : Keeper) (t : State K) (p : ℕ) (P : Known p) where
-  step-on : (d : Deed) → step K (on p d) t ≡ act K p d t
-  unfolding step
-  step-on d = rw (known-is p P)
-
+module _ (K : Keeper) (t : State K) (p : ℕ) (P : Known p) (L : length (t .book .programs) ≡ 32) where
   module _ (s : ℕ) (w : Why) where
-    pub becomes-long : length (t .book .programs) ≡ 32 → length (step K (on p (becomes s w)) t .book .programs) ≡ 32
-    unfolding act
-    becomes-long L =
-        rw (step-on (becomes s w))
-        (put-long (leave K p t .book) p (inState s w (at (leave K p t .book) p)) (put-long (t .book) p (inState 0 Nothing (at (t .book) p)) L))
+    pub becomes-long : length (step K (on p (becomes s w)) t .book .programs) ≡ 32
+    becomes-long = step-turned K p P (becomes s w) t L .long
 
-    pub becomes-same : length (t .book .programs) ≡ 32 → stateOf (step K (on p (becomes s w)) t .book) p ≡ s
-    unfolding act
-    becomes-same L =
-        rw (step-on (becomes s w))
-        (ap (λ r. r .state)
-        (at-same (leave K p t .book) (put-long (t .book) p (inState 0 Nothing (at (t .book) p)) L) p P (inState s w (at (leave K p t .book) p))))
+    pub becomes-same : stateOf (step K (on p (becomes s w)) t .book) p ≡ s
+    becomes-same = ap (λ r. r .state) (step-turned K p P (becomes s w) t L .here)
 
     pub becomes-other : (x : ℕ) → Known x → x ≢ p → stateOf (step K (on p (becomes s w)) t .book) x ≡ stateOf (t .book) x
-    unfolding act
-    becomes-other x X n =
-        rw (step-on (becomes s w))
-        (ap (λ r. r .state)
-        (at-other (leave K p t .book) p P (inState s w (at (leave K p t .book) p)) x X n ∙ at-other (t .book) p P (inState 0 Nothing (at (t .book) p)) x X n))
+    becomes-other x X n = ap (λ r. r .state) (step-turned K p P (becomes s w) t L .rest x X n)
 
   module _ (d i : ℕ) where
-    pub timed-long : length (t .book .programs) ≡ 32 → length (step K (on p (timed d i)) t .book .programs) ≡ 32
-    unfolding act
-    timed-long L = rw (step-on (timed d i)) (put-long (t .book) p (withTimer d i (at (t .book) p)) L)
+    timed-long : length (step K (on p (timed d i)) t .book .programs) ≡ 32
+    timed-long = step-turned K p P (timed d i) t L .long
 
-    pub timed-state : length (t .book .programs) ≡ 32 → (x : ℕ) → Known x → stateOf (step K (on p (timed d i)) t .book) x ≡ stateOf (t .book) x
-    unfolding act
-    timed-state L x X = rw (step-on (timed d i)) (go (ℕ-discrete x p))
+    timed-state : (x : ℕ) → Known x → stateOf (step K (on p (timed d i)) t .book) x ≡ stateOf (t .book) x
+    timed-state x X = go (ℕ-discrete x p)
       where
-        go : Dec (x ≡ p) → stateOf (act K p (timed d i) t .book) x ≡ stateOf (t .book) x
-        go (yes e) = rw e (ap (λ r. r .state) (at-same (t .book) L p P (withTimer d i (at (t .book) p))))
-        go (no n) = ap (λ r. r .state) (at-other (t .book) p P (withTimer d i (at (t .book) p)) x X n)
+        go : Dec (x ≡ p) → stateOf (step K (on p (timed d i)) t .book) x ≡ stateOf (t .book) x
+        go (yes e) = rw e (ap (λ r. r .state) (step-turned K p P (timed d i) t L .here))
+        go (no n) = ap (λ r. r .state) (step-turned K p P (timed d i) t L .rest x X n)
 
 -- events by which just those of a list take state 1, and none another
 pub data Rise : List Event → List ℕ → Type 0 where
@@ -94,9 +77,9 @@ module _ (K : Keeper) (x : ℕ) (X : Known x) where
   unfolding step
   rise-out none t L n = refl
   rise-out (rises {p} {w} P r) t L n =
-      rise-out r (step K (on p (becomes 1 w)) t) (becomes-long K t p P 1 w L) (omega arith)
-      ∙ becomes-other K t p P 1 w x X (λ e. omega (arith, same-refl x, ap (same x) e))
-  rise-out (times {p} {d} {i} P r) t L n = rise-out r (step K (on p (timed d i)) t) (timed-long K t p P d i L) n ∙ timed-state K t p P d i L x X
+      rise-out r (step K (on p (becomes 1 w)) t) (becomes-long K t p P L 1 w) (omega arith)
+      ∙ becomes-other K t p P L 1 w x X (λ e. omega (arith, same-refl x, ap (same x) e))
+  rise-out (times {p} {d} {i} P r) t L n = rise-out r (step K (on p (timed d i)) t) (timed-long K t p P L d i) n ∙ timed-state K t p P L d i x X
   rise-out (clocks {n = m} r) t L n = rise-out r (step K (clocked m) t) L n
   rise-out (holds {h} r) t L n = rise-out r (step K (held h) t) L n
   rise-out (numbers {r = m} r) t L n = rise-out r (step K (numbered m) t) L n
@@ -107,15 +90,15 @@ module _ (K : Keeper) (x : ℕ) (X : Known x) where
   rise-in (rises {p} {w} {es} {c} P r) t L n = go (ℕ-discrete (count x c) 0) (rise-in r (step K (on p (becomes 1 w)) t) M)
     where
       M : length (step K (on p (becomes 1 w)) t .book .programs) ≡ 32
-      M = becomes-long K t p P 1 w L
+      M = becomes-long K t p P L 1 w
 
       go : Dec (count x c ≡ 0) → (1 ≤ count x c → stateOf (play K es (step K (on p (becomes 1 w)) t) .book) x ≡ 1)
           → stateOf (play K es (step K (on p (becomes 1 w)) t) .book) x ≡ 1
       go (no z) ih = ih (omega (arith, z))
       go (yes z) ih =
           rise-out r (step K (on p (becomes 1 w)) t) M z
-          ∙ ap (stateOf (step K (on p (becomes 1 w)) t .book)) (same-eq x p (omega arith)) ∙ becomes-same K t p P 1 w L
-  rise-in (times {p} {d} {i} P r) t L n = rise-in r (step K (on p (timed d i)) t) (timed-long K t p P d i L) n
+          ∙ ap (stateOf (step K (on p (becomes 1 w)) t .book)) (same-eq x p (omega arith)) ∙ becomes-same K t p P L 1 w
+  rise-in (times {p} {d} {i} P r) t L n = rise-in r (step K (on p (timed d i)) t) (timed-long K t p P L d i) n
   rise-in (clocks {n = m} r) t L n = rise-in r (step K (clocked m) t) L n
   rise-in (holds {h} r) t L n = rise-in r (step K (held h) t) L n
   rise-in (numbers {r = m} r) t L n = rise-in r (step K (numbered m) t) L n

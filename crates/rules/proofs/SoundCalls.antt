@@ -28,9 +28,9 @@ use Rattle.rules.specs.Plans.{becomes, timed, on, held, numbered}
 use Rattle.rules.specs.Rules.{takes, gives, call, frees, clears, ends}
 use Rattle.rules.specs.Keeper.{lists, State, step, play, view}
 use Rattle.rules.specs.Sound.{Sound}
-use Rattle.rules.proofs.Deeds.{Turned}
+use Rattle.rules.proofs.Deeds.{Turned, step-turned}
 use Rattle.rules.proofs.Fine.{Sonny, Tracked, Owned, Numbered, Fine}
-use Rattle.rules.proofs.Apt.{tracked-map, step-turned, fine-on, fine-held, fine-numbered}
+use Rattle.rules.proofs.Apt.{tracked-map, fine-on, fine-held, fine-numbered}
 use Rattle.rules.proofs.Making.{Childless, nothing-childless, apt-state, apt-timed}
 use Rattle.rules.proofs.Passing.{Passes, nobody-passes, tracked-filled, tracked-replaced, owned-free, numbered-with}
 use Rattle.rules.proofs.Waking.{Callable}

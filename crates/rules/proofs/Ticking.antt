@@ -21,9 +21,9 @@ use Rattle.rules.specs.Plans.{becomes, timed, on, clocked}
 use Rattle.rules.specs.Rules.{dueAt, ticked, each}
 use Rattle.rules.specs.Keeper.{lists, State, step, play}
 use Rattle.rules.proofs.Places.{all-one, all-once, all-in}
-use Rattle.rules.proofs.Deeds.{Turned}
+use Rattle.rules.proofs.Deeds.{Turned, step-turned}
 use Rattle.rules.proofs.Fine.{Slack, exact, right-slack, Fine}
-use Rattle.rules.proofs.Apt.{step-turned, fine-on}
+use Rattle.rules.proofs.Apt.{fine-on}
 use Rattle.rules.proofs.Making.{Timer, apt-woken, apt-timed}
 
 -- the clock stands at c + 1, and the dues are still as at c

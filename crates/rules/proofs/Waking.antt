@@ -21,10 +21,10 @@ use Rattle.rules.specs.Book.{at, stateOf, whyOf}
 use Rattle.rules.specs.Plans.{becomes, on, View}
 use Rattle.rules.specs.Rules.{Release, awaits, woken, wake}
 use Rattle.rules.specs.Keeper.{lists, State, step, play, view}
-use Rattle.rules.proofs.Deeds.{Turned}
+use Rattle.rules.proofs.Deeds.{Turned, step-turned}
 use Rattle.rules.proofs.Chaining.{chain-state}
 use Rattle.rules.proofs.Fine.{Slack, alone, Fine}
-use Rattle.rules.proofs.Apt.{fine-on, step-turned}
+use Rattle.rules.proofs.Apt.{fine-on}
 use Rattle.rules.proofs.Making.{apt-woken}
 
 -- each of a list is a used program

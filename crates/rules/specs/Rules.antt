@@ -45,11 +45,17 @@ awaits R (Son k) = ltb 0 k && eqb k (R .ended)
 awaits R (Lock r) = R .cleared r
 awaits R Number = R .dealt
 
--- all of chain 5 if a track was freed, then those of chain 3 whose reason is gone, each in chain order; the one that ended has left its chain
+-- all of chain 5 if a track was freed, in chain order; the one that ended has left its chain
+abbrev pub fromDisc : View → Release → List ℕ
+fromDisc v R = cond (ltb 0 (R .tracks)) (remove (R .ended) (v .disc)) []
+
+-- chain 3 is walked once: those whose reason is gone
+abbrev pub fromGeneral : View → Release → List ℕ
+fromGeneral v R = keep (λ q. awaits R (whyOf (v .book) q)) (remove (R .ended) (v .general))
+
+-- chain 5, then chain 3
 unfoldable pub woken : View → Release → List ℕ
-woken v R =
-    cond (ltb 0 (R .tracks)) (remove (R .ended) (v .disc)) []
-    ++ keep (λ q. awaits R (whyOf (v .book) q)) (remove (R .ended) (v .general))
+woken v R = fromDisc v R ++ fromGeneral v R
 
 -- the woken enter the scheduled chain one by one
 abbrev pub wake : List ℕ → List Event
