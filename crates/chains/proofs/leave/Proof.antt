@@ -1,0 +1,42 @@
+-- `chains::leave` meets its contract: the two stores at the slot found are `laid-leave`.
+-- Assumes nothing.
+use native.Mathlib.Omega.{arith}
+use borrow.Author.Needs.{needs}
+use Rattle.chains.proofs.Splices.{leave-at, leave-who, laid-leave}
+use Rattle.chains.proofs.leave.Statement.{statement}
+use Rattle.chains.proofs.leave.Tie as tie
+
+before-of-requires : tie.Need-before-of-requires
+before-of-requires c κs = search needs
+
+wide-requires : tie.Need-wide-requires
+wide-requires c κs = search needs
+
+add-own : tie.Need-add-own
+add-own c = search needs
+
+array-read-l : tie.Need-array-read-l
+array-read-l c = omega (arith, leave-who (c .before .before .pre))
+
+array-write-l : tie.Need-array-write-l
+array-write-l c = omega (arith, leave-at (c .before .before .pre))
+
+array-write-l-2 : tie.Need-array-write-l-2
+array-write-l-2 c = omega (arith, leave-who (c .before .before .pre))
+
+returns : tie.Need-returns
+returns c =
+    let h = c .before .before .pre in
+    rw (c .wide .ensures) (laid-leave _ _ _ _ _ (h .laid) (h .state) (h .there) (c .before .before-of .ensures))
+
+pub leave-spec : {M : Type 1} → statement M
+leave-spec =
+    tie.close
+    (tie.spec
+    before-of-requires
+    wide-requires
+    add-own
+    array-read-l
+    array-write-l
+    array-write-l-2
+    returns)
