@@ -1,3 +1,4 @@
 pub mod Names
 pub mod Records
 pub mod Numbers
+pub mod Inner

@@ -1,4 +1,15 @@
 // A program's record, why it waits, and a resource number.
+ghost use mathlib.Core.Path.{_≡_};
+ghost use mathlib.Core.Bool.{_&&_, _||_};
+ghost use mathlib.Core.List.{map};
+ghost use Prim.Native.Nat.{_-_, _≤_};
+ghost use lib.Dec.{eqb};
+ghost use lib.ListN.{drop, replicate};
+ghost use Rattle.lists.specs.Lists.{alike, any, every, first, from};
+ghost use Rattle.records.specs.Names.{letter, digit, blank, legal};
+ghost use Rattle.records.specs.Records.{unused, newcomer, inState, withPriority, withTimer, find, lowestUnused};
+ghost use Rattle.records.specs.Numbers.{free, resources, tableOf, numberAt, withNumber, concerns, without};
+ghost use Rattle.records.specs.Inner.{Fit, Within};
 
 // Why a program waits: for tracks, how many; for its son, or for a lock, which; or for any number.
 pub enum Why {
@@ -30,4 +41,324 @@ pub struct Resource {
 pub struct Numbers {
     pub count: u8,
     pub resources: [Resource; 16],
+}
+
+fn wide(x: u8) -> usize
+    ensures { λ r. ⌜ r ≡ x ⌝ }
+{
+    x as usize
+}
+
+// Where what is numbered from 1 stands; 0 is taken for 1.
+fn place(n: usize) -> usize
+    ensures { λ r. ⌜ r ≡ n - 1 ⌝ }
+{
+    if n == 0 {
+        return 0;
+    }
+    n - 1
+}
+
+fn is_letter(c: u8) -> bool
+    ensures { λ r. ⌜ r ≡ letter c ⌝ }
+{
+    if c < 65 {
+        return false;
+    }
+    c <= 90
+}
+
+fn is_digit(c: u8) -> bool
+    ensures { λ r. ⌜ r ≡ digit c ⌝ }
+{
+    if c < 48 {
+        return false;
+    }
+    c <= 57
+}
+
+fn is_letter_or_digit(c: u8) -> bool
+    ensures { λ r. ⌜ r ≡ (letter c || digit c) ⌝ }
+{
+    if is_letter(c) {
+        return true;
+    }
+    is_digit(c)
+}
+
+// Blanks from `start` to the end.
+fn is_blank_from(name: [u8; 5], start: usize) -> bool
+    ensures { λ r. ⌜ r ≡ every blank (drop start name) ⌝ }
+{
+    let mut i = start;
+    while i < 5 {
+        if name[i] != 32 {
+            return false;
+        }
+        i += 1;
+    }
+    true
+}
+
+// A letter, letters or digits, and blanks at the end.
+pub fn is_legal(name: [u8; 5]) -> bool
+    ensures { λ r. ⌜ r ≡ legal name ⌝ }
+{
+    if !is_letter(name[0]) {
+        return false;
+    }
+    let mut i: usize = 1;
+    while i < 5 {
+        if !is_letter_or_digit(name[i]) {
+            return is_blank_from(name, i);
+        }
+        i += 1;
+    }
+    true
+}
+
+pub fn same_name(a: [u8; 5], b: [u8; 5]) -> bool
+    ensures { λ r. ⌜ r ≡ alike a b ⌝ }
+{
+    let mut i: usize = 0;
+    while i < 5 {
+        if a[i] != b[i] {
+            return false;
+        }
+        i += 1;
+    }
+    true
+}
+
+// The number of the program of that name, or 0.
+pub fn find_program(programs: [Program; 32], name: [u8; 5]) -> u8
+    ensures { λ r. ⌜ r ≡ find programs name ⌝ }
+{
+    let mut p: u8 = 1;
+    while p <= 32 {
+        let i = place(wide(p));
+        let r = programs[i];
+        if r.is_named(name) {
+            return p;
+        }
+        p += 1;
+    }
+    0
+}
+
+// The lowest number that no program has, or 0.
+pub fn lowest_unused(programs: [Program; 32]) -> u8
+    ensures { λ r. ⌜ r ≡ lowestUnused programs ⌝ }
+{
+    let mut p: u8 = 1;
+    while p <= 32 {
+        let i = place(wide(p));
+        let r = programs[i];
+        if !r.used {
+            return p;
+        }
+        p += 1;
+    }
+    0
+}
+
+pub fn unused_record() -> Program
+    ensures { λ r. ⌜ r ≡ unused ⌝ }
+{
+    Program {
+        used: false,
+        name: [0; 5],
+        priority: 0,
+        state: 0,
+        why: Why::Nothing,
+        due: 0,
+        interval: 0,
+    }
+}
+
+// A program just loaded.
+pub fn newcomer(name: [u8; 5], priority: u16) -> Program
+    ensures { λ r. ⌜ r ≡ newcomer name priority ⌝ }
+{
+    Program {
+        used: true,
+        name,
+        priority,
+        state: 0,
+        why: Why::Nothing,
+        due: 0,
+        interval: 0,
+    }
+}
+
+impl Program {
+    fn is_named(self, name: [u8; 5]) -> bool
+        ensures { λ r. ⌜ r ≡ (self .used && alike (self .name) name) ⌝ }
+    {
+        if !self.used {
+            return false;
+        }
+        let own = self.name;
+        same_name(own, name)
+    }
+
+    pub fn in_state(self, state: u8, why: Why) -> Program
+        ensures { λ r. ⌜ r ≡ inState state why self ⌝ }
+    {
+        let name = self.name;
+        Program {
+            used: self.used,
+            name,
+            priority: self.priority,
+            state,
+            why,
+            due: self.due,
+            interval: self.interval,
+        }
+    }
+
+    pub fn with_priority(mut self, n: u16) -> Program
+        ensures { λ r. ⌜ r ≡ withPriority n self ⌝ }
+    {
+        self.priority = n;
+        self
+    }
+
+    pub fn with_timer(mut self, due: u64, interval: u64) -> Program
+        ensures { λ r. ⌜ r ≡ withTimer due interval self ⌝ }
+    {
+        self.due = due;
+        self.interval = interval;
+        self
+    }
+}
+
+impl Resource {
+    pub fn free() -> Resource
+        ensures { λ r. ⌜ r ≡ free ⌝ }
+    {
+        Resource { owner: 0, lock: 0 }
+    }
+
+    // Whether p owns or locks the number.
+    pub fn concerns(self, p: u8) -> bool
+        ensures { λ r. ⌜ r ≡ concerns p self ⌝ }
+    {
+        if self.owner == p {
+            return true;
+        }
+        self.lock == p
+    }
+
+    // What is left of the number when p ends.
+    pub fn without(mut self, p: u8) -> Resource
+        ensures { λ r. ⌜ r ≡ without p self ⌝ }
+    {
+        if self.owner == p {
+            return Resource::free();
+        }
+        if self.lock == p {
+            self.lock = 0;
+            return self;
+        }
+        self
+    }
+}
+
+impl Numbers {
+    // The owner of a number that is allocated globally.
+    pub const GLOBAL: u8 = 33;
+
+    // `count` free numbers.
+    pub fn fresh(count: u8) -> Numbers
+        requires { ⌜ count ≤ 16 ⌝ }
+        ensures { λ r. ⌜ r ≡ tableOf count (replicate count free) ⌝ }
+    {
+        let free = Resource::free();
+        let resources = [free; 16];
+        Numbers { count, resources }
+    }
+
+    pub fn number(self, r: usize) -> Resource
+        requires { ⌜ Within self r ⌝ }
+        ensures { λ x. ⌜ x ≡ numberAt (resources self) r ⌝ }
+    {
+        let i = place(r);
+        self.resources[i]
+    }
+
+    // The lowest free number, or 0.
+    pub fn lowest_free(self) -> usize
+        requires { ⌜ Fit self ⌝ }
+        ensures { λ n. ⌜ n ≡ first (λ r. eqb (numberAt (resources self) r .owner) 0) (from 1 (self .count)) ⌝ }
+    {
+        let count = wide(self.count);
+        let mut r: usize = 1;
+        while r <= count {
+            let x = self.number(r);
+            if x.owner == 0 {
+                return r;
+            }
+            r += 1;
+        }
+        0
+    }
+
+    pub fn with_number(mut self, r: usize, owner: u8, lock: u8) -> Numbers
+        requires { ⌜ Within self r ⌝ }
+        ensures { λ t. ⌜ t ≡ tableOf (self .count) (withNumber r owner lock (resources self)) ⌝ }
+    {
+        let i = place(r);
+        self.resources[i] = Resource { owner, lock };
+        self
+    }
+
+    // The numbers when p ends.
+    pub fn without(self, p: u8) -> Numbers
+        requires { ⌜ Fit self ⌝ }
+        ensures { λ t. ⌜ t ≡ tableOf (self .count) (map (without p) (resources self)) ⌝ }
+    {
+        let count = wide(self.count);
+        let mut resources = self.resources;
+        let mut i: usize = 0;
+        while i < count {
+            let x = resources[i];
+            resources[i] = x.without(p);
+            i += 1;
+        }
+        Numbers {
+            count: self.count,
+            resources,
+        }
+    }
+
+    pub fn owns_any(self, p: u8) -> bool
+        requires { ⌜ Fit self ⌝ }
+        ensures { λ b. ⌜ b ≡ any (λ r. eqb (numberAt (resources self) r .owner) p) (from 1 (self .count)) ⌝ }
+    {
+        let count = wide(self.count);
+        let mut r: usize = 1;
+        while r <= count {
+            let x = self.number(r);
+            if x.owner == p {
+                return true;
+            }
+            r += 1;
+        }
+        false
+    }
+
+    // Whether p owns or locks number r; past the last it does neither, and 0 is taken for 1.
+    pub fn concerned(self, r: usize, p: u8) -> bool
+        requires { ⌜ Fit self ⌝ }
+        requires { ⌜ 1 ≤ p ⌝ }
+        ensures { λ b. ⌜ b ≡ concerns p (numberAt (resources self) r) ⌝ }
+    {
+        let i = place(r);
+        if i < wide(self.count) {
+            let x = self.resources[i];
+            return x.concerns(p);
+        }
+        false
+    }
 }

@@ -1,0 +1,57 @@
+-- `records::is_blank_from` meets its contract. The invariant: blanks from the start are blanks from i on. Assumes nothing.
+use mathlib.Core.Path.{_≡_, refl, sym, _∙_}
+use Prim.Native.Nat.{_-_}
+use native.Mathlib.Omega.{arith}
+use lib.ListN.{drop}
+use Rattle.lists.specs.Lists.{every}
+use Rattle.records.specs.Names.{blank}
+use Rattle.records.proofs.Names.{blank-on, blank-no, blank-end}
+use Rattle.records.proofs.is_blank_from.Statement.{statement}
+use Rattle.records.proofs.is_blank_from.Tie as tie
+
+abbrev Inv-loop : tie.InvT-loop
+Inv-loop start name i₀ i = every blank (drop start name) ≡ every blank (drop i name)
+
+abbrev μ-loop : tie.MeasureT-loop
+μ-loop start name i₀ i = 5 - i
+
+loop-holds : tie.Need-loop-holds Inv-loop μ-loop
+loop-holds c = refl
+
+array-read-if1 : tie.Need-array-read-if1 Inv-loop μ-loop
+array-read-if1 c = omega arith
+
+returns : tie.Need-returns Inv-loop μ-loop
+returns c =
+    let b = c .before .before in
+    sym (b .loop .inv ∙ blank-no (b .before .args .t1) (b .loop .i) (omega arith) (c .if1 .taken))
+
+add-i : tie.Need-add-i Inv-loop μ-loop
+add-i c = omega arith
+
+loop-less : tie.Need-loop-less Inv-loop μ-loop
+loop-less c = omega arith
+
+loop-again : tie.Need-loop-again Inv-loop μ-loop
+loop-again c =
+    let b = c .before .before in
+    b .loop .inv ∙ blank-on (b .before .args .t1) (b .loop .i) (omega arith) (c .if1 .left)
+
+returns-2 : tie.Need-returns-2 Inv-loop μ-loop
+returns-2 c =
+    let b = c .before in
+    sym (b .loop .inv ∙ blank-end (b .before .args .t1) (b .loop .i) (omega arith))
+
+pub is-blank-from-spec : {M : Type 1} → statement M
+is-blank-from-spec =
+    tie.close
+    (tie.spec
+    Inv-loop
+    μ-loop
+    loop-holds
+    array-read-if1
+    returns
+    add-i
+    loop-less
+    loop-again
+    returns-2)

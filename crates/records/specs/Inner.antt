@@ -1,0 +1,17 @@
+-- What inner functions ask and promise; nothing here need be believed for the calls.
+-- Assumes nothing.
+use Prim.Native.Nat.{ℕ, _≤_}
+use mathlib.Core.Path.{_≡_}
+use Rattle.records.specs.declared.Numbers.{Numbers}
+use Rattle.records.specs.Numbers.{resources, tableOf}
+
+-- a table of numbers as it is made: 16 at most, blank behind
+pub record Fit (t : Numbers) : Type 0 where
+  pub most : t .count ≤ 16
+  pub formed : t ≡ tableOf (t .count) (resources t)
+
+-- and r is one of its numbers
+pub record Within (t : Numbers) (r : ℕ) : Type 0 where
+  pub fit : Fit t
+  pub low : 1 ≤ r
+  pub high : r ≤ t .count
