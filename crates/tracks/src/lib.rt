@@ -1,4 +1,11 @@
 // The disc tracks: who holds each.
+ghost use Prim.Native.Nat.{_-_};
+ghost use mathlib.Core.Path.{_≡_};
+ghost use mathlib.Core.List.{_++_};
+ghost use lib.ListN.{getD, drop, replicate};
+ghost use Rattle.lists.specs.Lists.{count};
+ghost use Rattle.tracks.specs.Tracks.{nobody, system, holders, tableOf, run, lowest, filled, replaced};
+ghost use Rattle.tracks.specs.Inner.{Fit, HasTrack, HasTracks, Sizes, foundIs};
 
 // Tracks 0 to `count` - 1, the first `system` of them the system's. A place holds 0 where the track is free, a program's number, GLOBAL or
 // SYSTEM; places from `count` on hold 0.
@@ -8,10 +15,142 @@ pub struct Tracks {
     pub holders: [u8; 256],
 }
 
+// Where a search of the tracks ended.
+pub enum Found {
+    At(usize),
+    Nothing,
+}
+
+fn wide(x: u16) -> usize
+    ensures { λ r. ⌜ r ≡ x ⌝ }
+{
+    x as usize
+}
+
 impl Tracks {
     pub const FREE: u8 = 0;
 
     pub const GLOBAL: u8 = 33;
 
     pub const SYSTEM: u8 = 34;
+
+    // All tracks free but the first `own`, the system's.
+    pub fn fresh(all: u16, own: u16) -> Tracks
+        requires { ⌜ Sizes all own ⌝ }
+        ensures { λ r. ⌜ r ≡ tableOf all own (replicate own system ++ replicate (all - own) nobody) ⌝ }
+    {
+        let first_free = wide(own);
+        let mut holders = [Tracks::FREE; 256];
+        let mut i: usize = 0;
+        while i < first_free {
+            holders[i] = Tracks::SYSTEM;
+            i += 1;
+        }
+        Tracks {
+            count: all,
+            system: own,
+            holders: holders,
+        }
+    }
+
+    // Who holds track i.
+    pub fn holder(self, i: usize) -> u8
+        requires { ⌜ HasTrack self i ⌝ }
+        ensures { λ r. ⌜ r ≡ getD (holders self) i nobody ⌝ }
+    {
+        self.holders[i]
+    }
+
+    // Whether n tracks from `start` on are there and all h's.
+    pub fn run_at(self, h: u8, start: usize, n: usize) -> bool
+        requires { ⌜ Fit self ⌝ }
+        ensures { λ r. ⌜ r ≡ run h n (drop start (holders self)) ⌝ }
+    {
+        let end = wide(self.count);
+        let mut i = start;
+        let mut left = n;
+        while 0 < left {
+            if end <= i {
+                return false;
+            }
+            if self.holders[i] != h {
+                return false;
+            }
+            i += 1;
+            left -= 1;
+        }
+        true
+    }
+
+    // Where the lowest run of n free tracks begins.
+    pub fn lowest_run(self, n: usize) -> Found
+        requires { ⌜ Fit self ⌝ }
+        ensures { λ r. ⌜ foundIs r ≡ lowest n 0 (holders self) ⌝ }
+    {
+        let end = wide(self.count);
+        let mut start: usize = 0;
+        while start < end {
+            if self.run_at(Tracks::FREE, start, n) {
+                return Found::At(start);
+            }
+            start += 1;
+        }
+        Found::Nothing
+    }
+
+    // n tracks from `start` on become h's.
+    pub fn filled(self, start: usize, n: usize, h: u8) -> Tracks
+        requires { ⌜ HasTracks self start n ⌝ }
+        ensures { λ r. ⌜ r ≡ tableOf (self .count) (self .system) (filled start n h (holders self)) ⌝ }
+    {
+        let mut holders = self.holders;
+        let mut k: usize = 0;
+        while k < n {
+            holders[start + k] = h;
+            k += 1;
+        }
+        Tracks {
+            count: self.count,
+            system: self.system,
+            holders: holders,
+        }
+    }
+
+    // All of p's tracks become h's.
+    pub fn replace_all(self, p: u8, h: u8) -> Tracks
+        requires { ⌜ Fit self ⌝ }
+        ensures { λ r. ⌜ r ≡ tableOf (self .count) (self .system) (replaced p h (holders self)) ⌝ }
+    {
+        let end = wide(self.count);
+        let mut holders = self.holders;
+        let mut i: usize = 0;
+        while i < end {
+            if holders[i] == p {
+                holders[i] = h;
+            }
+            i += 1;
+        }
+        Tracks {
+            count: self.count,
+            system: self.system,
+            holders: holders,
+        }
+    }
+
+    // How many tracks p holds.
+    pub fn held_by(self, p: u8) -> usize
+        requires { ⌜ Fit self ⌝ }
+        ensures { λ r. ⌜ r ≡ count p (holders self) ⌝ }
+    {
+        let end = wide(self.count);
+        let mut n: usize = 0;
+        let mut i: usize = 0;
+        while i < end {
+            if self.holders[i] == p {
+                n += 1;
+            }
+            i += 1;
+        }
+        n
+    }
 }
