@@ -25,6 +25,7 @@ pub record Orderly (t : Tables) : Type 0 where
   pub laid : Laid (t .links) (read (t .links))
   pub dormant : getD (read (t .links)) 0 [] ≡ []
   pub long : length (t .ledger .programs) ≡ 32
+  pub states : (z : ℕ) → Known z → stateOf (plain t .book) z < 7
   pub tracks : tracks.Fit (t .ledger .tracks)
   pub numbers : numbers.Fit (t .ledger .numbers)
   pub notes : Entries
