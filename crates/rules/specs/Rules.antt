@@ -42,7 +42,7 @@ abbrev pub awaits : Release → Why → Bool
 awaits R Nothing = false
 awaits R (Tracks n) = false
 awaits R (Son k) = ltb 0 k && eqb k (R .ended)
-awaits R (Lock r) = R .cleared r
+awaits R (Lock r) = ltb 0 r && R .cleared r
 awaits R Number = R .dealt
 
 -- all of chain 5 if a track was freed, in chain order; the one that ended has left its chain
