@@ -12,6 +12,7 @@ pub mod Demand
 pub mod FrameLaws
 pub mod Guard
 pub mod Order
+pub mod Paths
 pub mod IfDone
 pub mod Claims
 pub mod Freed
