@@ -1,1 +1,4 @@
 pub mod Agree
+pub mod Members
+pub mod Orderly
+pub mod Plain

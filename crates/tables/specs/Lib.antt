@@ -2,3 +2,4 @@ pub mod Tables
 pub mod Sound
 pub mod Calls
 pub mod Inner
+pub mod Walks
