@@ -13,6 +13,7 @@ pub mod FrameLaws
 pub mod Guard
 pub mod Order
 pub mod Paths
+pub mod OneAnswer
 pub mod IfDone
 pub mod Claims
 pub mod Freed

@@ -3,6 +3,7 @@
 use Prim.Native.Nat.{ℕ, _≤_, _<_}
 use mathlib.Core.Path.{_≡_}
 use mathlib.Core.Logic.{_≢_}
+use mathlib.Core.Bool.{true}
 use mathlib.Core.List.{List, [], _∷_}
 use lib.ListN.{length, getD, take}
 use Rattle.lists.specs.Lists.{count}
@@ -18,6 +19,7 @@ use Rattle.chains.specs.Links.{read}
 use Rattle.chains.specs.Inner.{Laid}
 use Rattle.tables.specs.declared.Tables.{Tables}
 use Rattle.tables.specs.Tables.{plain}
+use Rattle.tables.specs.Sound.{sound}
 
 -- Tables in order: the links lay out chains that some entries account for, and the tables of tracks and numbers are as they are made. What a call does
 -- leads from such tables to such tables, also where they are not sound between two of its steps.
@@ -56,3 +58,8 @@ pub record CanAmend (t : Tables) (p : ℕ) (r : Program) : Type 0 where
   pub known : Known p
   pub state : r .state ≡ stateOf (plain t .book) p
   pub priority : stateOf (plain t .book) p ≢ 0 → r .priority ≡ prioOf (plain t .book) p
+
+-- tables that have passed the test
+pub record Ready (t : Tables) : Type 0 where
+  pub sound : sound t ≡ true
+  pub orderly : Orderly t

@@ -1,0 +1,59 @@
+-- Two answers with the same number and the same values are the same case: a number and values tell the case that has them.
+-- Assumes nothing.
+use Prim.Native.Nat.{ℕ}
+use mathlib.Core.Path.{_≡_, refl, sym, _∙_}
+use mathlib.Core.Bool.{cond}
+use mathlib.Core.List.{List, [], _∷_}
+use lib.ListN.{getD}
+use lib.Dec.{eqb}
+use Rattle.rules.specs.declared.Answer.{Answer}
+use Rattle.rules.specs.declared.Answer.the-variants.{Done, Told, Waits, NoCaller, NotAllowed, NoProgram, WrongState, NameInUse, AllUsed, NoRoom, NotHolder, NotAllocated, AtCeiling, TooShort, NotUnderstood, NotSound}
+use Rattle.rules.specs.Answers.{number, values}
+
+-- done with a value, or with a time
+abbrev doneWith : List ℕ → Answer
+doneWith [] = NotSound
+doneWith (v ∷ []) = Done v
+doneWith (d ∷ h ∷ []) = NotSound
+doneWith (d ∷ h ∷ m ∷ []) = NotSound
+doneWith (d ∷ h ∷ m ∷ s ∷ []) = NotSound
+doneWith (d ∷ h ∷ m ∷ s ∷ c ∷ vs) = Told (record { day = d; hour = h; minute = m; second = s; hundredth = c })
+
+-- the case of a number and its values
+abbrev caseOf : ℕ → List ℕ → Answer
+caseOf n vs =
+    cond (eqb n 0) (doneWith vs)
+    (cond (eqb n 1) (Waits (getD vs 0 0))
+    (cond (eqb n 2) NoCaller
+    (cond (eqb n 3) NotAllowed
+    (cond (eqb n 4) NoProgram
+    (cond (eqb n 5) (WrongState (getD vs 0 0))
+    (cond (eqb n 6) NameInUse
+    (cond (eqb n 7) AllUsed
+    (cond (eqb n 8) NoRoom
+    (cond (eqb n 9) NotHolder
+    (cond (eqb n 10) NotAllocated
+    (cond (eqb n 11) AtCeiling
+    (cond (eqb n 12) (TooShort (getD vs 0 0))
+    (cond (eqb n 13) NotUnderstood NotSound)))))))))))))
+
+case-is : (a : Answer) → caseOf (number a) (values a) ≡ a
+case-is (Done v) = refl
+case-is (Told t) = refl
+case-is (Waits s) = refl
+case-is NoCaller = refl
+case-is NotAllowed = refl
+case-is NoProgram = refl
+case-is (WrongState s) = refl
+case-is NameInUse = refl
+case-is AllUsed = refl
+case-is NoRoom = refl
+case-is NotHolder = refl
+case-is NotAllocated = refl
+case-is AtCeiling = refl
+case-is (TooShort n) = refl
+case-is NotUnderstood = refl
+case-is NotSound = refl
+
+pub one-answer : (a b : Answer) → number a ≡ number b → values a ≡ values b → a ≡ b
+one-answer a b n v = sym (case-is a) ∙ (λ i. caseOf (n i) (v i)) ∙ case-is b

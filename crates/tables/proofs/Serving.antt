@@ -1,0 +1,50 @@
+-- What a call that keeps to a plan hands back: the plan's number and values, and the plan's events played on the plain state, laid out. A refusal hands the
+-- tables back as they came, since sound tables are what their plain state lays out. And the test of soundness decides between 14 and the rule.
+-- Assumes nothing.
+use Prim.Native.Nat.{ℕ}
+use mathlib.Core.Path.{_≡_, refl, sym, ap, _∙_}
+use mathlib.Core.Bool.{Bool, true, false}
+use mathlib.Core.List.{List, [], _∷_, _++_}
+use Rattle.rules.specs.declared.Answer.{Answer}
+use Rattle.rules.specs.declared.Answer.the-variants.{NotSound}
+use Rattle.rules.specs.Answers.{number, values}
+use Rattle.rules.specs.Requests.{Request}
+use Rattle.rules.specs.Plans.{Plan, refused, Event, numberOf, valuesOf, eventsOf}
+use Rattle.rules.specs.Keeper.{lists, State, asks, step, play}
+use Rattle.tables.specs.declared.Tables.{Tables}
+use Rattle.tables.specs.declared.Outcome.{Outcome}
+use Rattle.tables.specs.Tables.{plain, lay}
+use Rattle.tables.specs.Sound.{sound}
+use Rattle.tables.specs.Calls.{Result, told, served, asked, notSound}
+use Rattle.tables.specs.Inner.{Orderly, Says, Ready}
+use Rattle.tables.proofs.Orderly.{orderly-lay}
+
+-- the call keeps to plan x
+module _ (t r : Tables) (a : Answer) (q : Request) (x : Plan) (e : asks lists (plain t) q ≡ x) where
+  pub serves : number a ≡ numberOf x → values a ≡ valuesOf x → Says r (play lists (eventsOf x) (plain t)) → told (record { answer = a; tables = r }) ≡ served t q
+  unfolding served
+  serves n v S =
+      let n′ : number a ≡ numberOf (asks lists (plain t) q) = n ∙ ap numberOf (sym e) in
+      let v′ : values a ≡ valuesOf (asks lists (plain t) q) = v ∙ ap valuesOf (sym e) in
+      let t′ : r ≡ lay (play lists (eventsOf (asks lists (plain t) q)) (plain t)) =
+      sym (orderly-lay r (S .orderly)) ∙ ap lay (S .state) ∙ ap (λ (y : Plan). lay (play lists (eventsOf y) (plain t))) (sym e) in
+      λ i. record { number = n′ i; values = v′ i; tables = t′ i }
+
+-- a refusal
+pub refuses : (t : Tables) (a : Answer) (q : Request) (v : ℕ) → Orderly t → asks lists (plain t) q ≡ refused (number a) v → values a ≡ v ∷ []
+    → told (record { answer = a; tables = t }) ≡ served t q
+refuses t a q v O e w = serves t t a q (refused (number a) v) e refl w (record { orderly = O; state = refl })
+
+-- the test comes first
+pub asked-sound : (t : Tables) (q : Request) → sound t ≡ true → asked t q ≡ served t q
+unfolding asked
+asked-sound t q e = rw (e, asked)
+
+pub asked-unsound : (t : Tables) (q : Request) → sound t ≡ false → told (record { answer = NotSound; tables = t }) ≡ asked t q
+unfolding asked
+asked-unsound t q e = rw (e, asked)
+
+-- events one after the other
+pub play-append : (es fs : List Event) (a : State lists) → play lists (es ++ fs) a ≡ play lists fs (play lists es a)
+play-append [] fs a = refl
+play-append (e ∷ es) fs a = play-append es fs (step lists e a)
