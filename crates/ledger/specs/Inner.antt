@@ -1,12 +1,154 @@
 -- What inner functions ask and promise; nothing here need be believed for the calls.
 -- Assumes nothing.
-use mathlib.Core.Bool.{Bool, _&&_}
-use Rattle.rules.specs.Test.{testNames, testZeros, testWhys, testSystem, testUsers, testUnlocked, testLimits, testDues}
+use Prim.Native.Nat.{ℕ, _-_, _≤_, _+_, _*_, _<_}
+use mathlib.Core.Path.{_≡_}
+use mathlib.Core.Bool.{Bool, false, _&&_, true, cond, not, _||_}
+use mathlib.Core.List.{List}
+use lib.ListN.{getD, take}
+use lib.Dec.{eqb, leb, ltb}
+use Rattle.lists.specs.Lists.{count, any, from, upTo}
+use Rattle.records.specs.declared.Numbers.{Numbers}
+use Rattle.records.specs.Records.{Known, known, missing}
+use Rattle.records.specs.Numbers.{resources, numberAt, concerns, globally, free}
+use Rattle.ledger.specs.declared.Release.{Release}
+use Rattle.rules.specs.Test.{testNames, testZeros, testWhys, testSystem, testUsers, testUnlocked, testLimits, testDues, sonOf, zeros}
+use mathlib.Core.Logic.{_≢_}
+use Rattle.clock.specs.Clock.{ceiling, farthest}
+use Rattle.records.specs.declared.Program.{Program}
+use Rattle.records.specs.declared.Resource.{Resource}
+use Rattle.records.specs.declared.Why.{Why}
+use Rattle.records.specs.declared.Why.the-variants.{Nothing, Tracks, Son, Lock, Number}
+use Rattle.records.specs.Names.{legal}
+use Rattle.tracks.specs.Tracks.{nobody, system}
+use Rattle.rules.specs.Book.{Book, at}
+use Rattle.rules.specs.Sound.{suits}
 use Rattle.ledger.specs.declared.Ledger.{Ledger}
 use Rattle.ledger.specs.Ledger.{bookOf, testBlank}
+use Rattle.rules.specs.Rules as rules
 
 -- the tests of soundness that do not concern chains
 unfoldable pub testBook : Ledger → Bool
 testBook l =
     testNames (bookOf l) && testZeros (bookOf l) && testWhys (bookOf l) && testSystem (bookOf l) && testUsers (bookOf l) && testUnlocked (bookOf l)
     && testBlank l && testLimits (bookOf l) && testDues (bookOf l)
+
+-- what a release of the code says, and that it says what one of the rules says: number 0 is none
+pub record Releases (x : Release) (y : rules.Release) : Type 0 where
+  pub ended : x .ended ≡ y .ended
+  pub tracks : x .tracks ≡ y .tracks
+  pub cleared : (r : ℕ) → 1 ≤ r → getD (x .cleared) (r - 1) false ≡ y .cleared r
+  pub dealt : x .dealt ≡ y .dealt
+
+-- the release of p's ending with these numbers, n tracks freed
+abbrev pub endingOf : Numbers → ℕ → ℕ → rules.Release
+endingOf t p n = record {
+  ended = p;
+  tracks = n;
+  cleared = λ r. concerns p (numberAt (resources t) r);
+  dealt = any (λ r. eqb (numberAt (resources t) r .owner) p) (from 1 (t .count));
+}
+
+-- a list of known programs, each once
+pub record Listed (ids : List ℕ) (len : ℕ) : Type 0 where
+  pub most : len ≤ 32
+  pub known : (z : ℕ) → 1 ≤ count z (take len ids) → Known z
+  pub once : (z : ℕ) → count z (take len ids) ≤ 1
+
+-- an answer says whether A holds
+pub record Tells (r : Bool) (A : Type 0) : Type 0 where
+  pub yes : r ≡ true → A
+  pub nay : r ≡ false → A → ⊥
+
+-- a place among the records for any number; a program's is its own
+pub record Seat (p i : ℕ) : Type 0 where
+  pub within : i < 32
+  pub own : Known p → i ≡ p - 1
+
+-- T, S, R and the clock
+unfoldable pub sized : ℕ → ℕ → ℕ → ℕ → Bool
+sized T S R c = upTo 1 256 T && leb S T && leb R 16 && leb c ceiling
+
+-- due and interval, at a clock
+unfoldable pub timed : ℕ → ℕ → ℕ → Bool
+timed c d i = cond (eqb d 0) (eqb i 0) (ltb c d && leb (d - c) farthest && leb i farthest)
+
+-- a record but its why
+unfoldable pub trim : ℕ → Program → Bool
+trim c r = cond (r .used) (legal (r .name)) (zeros r) && leb (r .priority) 32767 && timed c (r .due) (r .interval)
+
+-- a program that can be awaited
+abbrev pub live : Program → Bool
+live r = r .used && not (eqb (r .state) 0)
+
+-- the state that a why is for
+abbrev pub stateFits : Why → ℕ → Bool
+stateFits Nothing s = eqb s 0 || eqb s 1 || eqb s 6
+stateFits (Tracks n) s = eqb s 5
+stateFits (Son k) s = eqb s 3
+stateFits (Lock r) s = eqb s 3
+stateFits Number s = eqb s 3
+
+-- what program p waits for, among T tracks and R numbers; v tells whether the son is live
+abbrev pub reasonFits : ℕ → ℕ → ℕ → Bool → Why → Bool
+reasonFits T R p v Nothing = true
+reasonFits T R p v (Tracks n) = upTo 1 T n
+reasonFits T R p v (Son k) = known k && not (eqb k p) && v
+reasonFits T R p v (Lock r) = upTo 1 R r
+reasonFits T R p v Number = true
+
+-- every record
+abbrev pub Records : Ledger → Type 0
+Records l = (i : ℕ) → i < 32
+    → (trim (l .clock .ticks) (getD (l .programs) i missing)
+    && suits (bookOf l) (i + 1) (getD (l .programs) i missing .state) (getD (l .programs) i missing .why)) ≡ true
+
+-- a name as a number, another for each, and never 0; and 0 where the record is unused
+abbrev pub joined : ℕ → ℕ → ℕ → ℕ → ℕ → ℕ
+joined a b c d e = ((((256 + a) * 256 + b) * 256 + c) * 256 + d) * 256 + e
+
+unfoldable pub nameCode : List ℕ → ℕ
+nameCode xs = joined (getD xs 0 0) (getD xs 1 0) (getD xs 2 0) (getD xs 3 0) (getD xs 4 0)
+
+unfoldable pub nameKey : Program → ℕ
+nameKey r = cond (r .used) (nameCode (r .name)) 0
+
+unfoldable pub sonKey : Program → ℕ
+sonKey r = sonOf (r .why)
+
+-- keys, one of each record
+pub record Keyed (f : Program → ℕ) (ps : List Program) (ks : List ℕ) : Type 0 where
+  pub each : (i : ℕ) → i < 32 → getD ks i 0 ≡ f (getD ps i missing)
+
+-- the key at i is 0 or stands nowhere behind it; so for every i; and so for the keys of records
+abbrev pub Once : List ℕ → ℕ → Type 0
+Once ks i = getD ks i 0 ≢ 0 → (j : ℕ) → j < 32 → i < j → getD ks j 0 ≢ getD ks i 0
+
+abbrev pub Distinct : List ℕ → Type 0
+Distinct ks = (i : ℕ) → i < 32 → Once ks i
+
+abbrev pub Apart : (Program → ℕ) → List Program → Type 0
+Apart f ps = (i : ℕ) → i < 32 → f (getD ps i missing) ≢ 0 → (j : ℕ) → j < 32 → i < j → f (getD ps j missing) ≢ f (getD ps i missing)
+
+-- who is no program, or is used
+abbrev pub user : ℕ → Bool → Bool
+user p u = not (known p) || u
+
+-- the holder h of place i, T being tracks and S the system's; u tells whether program h is used
+unfoldable pub placed : ℕ → ℕ → ℕ → ℕ → Bool → Bool
+placed T S i h u = cond (ltb i T) (cond (ltb i S) (eqb h system) (ltb h system && user h u)) (eqb h nobody)
+
+abbrev pub Places : Ledger → Type 0
+Places l = (i : ℕ) → i < 256
+    → placed (l .tracks .count) (l .tracks .system) i (getD (l .tracks .holders) i nobody) (at (bookOf l) (getD (l .tracks .holders) i nobody) .used) ≡ true
+
+-- the number at place i, R being ours; u and v tell whether owner and locker are used
+unfoldable pub owned : ℕ → ℕ → Bool → Bool → Bool
+owned o k u v = leb o globally && leb k 32 && (not (eqb o 0) || eqb k 0) && user o u && user k v
+
+unfoldable pub counted : ℕ → ℕ → Resource → Bool → Bool → Bool
+counted R i x u v = cond (ltb i R) (owned (x .owner) (x .lock) u v) (eqb (x .owner) 0 && eqb (x .lock) 0)
+
+abbrev pub Counts : Ledger → Type 0
+Counts l = (i : ℕ) → i < 16
+    → counted (l .numbers .count) i (getD (l .numbers .resources) i free)
+    (at (bookOf l) (getD (l .numbers .resources) i free .owner) .used) (at (bookOf l) (getD (l .numbers .resources) i free .lock) .used) ≡ true

@@ -1,7 +1,13 @@
 // The book as the code keeps it: records, the clock, the tracks and the resource numbers, in arrays of one size.
+mod freeing;
+mod sound;
+
 use clock::Clock;
+pub use freeing::sift;
+pub use freeing::without;
 use records::Numbers;
 use records::Program;
+pub use sound::book_sound;
 use tracks::Tracks;
 
 pub struct Ledger {
@@ -9,4 +15,13 @@ pub struct Ledger {
     pub clock: Clock,
     pub tracks: Tracks,
     pub numbers: Numbers,
+}
+
+// What a call sets free: the program that ended, or 0; how many tracks; which numbers were cleared or deallocated, number r at r - 1; whether one
+// was deallocated.
+pub struct Release {
+    pub ended: u8,
+    pub tracks: usize,
+    pub cleared: [bool; 16],
+    pub dealt: bool,
 }

@@ -36,10 +36,10 @@ pub record Alike (a : State lists) (t : State entries) : Type 0 where
 
 -- one record
 module _ (b : Book) (L : length (b .programs) ≡ 32) (p : ℕ) (P : Known p) (r : Program) where
-  state-other : (z : ℕ) → Known z → z ≢ p → stateOf (put p r b) z ≡ stateOf b z
+  pub state-other : (z : ℕ) → Known z → z ≢ p → stateOf (put p r b) z ≡ stateOf b z
   state-other z Z n = ap (λ (x : Program). x .state) (at-other b p P r z Z n)
 
-  state-same : stateOf (put p r b) p ≡ r .state
+  pub state-same : stateOf (put p r b) p ≡ r .state
   state-same = ap (λ (x : Program). x .state) (at-same b L p P r)
 
   state-kept : r .state ≡ stateOf b p → (z : ℕ) → Known z → stateOf (put p r b) z ≡ stateOf b z
@@ -84,7 +84,7 @@ edit-alike a t b A L f g = record {
 }
 
 module _ (p : ℕ) (P : Known p) where
-  amend-alike : (a : State lists) (t : State entries) (r : Program) → Alike a t → r .state ≡ stateOf (a .book) p
+  pub amend-alike : (a : State lists) (t : State entries) (r : Program) → Alike a t → r .state ≡ stateOf (a .book) p
       → (stateOf (a .book) p ≢ 0 → r .priority ≡ prioOf (a .book) p) → Alike (amend lists p r a) (amend entries p r t)
   amend-alike a t r A h k =
       one-book (λ u. Alike (amend lists p r a) (amend entries p r u)) t (a .book) (A .book)
@@ -92,7 +92,7 @@ module _ (p : ℕ) (P : Known p) where
       (state-kept (a .book) (A .noted .long) p P r h) (prio-kept (a .book) (A .noted .long) p P r k))
 
   -- p leaves
-  leave-alike : (a : State lists) (t : State entries) → Alike a t → Alike (leave lists p a) (leave entries p t)
+  pub leave-alike : (a : State lists) (t : State entries) → Alike a t → Alike (leave lists p a) (leave entries p t)
   leave-alike a t A =
       one-book (λ u. Alike (leave lists p a) (leave entries p u)) t (a .book) (A .book)
       (go (eqb (stateOf (a .book) p) 0) refl)
@@ -161,7 +161,7 @@ module _ (p : ℕ) (P : Known p) where
       }
 
   -- p, dormant, enters
-  enter-alike : (s : ℕ) (w : Why) (a : State lists) (t : State entries) → Alike a t → stateOf (a .book) p ≡ 0
+  pub enter-alike : (s : ℕ) (w : Why) (a : State lists) (t : State entries) → Alike a t → stateOf (a .book) p ≡ 0
       → Alike (enter lists p s w a) (enter entries p s w t)
   enter-alike s w a t A D =
       one-book (λ u. Alike (enter lists p s w a) (enter entries p s w u)) t (a .book) (A .book)
@@ -246,7 +246,7 @@ module _ (p : ℕ) (P : Known p) where
       }
 
   -- p is dormant once it has left
-  left-state : (a : State lists) → length (a .book .programs) ≡ 32 → stateOf (leave lists p a .book) p ≡ 0
+  pub left-state : (a : State lists) → length (a .book .programs) ≡ 32 → stateOf (leave lists p a .book) p ≡ 0
   left-state a L = state-same (a .book) L p P (inState 0 Nothing (at (a .book) p))
 
   pub act-alike : (d : Deed) (a : State lists) (t : State entries) → Alike a t → Alike (act lists p d a) (act entries p d t)

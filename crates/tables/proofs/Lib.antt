@@ -3,4 +3,13 @@ pub mod Members
 pub mod Orderly
 pub mod Plain
 pub mod Serving
+pub mod Readied
 pub mod OneOutcome
+pub mod Turns
+pub mod Wakes
+pub mod Walking
+pub mod Chained
+pub mod Parted
+pub mod Altered
+pub mod Waiters
+pub mod Endings

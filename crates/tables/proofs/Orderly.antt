@@ -1,33 +1,28 @@
 -- Sound tables are in order; and tables in order are told by their plain state.
 -- Assumes nothing.
-use Prim.Native.Nat.{ℕ, zero, suc, _+_, _-_, _≤_, _<_}
+use Prim.Native.Nat.{ℕ, _+_, _-_, _≤_, _<_}
 use native.Mathlib.Omega.{arith}
 use native.Mathlib.Decide.{decLt}
-use mathlib.Core.Path.{_≡_, refl, sym, ap, _∙_}
-use mathlib.Core.Bool.{Bool, true, false, not, _&&_, _||_}
-use mathlib.Core.List.{List, [], _∷_, _++_}
+use mathlib.Core.Path.{_≡_, sym, ap, _∙_}
+use mathlib.Core.Bool.{true, false}
+use mathlib.Core.List.{List, [], _++_}
 use lib.ListN.{length, getD, take, drop, replicate, length-drop, length-replicate, getD-replicate, take-append-drop}
 use lib.Seq.{length-take-le, getD-drop, ext-getD}
 use lib.Dec.{eqb}
 use borrow.Author.Tests.{ne-eqb}
 use Rattle.lists.proofs.Tests.{clash}
-use Rattle.records.specs.declared.Resource.{Resource}
-use Rattle.records.specs.declared.Numbers.{Numbers}
 use Rattle.records.specs.declared.Why.{Why}
 use Rattle.records.specs.declared.Why.the-variants.{Nothing, Tracks, Son, Lock, Number}
-use Rattle.records.specs.Records.{Known, known}
 use Rattle.records.specs.Numbers.{free}
 use Rattle.records.specs.Inner as numbers
 use Rattle.tracks.specs.Tracks.{nobody}
 use Rattle.tracks.specs.Inner as tracks
-use Rattle.rules.specs.Book.{Book, at, stateOf, whyOf}
-use Rattle.rules.specs.Sound.{suits, Whys}
+use Rattle.rules.specs.Book.{Book, stateOf, whyOf}
+use Rattle.rules.specs.Sound.{suits}
 use Rattle.rules.proofs.Notes.{notes, chained-accounts}
-use Rattle.chains.specs.Links.{read, Links}
-use Rattle.chains.specs.Inner.{Laid}
+use Rattle.chains.specs.Links.{read}
 use Rattle.chains.proofs.Reading.{walk-end, getD-read, length-read}
 use Rattle.chains.proofs.Laying.{laid-is, links-laid}
-use Rattle.ledger.specs.Ledger.{Blank}
 use Rattle.tables.specs.declared.Tables.{Tables}
 use Rattle.tables.specs.Tables.{plain, lay}
 use Rattle.tables.specs.Sound.{Sound}

@@ -1,12 +1,12 @@
 -- Sound plain states laid out are sound tables, which say them again; sound tables have a sound plain state. So what a call hands back on sound tables is sound.
 -- Assumes nothing.
-use Prim.Native.Nat.{ℕ, zero, suc, _+_, _-_, _≤_, _<_}
+use Prim.Native.Nat.{ℕ, zero, suc, _-_, _≤_}
 use native.Mathlib.Omega.{arith}
-use mathlib.Core.Path.{_≡_, refl, sym, ap, _∙_, subst}
-use mathlib.Core.Bool.{Bool, true, false}
+use mathlib.Core.Path.{_≡_, refl, sym, subst}
+use mathlib.Core.Bool.{true}
 use mathlib.Core.List.{List, [], _∷_, _++_}
 use lib.ListN.{length, getD, replicate}
-use lib.Seq.{length-take-le, getD-append-add}
+use lib.Seq.{length-take-le}
 use Rattle.records.specs.Records.{Known}
 use Rattle.records.specs.Numbers.{free}
 use Rattle.records.proofs.Table.{resources-made}
@@ -15,17 +15,17 @@ use Rattle.tracks.proofs.Fits.{holders-of}
 use Rattle.rules.specs.Book.{Book}
 use Rattle.rules.specs.Requests.{Request}
 use Rattle.rules.specs.Keeper.{lists, State, after}
-use Rattle.rules.specs.Sound.{Names, Zeros, Chains, Whys, System, Users, Unlocked, Limits, Dues, Shape}
+use Rattle.rules.specs.Sound.{Names, Zeros, Chains, Whys, System, Users, Unlocked, Limits, Dues}
 use Rattle.rules.specs.Sound as rules
 use Rattle.rules.proofs.SoundRuns.{sound-after}
 use Rattle.chains.specs.Links.{read, total}
 use Rattle.chains.proofs.Reading.{length-read}
 use Rattle.chains.proofs.Laying.{laid-linksOf, read-linksOf, laid-links}
-use Rattle.ledger.specs.Ledger.{bookOf, ledgerOf, Blank}
+use Rattle.ledger.specs.Ledger.{bookOf, ledgerOf}
 use Rattle.tables.specs.declared.Tables.{Tables}
 use Rattle.tables.specs.Tables.{plain, lay}
 use Rattle.tables.specs.Sound.{Sound, sound}
-use Rattle.tables.specs.Calls.{Result, served, asked}
+use Rattle.tables.specs.Calls.{served, asked}
 use Rattle.tables.specs.Walks.{Arrays}
 use Rattle.tables.proofs.Agree.{sound-clauses, sound-test}
 use Rattle.tables.proofs.Members.{chained-once, chained-within}

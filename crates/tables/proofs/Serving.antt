@@ -16,24 +16,28 @@ use Rattle.tables.specs.declared.Outcome.{Outcome}
 use Rattle.tables.specs.Tables.{plain, lay}
 use Rattle.tables.specs.Sound.{sound}
 use Rattle.tables.specs.Calls.{Result, told, served, asked, notSound}
-use Rattle.tables.specs.Inner.{Orderly, Says, Ready}
+use Rattle.tables.specs.Inner.{Orderly, Says, planned}
 use Rattle.tables.proofs.Orderly.{orderly-lay}
 
 -- the call keeps to plan x
-module _ (t r : Tables) (a : Answer) (q : Request) (x : Plan) (e : asks lists (plain t) q ≡ x) where
-  pub serves : number a ≡ numberOf x → values a ≡ valuesOf x → Says r (play lists (eventsOf x) (plain t)) → told (record { answer = a; tables = r }) ≡ served t q
-  unfolding served
-  serves n v S =
-      let n′ : number a ≡ numberOf (asks lists (plain t) q) = n ∙ ap numberOf (sym e) in
-      let v′ : values a ≡ valuesOf (asks lists (plain t) q) = v ∙ ap valuesOf (sym e) in
-      let t′ : r ≡ lay (play lists (eventsOf (asks lists (plain t) q)) (plain t)) =
-      sym (orderly-lay r (S .orderly)) ∙ ap lay (S .state) ∙ ap (λ (y : Plan). lay (play lists (eventsOf y) (plain t))) (sym e) in
-      λ i. record { number = n′ i; values = v′ i; tables = t′ i }
+pub keeps : (t r : Tables) (a : Answer) (x : Plan) → number a ≡ numberOf x → values a ≡ valuesOf x → Says r (play lists (eventsOf x) (plain t))
+    → told (record { answer = a; tables = r }) ≡ planned t x
+keeps t r a x n v S =
+    let t′ : r ≡ lay (play lists (eventsOf x) (plain t)) = sym (orderly-lay r (S .orderly)) ∙ ap lay (S .state) in
+    λ i. record { number = n i; values = v i; tables = t′ i }
 
--- a refusal
-pub refuses : (t : Tables) (a : Answer) (q : Request) (v : ℕ) → Orderly t → asks lists (plain t) q ≡ refused (number a) v → values a ≡ v ∷ []
-    → told (record { answer = a; tables = t }) ≡ served t q
-refuses t a q v O e w = serves t t a q (refused (number a) v) e refl w (record { orderly = O; state = refl })
+-- a refusal hands the tables back as they came
+pub refuses : (t : Tables) (a : Answer) (v : ℕ) → Orderly t → values a ≡ v ∷ [] → told (record { answer = a; tables = t }) ≡ planned t (refused (number a) v)
+refuses t a v O w = keeps t t a (refused (number a) v) refl w (record { orderly = O; state = refl })
+
+-- plans that are one
+pub as-planned : (t : Tables) (x y : Plan) (r : Result) → r ≡ planned t x → x ≡ y → r ≡ planned t y
+as-planned t x y r e p = e ∙ ap (planned t) p
+
+-- a request comes to its plan
+pub served-planned : (t : Tables) (q : Request) → served t q ≡ planned t (asks lists (plain t) q)
+unfolding served
+served-planned t q = refl
 
 -- the test comes first
 pub asked-sound : (t : Tables) (q : Request) → sound t ≡ true → asked t q ≡ served t q

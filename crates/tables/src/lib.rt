@@ -1,4 +1,11 @@
 // The executive's tables, and what a call hands back.
+mod base;
+mod changes;
+mod ending;
+mod moves;
+mod sound;
+mod waking;
+
 use ledger::Ledger;
 use rules::Answer;
 
@@ -11,4 +18,10 @@ pub struct Tables {
 pub struct Outcome {
     pub answer: Answer,
     pub tables: Tables,
+}
+
+// The tables, and how many programs were woken.
+pub struct Woken {
+    pub tables: Tables,
+    pub woken: usize,
 }

@@ -1,0 +1,63 @@
+-- What the test of the tables gives to a call, and where the caller stands: sound tables are in order, and slot 1 leads to the head of the scheduled chain.
+-- Assumes nothing.
+use Prim.Native.Nat.{ℕ, _≤_, _<_}
+use native.Mathlib.Omega.{arith}
+use mathlib.Core.Path.{_≡_, refl, sym, ap, _∙_}
+use mathlib.Core.Bool.{Bool, true, false}
+use mathlib.Core.List.{List, [], _∷_}
+use lib.ListN.{getD}
+use Rattle.records.specs.Records.{Known}
+use Rattle.rules.specs.Requests.{Call, Request, running}
+use Rattle.rules.specs.Plans.{Plan}
+use Rattle.rules.specs.Rules.{head, plan, call, asCaller}
+use Rattle.rules.specs.Keeper.{lists, view, scheduled, asks}
+use Rattle.rules.specs.declared.Answer.the-variants.{NoCaller}
+use Rattle.rules.proofs.Paths.{caller-none, caller-is}
+use Rattle.chains.specs.Links.{read, Leads}
+use Rattle.tables.specs.declared.Tables.{Tables}
+use Rattle.tables.specs.Tables.{plain}
+use Rattle.tables.specs.Sound.{sound}
+use Rattle.tables.specs.Calls.{Result, told, served, asked}
+use Rattle.tables.specs.Walks.{Arrays}
+use Rattle.tables.specs.Inner.{Orderly, Ready, Tested, planned, callerOf, callOf}
+use Rattle.tables.proofs.Agree.{sound-clauses}
+use Rattle.tables.proofs.Orderly.{sound-orderly}
+use Rattle.tables.proofs.Serving.{refuses, asked-sound}
+
+-- the test
+pub tested-is : (t : Tables) (b : Bool) → Arrays t → b ≡ sound t → Tested t b
+tested-is t b A e = record {
+  is = e;
+  ready = λ h. record { sound = sym e ∙ h; orderly = sound-orderly t A (sound-clauses t (sym e ∙ h)) };
+}
+
+-- the caller
+head-link : (l : List ℕ) (s : ℕ) (c : List ℕ) → Leads l s c → head c ≡ getD l s 0
+head-link l s [] h = sym h
+head-link l s (q ∷ qs) h = sym (h .0)
+
+pub caller-link : (t : Tables) → Ready t → getD (t .links) 1 0 ≡ callerOf t
+caller-link t R = sym (head-link (t .links) 1 (getD (read (t .links)) 1 []) (R .orderly .laid .chain 1 (omega arith)))
+
+-- the caller is a program
+head-known : (c : List ℕ) (P : ℕ → Type 0) → ((z : ℕ) → 1 ≤ Rattle.lists.specs.Lists.count z c → P z) → 1 ≤ head c → P (head c)
+head-known [] P f h = absurd (omega arith)
+head-known (q ∷ qs) P f h = f q (omega (arith, Rattle.lists.proofs.Laws.same-refl q))
+
+pub caller-known : (t : Tables) → Ready t → 1 ≤ callerOf t → Known (callerOf t)
+caller-known t R = head-known (scheduled lists (plain t)) Known (R .orderly .accounts .fits 1 (omega arith) (omega arith) .within)
+
+-- no caller: 2; a caller: what the rule says of it
+module _ (t : Tables) (R : Ready t) (q : Call) where
+  pub no-caller : callerOf t ≡ 0 → told (record { answer = NoCaller; tables = t }) ≡ asked t (running q)
+  unfolding served plan
+  no-caller e =
+      refuses t NoCaller 0 (R .orderly) refl
+      ∙ ap (planned t) (sym (caller-none (scheduled lists (plain t)) (λ p. call (view lists (plain t)) p q) e))
+      ∙ sym (asked-sound t (running q) (R .sound))
+
+  pub by-caller : (c : ℕ) → callerOf t ≡ c → 1 ≤ c → planned t (callOf t c q) ≡ asked t (running q)
+  unfolding served plan
+  by-caller c e h =
+      ap (planned t) (sym (caller-is (scheduled lists (plain t)) (λ p. call (view lists (plain t)) p q) c e h))
+      ∙ sym (asked-sound t (running q) (R .sound))

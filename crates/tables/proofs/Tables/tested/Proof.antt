@@ -1,0 +1,28 @@
+-- `tables::Tables::tested` meets its contract: tables that pass the test are in order, since their arrays are as long as their types say.
+-- Assumes nothing.
+use mathlib.Core.Path.{_≡_, sym, _∙_}
+use borrow.Author.Needs.{needs}
+use lib.ListN.{length, length-map}
+use Rattle.records.proofs.Program as program
+use Rattle.records.proofs.Resource as resource
+use Rattle.tables.specs.Walks.{Arrays}
+use Rattle.tables.proofs.Readied.{tested-is}
+use Rattle.tables.proofs.Tables.tested.Statement.{statement}
+use Rattle.tables.proofs.Tables.tested.Tie as tie
+
+is-sound-requires : tie.Need-is-sound-requires
+is-sound-requires c κs = search needs
+
+arrays : (s : tie.Start) → Arrays (s .args .self)
+arrays s = record {
+  programs = sym (length-map (s .args .self .ledger .programs) (program.the-field .into)) ∙ s .good .0 .1 .1 .0 .1 .1 .0 .1 .0 .1;
+  links = search needs;
+  holders = search needs;
+  resources = sym (length-map (s .args .self .ledger .numbers .resources) (resource.the-field .into)) ∙ s .good .0 .1 .1 .0 .1 .1 .1 .1 .1 .0 .1 .1 .1 .0 .1 .0 .1;
+}
+
+returns : tie.Need-returns
+returns c = tested-is (c .before .args .self) (c .is-sound .result) (arrays (c .before)) (c .is-sound .ensures)
+
+pub tested-spec : {M : Type 1} → statement M
+tested-spec = tie.close (tie.spec is-sound-requires returns)

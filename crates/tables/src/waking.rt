@@ -1,0 +1,25 @@
+// Waking: the programs of a list enter the scheduled chain one by one.
+ghost use mathlib.Core.Path.{_≡_};
+ghost use lib.ListN.{take};
+ghost use Rattle.rules.specs.Rules.{wake};
+ghost use Rattle.tables.specs.Inner.{Played, CanWake};
+use super::Tables;
+use chains::Listing;
+use records::Why;
+
+impl Tables {
+    pub(crate) fn wake(self, list: Listing) -> Tables
+        requires { ⌜ CanWake self (list .ids) (list .len) ⌝ }
+        ensures { λ t. ⌜ Played self (wake (take (list .len) (list .ids))) t ⌝ }
+    {
+        let n = list.len;
+        let mut t = self;
+        let mut i: usize = 0;
+        while i < n {
+            let p = list.ids[i];
+            t = t.becomes(p, 1, Why::Nothing);
+            i += 1;
+        }
+        t
+    }
+}
