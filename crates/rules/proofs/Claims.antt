@@ -6,7 +6,7 @@ use native.Mathlib.Omega.{arith}
 use mathlib.Core.Path.{_≡_, refl, ap, _∙_}
 use mathlib.Core.List.{List, [], _∷_}
 use mathlib.Core.Option.{Option, none, some}
-use borrow.Author.Tests.{le-leb, lt-ltb, eq-eqb, ne-eqb}
+use borrow.Author.Tests.{le-leb, lt-ltb}
 use Rattle.records.specs.declared.Why.{Why}
 use Rattle.records.specs.declared.Why.the-variants.{Tracks}
 use Rattle.tracks.specs.Tracks.{everybody, lowest, filled, FreeRun, LowestRun}
@@ -16,27 +16,8 @@ use Rattle.rules.specs.Requests.{Call, EXEC4, EXEC15, Request, running}
 use Rattle.rules.specs.Plans.{becomes, on, held, Plan, refused, done, waiting, numberOf, valuesOf, eventsOf, View, need, either, found}
 use Rattle.rules.specs.Rules.{waits, takes, head, asCaller, call, plan}
 use Rattle.rules.specs.Keeper.{Keeper, State, step, play, view, scheduled, asks, after}
-
--- no n free tracks stand together
-abbrev pub NoRun : List ℕ → ℕ → Type 0
-NoRun xs n = (i : ℕ) → FreeRun xs i n → ⊥
-
--- A plan x for caller c, who asks n tracks for holder h, w being 0 to wait and 1 to be told, is the outline's where xs are the holders: the lowest run, or state 5, or 8; and each of the three only then.
-pub record Claims (xs : List ℕ) (c h n w : ℕ) (x : Plan) : Type 0 where
-  pub granted : (i : ℕ) → LowestRun xs i n → x ≡ done (i ∷ []) (held (filled i n h xs) ∷ [])
-  pub waits : NoRun xs n → w ≡ 0 → x ≡ waiting 5 (on c (becomes 5 (Tracks n)) ∷ [])
-  pub told : NoRun xs n → w ≡ 1 → x ≡ refused 8 0
-  pub only-granted : numberOf x ≡ 0 → (i : ℕ) × LowestRun xs i n × (valuesOf x ≡ i ∷ [])
-  pub only-waits : numberOf x ≡ 1 → (w ≡ 0) × NoRun xs n
-  pub only-told : numberOf x ≡ 8 → (w ≡ 1) × NoRun xs n
-
-waits-zero : (c w s : ℕ) (y : Why) → w ≡ 0 → waits c w s y ≡ waiting s (on c (becomes s y) ∷ [])
-unfolding waits either
-waits-zero c w s y e = rw (eq-eqb w 0 e)
-
-waits-one : (c w s : ℕ) (y : Why) → w ≡ 1 → waits c w s y ≡ refused 8 0
-unfolding waits either
-waits-one c w s y e = rw (ne-eqb w 0 (λ z. omega arith))
+use Rattle.rules.specs.Claims.{NoRun, Claims, Gained, Claimed}
+use Rattle.rules.proofs.Paths.{waits-so, waits-told}
 
 module _ (v : View) (c h n w : ℕ) (low : 1 ≤ n) (high : n ≤ v .book .tracks) (bit : w ≤ 1) where
   -- the holders, what is done with a run, and what without one
@@ -61,8 +42,8 @@ module _ (v : View) (c h n w : ℕ) (low : 1 ≤ n) (high : n ≤ v .book .track
   pub takes-claims : Claims (v .book .holders) c h n w (takes v c h n w)
   takes-claims = record {
     granted = λ i r. takes-some i (lowest-is n xs i low r);
-    waits = λ f e. takes-none (lowest-no n xs low f) ∙ waits-zero c w 5 (Tracks n) e;
-    told = λ f e. takes-none (lowest-no n xs low f) ∙ waits-one c w 5 (Tracks n) e;
+    waits = λ f e. takes-none (lowest-no n xs low f) ∙ waits-so c w 5 (Tracks n) e;
+    told = λ f e. takes-none (lowest-no n xs low f) ∙ waits-told c w 5 (Tracks n) (λ z. omega arith);
     only-granted = if-granted (lowest n 0 xs) refl;
     only-waits = if-waits (lowest n 0 xs) refl;
     only-told = if-told (lowest n 0 xs) refl;
@@ -72,10 +53,10 @@ module _ (v : View) (c h n w : ℕ) (low : 1 ≤ n) (high : n ≤ v .book .track
       x = takes v c h n w
 
       wait : lowest n 0 xs ≡ none → w ≡ 0 → numberOf x ≡ 1
-      wait e z = ap numberOf (takes-none e ∙ waits-zero c w 5 (Tracks n) z)
+      wait e z = ap numberOf (takes-none e ∙ waits-so c w 5 (Tracks n) z)
 
       tell : lowest n 0 xs ≡ none → w ≡ 1 → numberOf x ≡ 8
-      tell e z = ap numberOf (takes-none e ∙ waits-one c w 5 (Tracks n) z)
+      tell e z = ap numberOf (takes-none e ∙ waits-told c w 5 (Tracks n) (λ y. omega arith))
 
       one : (w ≡ 0 → ⊥) → w ≡ 1
       one f = omega (arith, f)
@@ -94,19 +75,6 @@ module _ (v : View) (c h n w : ℕ) (low : 1 ≤ n) (high : n ≤ v .book .track
       if-told : (o : Option ℕ) → lowest n 0 xs ≡ o → numberOf x ≡ 8 → (w ≡ 1) × NoRun xs n
       if-told (some i) e k = absurd (omega (arith, ap numberOf (takes-some i e)))
       if-told none e k = (one (λ z. omega (arith, wait e z)), lowest-none n xs low e)
-
--- Of two books, the second has n tracks from i on in the hands of h, and all others as in the first.
-pub record Gained (b d : Book) (h i n : ℕ) : Type 0 where
-  pub theirs : (k : ℕ) → i ≤ k → k < i + n → holderOf d k ≡ h
-  pub below : (k : ℕ) → k < i → holderOf d k ≡ holderOf b k
-  pub above : (k : ℕ) → i + n ≤ k → holderOf d k ≡ holderOf b k
-
--- A request q for n tracks for holder h, in the state t of a keeper K: what it comes to, and that the run is h's after it, all else being as it was.
-pub record Claimed (K : Keeper) (t : State K) (h n w : ℕ) (q : Request) : Type 0 where
-  pub answer : Claims (t .book .holders) (head (scheduled K t)) h n w (asks K t q)
-  pub tracks : (i : ℕ) → LowestRun (t .book .holders) i n → Gained (t .book) (after K t q .book) h i n
-  pub rest : (i : ℕ) → LowestRun (t .book .holders) i n → after K t q ≡ record { book = withHolders (after K t q .book .holders) (t .book); kept = t .kept }
-  pub same : NoRun (t .book .holders) n → w ≡ 1 → after K t q ≡ t
 
 module _ (K : Keeper) (t : State K) (n w : ℕ) (some : 1 ≤ head (scheduled K t)) (low : 1 ≤ n) (high : n ≤ t .book .tracks) (bit : w ≤ 1) where
   -- whoever takes tracks

@@ -23,36 +23,11 @@ use Rattle.rules.specs.Plans.{becomes, Event, on, clocked, numbered, Pla
 use Rattle.rules.specs.Rules.{Release, awaits, woken, wake, clears, ends, settle, dueAt, ticked, each, call, head, plan}
 use Rattle.rules.specs.Keeper.{lists, State, step, play, view, scheduled, asks, after}
 use Rattle.rules.specs.Sound.{Sound}
-use Rattle.rules.specs.Counts.{awoken, roused}
+use Rattle.rules.specs.Counts.{awoken, roused, Freed, Done, TellsFreed, TellsAwoken, TellsRoused, Counts}
 use Rattle.rules.proofs.Places.{known-true, known-is, all-one, all-in}
 use Rattle.rules.proofs.Rising.{Rise, clocks, numbers, wake-rises, tick-rises, rise-in, rise-out, becomes-same, becomes-other, becomes-long}
 use Rattle.rules.proofs.IfDone.{IfDone, if-need, if-either, if-called, if-allocated}
-use Rattle.rules.proofs.Freed.{Freed, off-frees, own-frees, global-frees, each-frees}
-
--- the request is done
-abbrev pub Done : State lists → Request → Type 0
-Done a q = numberOf (asks lists a q) ≡ 0
-
--- its one value is the count of tracks freed by it; of programs that waited and are scheduled by it; of programs that were dormant and are scheduled by it
-abbrev pub TellsFreed : State lists → Request → Type 0
-TellsFreed a q = Freed (a .book) (after lists a q .book) (valuesOf (asks lists a q))
-
-abbrev pub TellsAwoken : State lists → Request → Type 0
-TellsAwoken a q = valuesOf (asks lists a q) ≡ awoken (a .book) (after lists a q .book) ∷ []
-
-abbrev pub TellsRoused : State lists → Request → Type 0
-TellsRoused a q = valuesOf (asks lists a q) ≡ roused (a .book) (after lists a q .book) ∷ []
-
--- The counts of the requests that answer one, in a plain state a.
-pub record Counts (a : State lists) : Type 0 where
-  pub off : (k : ℕ) (nm : List ℕ) → Done a (operator (OF k) nm) → TellsFreed a (operator (OF k) nm)
-  pub own : (n s : ℕ) → Done a (running (EXEC5 n s)) → TellsFreed a (running (EXEC5 n s))
-  pub global : (n s : ℕ) → Done a (running (EXEC16 n s)) → TellsFreed a (running (EXEC16 n s))
-  pub each : Done a (running EXEC5ALL) → TellsFreed a (running EXEC5ALL)
-  pub ending : Done a (running EXEC6) → TellsAwoken a (running EXEC6)
-  pub clearing : (r : ℕ) → Done a (running (CLEAR r)) → TellsAwoken a (running (CLEAR r))
-  pub freeing : (r : ℕ) → Done a (running (FREE r)) → TellsAwoken a (running (FREE r))
-  pub tick : Done a TICK → TellsRoused a TICK
+use Rattle.rules.proofs.Freed.{off-frees, own-frees, global-frees, each-frees}
 
 -- LISTS: two that hold each number as often are as long; so is a list of those that pass a test, each once
 remove-length : (p : ℕ) (c : List ℕ) → 1 ≤ count p c → suc (length (remove p c)) ≡ length c

@@ -17,28 +17,10 @@ use Rattle.rules.specs.Plans.{View, refused, need}
 use Rattle.rules.specs.Rules.{call, asCaller, plan}
 use Rattle.rules.specs.Keeper.{lists, Entries, entries, sorted, State, view, scheduled, asks, runs, answers, fresh}
 use Rattle.rules.specs.Sound.{Sound}
-use Rattle.rules.specs.Replay.{Fits, Accounts, First}
+use Rattle.rules.specs.Replay.{Fits, Accounts, First, Acts, for-none, for-first, Holds, Replayed}
 use Rattle.rules.proofs.Fits.{fits-state, sorted-fits}
 use Rattle.rules.proofs.Alike.{Alike, fresh-alike, order-alike, runs-alike, answers-alike}
 use Rattle.rules.proofs.Notes.{notes, alike-accounts, accounts-alike, chained-accounts}
-
--- a call of the running program acts for the first of those in state 1; where there is none it is refused
-pub data Acts (a : State lists) (en : ℕ → ℕ) (c : Call) : Type 0 where
-  for-none : ((z : ℕ) → Known z → stateOf (a .book) z ≢ 1) → asks lists a (running c) ≡ refused 2 0 → Acts a en c
-  for-first : (p : ℕ) → First (a .book) en 1 p → asks lists a (running c) ≡ call (view lists a) p c → Acts a en c
-
--- the chains a, and the replay t that keeps none
-pub record Holds (a : State lists) (t : State entries) : Type 0 where
-  pub book : t .book ≡ a .book
-  pub accounts : Accounts a (t .kept)
-  pub sorts : (s : ℕ) → 1 ≤ s → s < 7 → Fits (a .book) (t .kept .entry) s (sorted (a .book) (t .kept) s)
-  pub chains : (s : ℕ) → 1 ≤ s → s < 7 → getD (a .kept) s [] ≡ sorted (a .book) (t .kept) s
-  pub acts : (c : Call) → Acts a (t .kept .entry) c
-
--- the same after a run of requests, which have the same answers
-pub record Replayed (a : State lists) (t : State entries) (qs : List Request) : Type 0 where
-  pub holds : Holds (runs lists a qs) (runs entries t qs)
-  pub answered : answers lists a qs ≡ answers entries t qs
 
 -- the first of a chain, and an empty one
 head-first : (b : Book) (en : ℕ → ℕ) (s p : ℕ) (ps : List ℕ) → Fits b en s (p ∷ ps) → First b en s p

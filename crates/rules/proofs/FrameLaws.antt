@@ -19,14 +19,9 @@ use Rattle.rules.specs.Requests.{Request, FRESH}
 use Rattle.rules.specs.Plans.{Deed, becomes, priced, loaded, unloaded, timed, Event, on, clocked, held, numbered, renewed, eventsOf}
 use Rattle.rules.specs.Rules.{dueAt}
 use Rattle.rules.specs.Keeper.{Keeper, State, leave, amend, act, step, play, view, scheduled, asks, after}
-use Rattle.rules.specs.Frame.{callerOf, namedIn, ticks, Concerned, caller, named, due, woken}
+use Rattle.rules.specs.Frame.{callerOf, namedIn, ticks, Concerned, caller, named, due, woken, Stirred, stays, wakes}
 use Rattle.rules.proofs.Places.{known-true, at-other}
 use Rattle.rules.proofs.Parts.{Upon, About, plan-of}
-
--- a record that stays, or whose program is scheduled
-pub data Stirred (r s : Program) : Type 0 where
-  stays : s ≡ r → Stirred r s
-  wakes : s ≡ inState 1 Nothing r → Stirred r s
 
 stirred-on : (r s u : Program) → Stirred r s → Stirred s u → Stirred r u
 stirred-on r s u (stays e) (stays f) = stays (f ∙ e)

@@ -18,18 +18,9 @@ use Rattle.rules.specs.Requests.{OF, EXEC5, EXEC16, EXEC5ALL, operator, 
 use Rattle.rules.specs.Plans.{Deed, becomes, priced, loaded, unloaded, timed, Event, on, clocked, held, numbered, renewed, Plan, valuesOf, eventsOf}
 use Rattle.rules.specs.Rules.{woken, wake, frees, ends, settle, dismissed, order, gives, call, head, plan}
 use Rattle.rules.specs.Keeper.{Keeper, State, act, step, play, view, scheduled, asks}
-use Rattle.rules.specs.Counts.{freeTracks}
+use Rattle.rules.specs.Counts.{freeTracks, Freed}
+use Rattle.lists.proofs.Tests.{both}
 use Rattle.rules.proofs.IfDone.{IfDone, if-need, if-named, if-called}
-
--- Its one value is how many more tracks are free after it. b and d are the books before and after, vs the values.
-pub record Freed (b d : Book) (vs : List ℕ) : Type 0 where
-  pub value : ℕ
-  pub answer : vs ≡ value ∷ []
-  pub difference : freeTracks b + value ≡ freeTracks d
-
-both : (x y : Bool) → (x && y) ≡ true → (x ≡ true) × (y ≡ true)
-both true y e = (refl, e)
-both false y e = let z : _≡_ {A = ℕ} 0 1 = cc in absurd (omega arith)
 
 -- events after which the holders are as before
 abbrev Quiet : List Event → Type 0

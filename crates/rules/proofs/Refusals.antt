@@ -9,15 +9,9 @@ use Rattle.lists.proofs.Tests.{upTo-true}
 use Rattle.rules.specs.Requests.{Request}
 use Rattle.rules.specs.Plans.{Plan, refused, done, waiting, View, numberOf, eventsOf}
 use Rattle.rules.specs.Rules.{plan}
+use Rattle.rules.specs.Refusals.{Answered}
 use Rattle.rules.specs.Keeper.{Keeper, State, play, view, scheduled, asks, after, runs}
 use Rattle.rules.proofs.Parts.{Listed, plan-of}
-
--- what is said of the answer to a request
-pub record Answered (K : Keeper) (t : State K) (q : Request) : Type 0 where
-  pub highest : numberOf (asks K t q) ≤ 14
-  pub lowest : (a v : ℕ) → asks K t q ≡ refused a v → 2 ≤ a
-  pub nothing : 2 ≤ numberOf (asks K t q) → eventsOf (asks K t q) ≡ []
-  pub stays : 2 ≤ numberOf (asks K t q) → after K t q ≡ t
 
 plan-listed : (v : View) (c : List ℕ) (q : Request) → Listed (plan v c q)
 plan-listed v c q =

@@ -5,7 +5,9 @@ use mathlib.Core.Path.{_≡_}
 use mathlib.Core.Bool.{Bool, true, false}
 use mathlib.Core.List.{List, [], _∷_}
 use Rattle.lists.specs.Lists.{count}
-use Rattle.records.specs.Records.{Known, find, lowestUnused}
+use Rattle.records.specs.declared.Program.{Program}
+use Rattle.records.specs.declared.Why.the-variants.{Nothing}
+use Rattle.records.specs.Records.{Known, find, lowestUnused, inState}
 use Rattle.rules.specs.Book.{Book, whyOf}
 use Rattle.rules.specs.Requests.{Order, RU, SS, GO, PR, OF, Call, EXEC4, EXEC15, EXEC5, EXEC16, EXEC5ALL, EXEC6, EXEC7, EXEC11, EXEC9, EXEC10, EXEC12, ALLOC, LOCK, CLEAR, FREE, Request, FRESH, LOAD, operator, TICK, running}
 use Rattle.rules.specs.Plans.{View}
@@ -95,3 +97,8 @@ pub data Concerned (v : View) (scheduled : List ℕ) (q : Request) (x : ℕ) : T
   named : namedIn (v .book) q ≡ x → Concerned v scheduled q x
   due : ticks q ≡ true → Known x → dueAt (v .book) x ≡ true → Concerned v scheduled q x
   woken : Woken v (releases v scheduled q) x → Concerned v scheduled q x
+
+-- a record that stays, or whose program is scheduled
+pub data Stirred (r s : Program) : Type 0 where
+  stays : s ≡ r → Stirred r s
+  wakes : s ≡ inState 1 Nothing r → Stirred r s

@@ -9,3 +9,5 @@ pub mod Test
 pub mod Replay
 pub mod Frame
 pub mod Counts
+pub mod Refusals
+pub mod Claims

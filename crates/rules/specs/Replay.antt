@@ -8,7 +8,10 @@ use lib.ListN.{getD}
 use Rattle.lists.specs.Lists.{same, count, Ascending}
 use Rattle.records.specs.Records.{Known}
 use Rattle.rules.specs.Book.{Book, stateOf, prioOf}
-use Rattle.rules.specs.Keeper.{lists, Entries, State}
+use Rattle.rules.specs.Requests.{Call, Request, running}
+use Rattle.rules.specs.Plans.{refused}
+use Rattle.rules.specs.Rules.{call}
+use Rattle.rules.specs.Keeper.{lists, Entries, entries, sorted, State, view, asks, runs, answers}
 
 -- p comes before q: the lower priority number, and the earlier entry among equals
 abbrev pub Before : (ℕ → ℕ) → (ℕ → ℕ) → ℕ → ℕ → Type 0
@@ -31,3 +34,21 @@ pub record First (b : Book) (en : ℕ → ℕ) (s p : ℕ) : Type 0 where
   pub known : Known p
   pub there : stateOf b p ≡ s
   pub least : (z : ℕ) → Known z → stateOf b z ≡ s → z ≢ p → Before (prioOf b) en p z
+
+-- a call of the running program acts for the first of those in state 1; where there is none it is refused
+pub data Acts (a : State lists) (en : ℕ → ℕ) (c : Call) : Type 0 where
+  for-none : ((z : ℕ) → Known z → stateOf (a .book) z ≢ 1) → asks lists a (running c) ≡ refused 2 0 → Acts a en c
+  for-first : (p : ℕ) → First (a .book) en 1 p → asks lists a (running c) ≡ call (view lists a) p c → Acts a en c
+
+-- the chains a, and the replay t that keeps none
+pub record Holds (a : State lists) (t : State entries) : Type 0 where
+  pub book : t .book ≡ a .book
+  pub accounts : Accounts a (t .kept)
+  pub sorts : (s : ℕ) → 1 ≤ s → s < 7 → Fits (a .book) (t .kept .entry) s (sorted (a .book) (t .kept) s)
+  pub chains : (s : ℕ) → 1 ≤ s → s < 7 → getD (a .kept) s [] ≡ sorted (a .book) (t .kept) s
+  pub acts : (c : Call) → Acts a (t .kept .entry) c
+
+-- the same after a run of requests, which have the same answers
+pub record Replayed (a : State lists) (t : State entries) (qs : List Request) : Type 0 where
+  pub holds : Holds (runs lists a qs) (runs entries t qs)
+  pub answered : answers lists a qs ≡ answers entries t qs

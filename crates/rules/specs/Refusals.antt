@@ -1,0 +1,15 @@
+-- What demand 1 says of refusals: a number of the outline's list, and nothing happens.
+-- Assumes nothing.
+use Prim.Native.Nat.{ℕ, _≤_}
+use mathlib.Core.Path.{_≡_}
+use mathlib.Core.List.{List, []}
+use Rattle.rules.specs.Requests.{Request}
+use Rattle.rules.specs.Plans.{refused, numberOf, eventsOf}
+use Rattle.rules.specs.Keeper.{Keeper, State, asks, after}
+
+-- what is said of the answer to a request
+pub record Answered (K : Keeper) (t : State K) (q : Request) : Type 0 where
+  pub highest : numberOf (asks K t q) ≤ 14
+  pub lowest : (a v : ℕ) → asks K t q ≡ refused a v → 2 ≤ a
+  pub nothing : 2 ≤ numberOf (asks K t q) → eventsOf (asks K t q) ≡ []
+  pub stays : 2 ≤ numberOf (asks K t q) → after K t q ≡ t
