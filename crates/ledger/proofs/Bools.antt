@@ -1,6 +1,6 @@
 -- Laws of tests: the last of a row, and an answer that tells.
 -- Assumes nothing.
-use mathlib.Core.Path.{_≡_, refl, sym, ap, _∙_}
+use mathlib.Core.Path.{_≡_, sym, ap}
 use mathlib.Core.Bool.{Bool, true, false, _&&_}
 use Rattle.lists.proofs.Tests.{false-true}
 use Rattle.ledger.specs.Inner.{Tells}
@@ -8,12 +8,6 @@ use Rattle.ledger.specs.Inner.{Tells}
 -- where all before it pass the last decides
 pub last : {a : Bool} (b : Bool) → a ≡ true → b ≡ (a && b)
 last b e = sym (ap (λ (x : Bool). x && b) e)
-
--- two tests that pass together are one
-pub one-test : (a b : Bool) → (a ≡ true → b ≡ true) → (b ≡ true → a ≡ true) → a ≡ b
-one-test true b f g = sym (f refl)
-one-test false true f g = g refl
-one-test false false f g = refl
 
 -- the answers true and false
 pub tells-yes : {A : Type 0} → A → Tells true A

@@ -1,11 +1,11 @@
 -- A legal name has five bytes, so its code tells it: legal names of one code are one. And whose keys are apart is told by its key.
 -- Assumes nothing.
-use Prim.Native.Nat.{ℕ, zero, suc, _+_, _*_, _-_, _≤_, _<_}
+use Prim.Native.Nat.{ℕ, zero, suc, _+_, _*_, _-_, _<_}
 use native.Mathlib.Omega.{arith}
-use native.Mathlib.Decide.{ℕ-discrete, decLe}
+use native.Mathlib.Decide.{decLe}
 use mathlib.Core.Path.{_≡_, refl, sym, ap, _∙_}
 use mathlib.Core.Logic.{_≢_}
-use mathlib.Core.Bool.{Bool, true, false, cond, not, _&&_, _||_}
+use mathlib.Core.Bool.{Bool, true, false, cond, _&&_, _||_}
 use mathlib.Core.List.{List, [], _∷_}
 use lib.ListN.{length, getD}
 use lib.Seq.{ext-getD}
@@ -17,10 +17,10 @@ use Rattle.records.specs.declared.Program.{Program}
 use Rattle.records.specs.declared.Why.{Why}
 use Rattle.records.specs.declared.Why.the-variants.{Nothing, Tracks, Son, Lock, Number}
 use Rattle.records.specs.Names.{letter, digit, blank, rest, legal}
-use Rattle.records.specs.Records.{Known, missing}
+use Rattle.records.specs.Records.{missing}
 use Rattle.rules.specs.Test.{sonOf}
 use Rattle.rules.proofs.Agree.{yes-or-no}
-use Rattle.ledger.specs.Inner.{joined, nameCode, nameKey, sonKey, Apart}
+use Rattle.ledger.specs.Inner.{nameCode, nameKey, Apart}
 
 -- letters, digits and blanks are bytes
 letter-small : (c : ℕ) → letter c ≡ true → c < 256

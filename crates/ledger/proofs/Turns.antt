@@ -1,6 +1,6 @@
 -- What a turn of each loop shows: of a record and its why, of keys, of a track's holder, of a number.
 -- Assumes nothing.
-use Prim.Native.Nat.{ℕ, zero, suc, _+_, _-_, _≤_, _<_}
+use Prim.Native.Nat.{ℕ, _+_, _-_, _≤_, _<_}
 use native.Mathlib.Omega.{arith}
 use native.Mathlib.Decide.{ℕ-discrete}
 use mathlib.Core.Path.{_≡_, refl, sym, ap, ap₂, _∙_}
@@ -15,7 +15,7 @@ use Rattle.records.specs.declared.Program.{Program}
 use Rattle.records.specs.declared.Resource.{Resource}
 use Rattle.records.specs.declared.Why.{Why}
 use Rattle.records.specs.declared.Why.the-variants.{Nothing, Tracks, Son, Lock, Number}
-use Rattle.records.specs.Records.{Known, known, missing, recordAt}
+use Rattle.records.specs.Records.{known, missing}
 use Rattle.tracks.specs.Tracks.{nobody, system}
 use Rattle.rules.specs.Book.{Book, at}
 use Rattle.rules.specs.Sound.{suits}
@@ -47,17 +47,13 @@ and-true : (b : Bool) → b ≡ (b && true)
 and-true true = refl
 and-true false = refl
 
+and-false : (b : Bool) → (b && false) ≡ false
+and-false true = refl
+and-false false = refl
+
 turned : (a b n u z : Bool) → ((((a && b) && u) && z) && n) ≡ (a && (b && n && (u && z)))
-turned true true true u z = and-true-back (u && z)
-  where
-    and-true-back : (b : Bool) → (b && true) ≡ b
-    and-true-back true = refl
-    and-true-back false = refl
-turned true true false u z = go (u && z)
-  where
-    go : (b : Bool) → (b && false) ≡ false
-    go true = refl
-    go false = refl
+turned true true true u z = sym (and-true (u && z))
+turned true true false u z = and-false (u && z)
 turned true false n u z = refl
 turned false b n u z = refl
 
@@ -89,7 +85,7 @@ module _ (l : Ledger) (i : ℕ) where
   pub trim-no : i < 32 → trim (l .clock .ticks) (held l i) ≡ false → Records l → ⊥
   trim-no h e R = clash ((both (trim (l .clock .ticks) (held l i)) (suits (bookOf l) (i + 1) (held l i .state) (held l i .why)) (R i h)) .0) e
 
-  pub suits-no : i < 32 → suits (bookOf l) (i + 1) (held l i .state) (held l i .why) ≡ false → Records l → ⊥
+  suits-no : i < 32 → suits (bookOf l) (i + 1) (held l i .state) (held l i .why) ≡ false → Records l → ⊥
   suits-no h e R = clash ((both (trim (l .clock .ticks) (held l i)) (suits (bookOf l) (i + 1) (held l i .state) (held l i .why)) (R i h)) .1) e
 
   pub state-no : i < 32 → stateFits (held l i .why) (held l i .state) ≡ false → Records l → ⊥
@@ -122,7 +118,7 @@ distinct-of : (f : Program → ℕ) (ps : List Program) (ks : List ℕ) → Keye
 distinct-of f ps ks K A i h n j m o e = A i h (λ z. n (K .each i h ∙ z)) j m o (sym (K .each j m) ∙ e ∙ K .each i h)
 
 -- a holder, an owner, a locker, told of by the record at its seat
-pub user-seat : (l : Ledger) (p k : ℕ) → Seat p k → user p (held l k .used) ≡ user p (at (bookOf l) p .used)
+user-seat : (l : Ledger) (p k : ℕ) → Seat p k → user p (held l k .used) ≡ user p (at (bookOf l) p .used)
 user-seat l p k K = unless-failed (known p) (held l k .used) (at (bookOf l) p .used) (λ h. ap (λ (r : Program). r .used) (seated l p k K h))
 
 pub placed-seat : (l : Ledger) (T S i h k : ℕ) → Seat h k → placed T S i h (held l k .used) ≡ placed T S i h (at (bookOf l) h .used)

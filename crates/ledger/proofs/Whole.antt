@@ -1,20 +1,18 @@
 -- What the code tests and the tests of soundness are the same: each part of the one is made of clauses of the other.
 -- Assumes nothing.
-use Prim.Native.Nat.{ℕ, zero, suc, _+_, _-_, _≤_, _<_}
+use Prim.Native.Nat.{ℕ, suc, _+_, _-_, _≤_, _<_}
 use native.Mathlib.Omega.{arith}
 use native.Mathlib.Decide.{decLe}
-use mathlib.Core.Path.{_≡_, refl, sym, ap, _∙_, subst}
+use mathlib.Core.Path.{_≡_, sym, ap, _∙_, subst}
 use mathlib.Core.Logic.{_≢_}
-use mathlib.Core.Bool.{Bool, true, false, not, _&&_, _||_}
-use mathlib.Core.List.{List}
+use mathlib.Core.Bool.{true, false, not, _&&_, _||_}
 use lib.ListN.{length, getD, List·getD-eq-default}
 use lib.Seq.{getD-take}
-use lib.Dec.{leb, ltb, eqb}
+use lib.Dec.{eqb}
 use borrow.Author.Tests.{eq-eqb, eqb-true}
-use Rattle.lists.proofs.Tests.{false-true, clash, both, and, unless, implies, otherwise, or}
+use Rattle.lists.proofs.Tests.{both, and, unless, implies, otherwise, or}
 use Rattle.clock.specs.Clock.{farthest}
 use Rattle.records.specs.declared.Program.{Program}
-use Rattle.records.specs.declared.Resource.{Resource}
 use Rattle.records.specs.declared.Why.{Why}
 use Rattle.records.specs.declared.Why.the-variants.{Son}
 use Rattle.records.specs.Names.{legal}
@@ -25,7 +23,7 @@ use Rattle.rules.specs.Book.{Book, at, stateOf, whyOf, holderOf}
 use Rattle.rules.specs.Sound.{Ours, suits, Names, Whys, System, Users, Unlocked, Limits, Dues}
 use Rattle.rules.specs.Test.{sonOf, zeros, testNames, testZeros, testWhys, testSystem, testUsers, testUnlocked, testLimits, testDues}
 use Rattle.rules.proofs.Places.{known-true, known-is}
-use Rattle.rules.proofs.Agree.{program-in, program-is, yes-or-no, names-clause, names-test, whys-clause, whys-test, dues-clause, dues-test}
+use Rattle.rules.proofs.Agree.{program-in, program-is, yes-or-no, names-clause, names-test, whys-clause, whys-test, dues-clause, dues-test, son-known}
 use Rattle.rules.proofs.AgreeTables.{system-clause, system-test, users-clause, users-test, unlocked-clause, unlocked-test, limits-clause, limits-test}
 use Rattle.ledger.specs.declared.Ledger.{Ledger}
 use Rattle.ledger.specs.Ledger.{bookOf, Blank, testBlank}
@@ -118,14 +116,6 @@ user-true b p e P = unless (known p) (at b p .used) e (known-is p P)
 
 user-is : (b : Book) (p : ℕ) → (Known p → at b p .used ≡ true) → user p (at b p .used) ≡ true
 user-is b p h = implies (known p) (at b p .used) (λ k. h (known-true p k))
-
--- a son is a program
-son-known : (b : Book) (p s k : ℕ) → suits b p s (Son k) ≡ true → Known k
-son-known b p s k e =
-    let b3 = both (eqb s 3 && known k && at b k .used && not (eqb (stateOf b k) 0)) (not (eqb k p)) e in
-    let b2 = both (eqb s 3 && known k && at b k .used) (not (eqb (stateOf b k) 0)) (b3 .0) in
-    let b1 = both (eqb s 3 && known k) (at b k .used) (b2 .0) in
-    known-true k ((both (eqb s 3) (known k) (b1 .0)) .1)
 
 -- from what soundness asks to what the code tests
 module _ (l : Ledger) (c : Clauses l) where

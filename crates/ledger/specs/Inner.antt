@@ -20,7 +20,7 @@ use Rattle.records.specs.declared.Why.{Why}
 use Rattle.records.specs.declared.Why.the-variants.{Nothing, Tracks, Son, Lock, Number}
 use Rattle.records.specs.Names.{legal}
 use Rattle.tracks.specs.Tracks.{nobody, system}
-use Rattle.rules.specs.Book.{Book, at}
+use Rattle.rules.specs.Book.{at}
 use Rattle.rules.specs.Sound.{suits}
 use Rattle.ledger.specs.declared.Ledger.{Ledger}
 use Rattle.ledger.specs.Ledger.{bookOf, testBlank}

@@ -165,7 +165,7 @@ waits-well : Book → ℕ → Program → Bool
 unfolding awaits-one
 waits-well b p r = suits b p (r .state) (r .why) && (eqb (sonOf (r .why)) 0 || programs b (awaits-one p r))
 
-son-known : (b : Book) (p s k : ℕ) → suits b p s (Son k) ≡ true → Known k
+pub son-known : (b : Book) (p s k : ℕ) → suits b p s (Son k) ≡ true → Known k
 son-known b p s k e =
     let b3 = both (eqb s 3 && known k && at b k .used && not (eqb (stateOf b k) 0)) (not (eqb k p)) e in
     let b2 = both (eqb s 3 && known k && at b k .used) (not (eqb (stateOf b k) 0)) (b3 .0) in

@@ -126,7 +126,7 @@ module _ (t : Tables) (p : ℕ) (y : rules.Release) (d g : Listing) (D : Lists (
       ∙ sym (wake-append (fromDisc (view lists (plain t)) y) (fromGeneral (view lists (plain t)) y))
 
   -- the tables u, with the numbers of t, are settled
-  pub settles : (u r : Tables) → aside (plain u) .resources ≡ resources (t .ledger .numbers)
+  pub settles : (u r : Tables) → resources (u .ledger .numbers) ≡ resources (t .ledger .numbers)
       → Played u (numbered (map (without p) (resources (u .ledger .numbers))) ∷ (wake (take (d .len) (d .ids)) ++ wake (take (g .len) (g .ids)))) r
       → Played u (settle (view lists (plain t)) p y) r
   settles u r e =

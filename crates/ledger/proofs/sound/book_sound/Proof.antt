@@ -5,7 +5,7 @@ use borrow.Author.Tests.{not-true, not-false}
 use Rattle.lists.proofs.Tests.{clash}
 use Rattle.records.proofs.Resource.{the-field}
 use Rattle.rules.proofs.Agree.{yes-or-no}
-use Rattle.ledger.proofs.Whole.{Passed, book-yes, book-no}
+use Rattle.ledger.proofs.Whole.{book-yes, book-no}
 use borrow.Author.Needs.{needs}
 use Rattle.ledger.proofs.sound.book_sound.Statement.{statement}
 use Rattle.ledger.proofs.sound.book_sound.Tie as tie

@@ -1,8 +1,6 @@
 -- `ledger::sound::name_key` meets its contract. Assumes nothing.
-use mathlib.Core.Path.{sym, ap, _∙_}
-use mathlib.Core.Bool.{Bool, cond}
 use borrow.Author.Tests.{not-true, not-false}
-use Rattle.ledger.specs.Inner.{nameCode, nameKey}
+use Rattle.ledger.specs.Inner.{nameKey}
 use borrow.Author.Needs.{needs}
 use Rattle.ledger.proofs.sound.name_key.Statement.{statement}
 use Rattle.ledger.proofs.sound.name_key.Tie as tie

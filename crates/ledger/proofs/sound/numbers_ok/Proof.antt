@@ -7,7 +7,6 @@ use borrow.Author.Count.{below-more}
 use borrow.Author.Tests.{not-true, not-false}
 use lib.ListN.{getD}
 use Rattle.lists.proofs.Tests.{clash}
-use Rattle.records.specs.declared.Resource.{Resource}
 use Rattle.records.specs.Numbers.{free}
 use Rattle.rules.specs.Book.{at}
 use Rattle.ledger.specs.declared.Ledger.{Ledger}

@@ -2,7 +2,7 @@
 use mathlib.Core.Path.{sym, ap, _∙_}
 use mathlib.Core.Bool.{Bool, not, _||_}
 use lib.Dec.{eqb}
-use borrow.Author.Tests.{not-true, not-false, eq-eqb, ne-eqb, le-leb, lt-leb}
+use borrow.Author.Tests.{not-true, not-false, ne-eqb, le-leb, lt-leb}
 use Rattle.lists.proofs.Tests.{and}
 use Rattle.ledger.specs.Inner.{owned}
 use Rattle.ledger.proofs.Bools.{last}

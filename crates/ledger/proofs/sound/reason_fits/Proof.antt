@@ -1,8 +1,6 @@
 -- `ledger::sound::reason_fits` meets its contract. Assumes nothing.
-use Prim.Native.Nat.{ℕ}
 use mathlib.Core.Path.{sym, ap, ap₂, _∙_}
 use Rattle.lists.specs.Lists.{upTo}
-use Rattle.records.specs.declared.Why.{Why}
 use Rattle.ledger.specs.Inner.{reasonFits}
 use borrow.Author.Needs.{needs}
 use Rattle.ledger.proofs.sound.reason_fits.Statement.{statement}

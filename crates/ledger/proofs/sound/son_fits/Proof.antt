@@ -2,7 +2,6 @@
 use mathlib.Core.Path.{_≡_, sym, ap, _∙_}
 use borrow.Author.Needs.{needs}
 use borrow.Author.Tests.{not-true, not-false, eq-eqb, ne-eqb}
-use native.Mathlib.Omega.{arith}
 use Rattle.records.specs.Records.{known}
 use Rattle.lists.specs.Lists.{upTo}
 use Rattle.ledger.proofs.sound.son_fits.Statement.{statement}
