@@ -13,3 +13,11 @@ pub mod Parted
 pub mod Altered
 pub mod Waiters
 pub mod Endings
+pub mod OperatorPaths
+pub mod FreshTables
+pub mod Ticks
+pub mod Called
+pub mod TrackPaths
+pub mod Calling
+pub mod SonPaths
+pub mod NumberPaths

@@ -1,11 +1,12 @@
 -- What inner functions ask and promise; nothing here need be believed for the calls.
 -- Assumes nothing.
-use Prim.Native.Nat.{ℕ, _-_, _≤_, _<_}
+use Prim.Native.Nat.{ℕ, _+_, _-_, _≤_, _<_}
 use mathlib.Core.Path.{_≡_}
 use mathlib.Core.Logic.{_≢_}
-use mathlib.Core.Bool.{Bool, true}
+use mathlib.Core.Bool.{Bool, true, cond}
 use mathlib.Core.List.{List, [], _∷_}
 use lib.ListN.{length, getD, set, take}
+use lib.Dec.{eqb}
 use Rattle.lists.specs.Lists.{count}
 use Rattle.records.specs.declared.Program.{Program}
 use Rattle.records.specs.declared.Numbers.{Numbers}
@@ -17,7 +18,7 @@ use Rattle.tracks.specs.Tracks.{holders}
 use Rattle.tracks.specs.Inner as tracks
 use Rattle.rules.specs.Book.{stateOf, prioOf}
 use Rattle.rules.specs.Requests.{Call}
-use Rattle.rules.specs.Plans.{Event, Plan, done, on, becomes, numberOf, valuesOf, eventsOf}
+use Rattle.rules.specs.Plans.{Event, Plan, done, on, becomes, timed, numberOf, valuesOf, eventsOf}
 use Rattle.rules.specs.Rules.{named, inside, head, call}
 use Rattle.rules.specs.Keeper.{lists, Entries, State, play, view, scheduled}
 use Rattle.rules.specs.Replay.{Accounts}
@@ -144,3 +145,20 @@ pub record CanEnd (t : Tables) (p n : ℕ) : Type 0 where
 pub record Woke (t : Tables) (es : List Event) (c : List ℕ) (r : Tables) (n : ℕ) : Type 0 where
   pub played : Played t es r
   pub number : n ≡ length c
+
+-- T tracks, S of them the system's, and R numbers are tables
+pub record Sizes (T S R : ℕ) : Type 0 where
+  pub least : 1 ≤ T
+  pub most : T ≤ 256
+  pub part : S ≤ T
+  pub few : R ≤ 16
+
+-- what a tick does to p, whose timer is due, and whose record was r before it
+abbrev pub tickedBy : ℕ → Program → List Event
+tickedBy p r =
+    on p (timed (cond (eqb (r .interval) 0) 0 (r .due + r .interval)) (r .interval)) ∷ cond (eqb (r .state) 0) (on p (becomes 1 Nothing) ∷ []) []
+
+pub record CanTick (t : Tables) (p : ℕ) (r : Program) : Type 0 where
+  pub orderly : Orderly t
+  pub known : Known p
+  pub fits : r .due + r .interval ≤ 18446744073709551615

@@ -3,3 +3,4 @@ pub mod Sound
 pub mod Calls
 pub mod Inner
 pub mod Walks
+pub mod Releasing

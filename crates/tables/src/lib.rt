@@ -1,9 +1,15 @@
 // The executive's tables, and what a call hands back.
 mod base;
 mod changes;
+mod disc;
 mod ending;
+mod fresh;
 mod moves;
+mod operator;
+mod resources;
+mod sons;
 mod sound;
+mod ticking;
 mod waking;
 
 use ledger::Ledger;

@@ -1,0 +1,124 @@
+-- `tables::Tables::clear_by` meets its contract.
+-- Assumes nothing.
+use mathlib.Core.Path.{_≡_, ap, _∙_}
+use mathlib.Core.Logic.{_≢_}
+use borrow.Author.Needs.{needs}
+use Rattle.records.specs.declared.Resource.{Resource}
+use Rattle.records.specs.Inner.{Within}
+use Rattle.rules.specs.Requests.{CLEAR}
+use Rattle.rules.specs.Plans.{Plan}
+use Rattle.rules.specs.Rules.{call}
+use Rattle.tables.specs.Calls.{Result, told}
+use Rattle.tables.specs.Inner.{planned, callOf}
+use Rattle.tables.proofs.NumberPaths.{number-strange, number-within, number-free, number-owned, cleared, clear-none, clear-other, clear-own}
+use Rattle.tables.proofs.Tables.clear_by.Statement.{statement}
+use Rattle.tables.proofs.Tables.clear_by.Tie as tie
+
+abbrev wanted : tie.Start → Resource → Plan
+wanted s = cleared (s .args .self) (s .args .c) (s .args .r)
+
+-- the number is allocated
+abbrev start : tie.After-number → tie.Start
+start n = n .before .before .before .before .before .before
+
+owned : (n : tie.After-number) (z : Result) → n .number .result .owner ≢ 0 → z ≡ planned (start n .args .self) (wanted (start n) (n .number .result))
+    → z ≡ planned (start n .args .self) (callOf (start n .args .self) (start n .args .c) (CLEAR (start n .args .r)))
+unfolding call
+owned n z o e =
+    let p = n .before .before .before in
+    let i = p .before .before in
+    let s = i .before in
+    number-owned (s .args .self) (s .pre .ready .orderly) (s .args .r) _ (i .is-number .ensures) (p .before .if1 .left) _ (p .place .ensures)
+    (n .number .result) (n .number .ensures) (wanted s) z o e
+
+within : (p : tie.After-place) → Within (p .before .before .before .args .self .ledger .numbers) (p .place .result)
+within p =
+    let i = p .before .before in
+    let s = i .before in
+    number-within (s .args .self) (s .pre .ready .orderly) (s .args .r) _ (i .is-number .ensures) (p .before .if1 .left) _ (p .place .ensures)
+
+is-number-requires : tie.Need-is-number-requires
+is-number-requires c κs = search needs
+
+refused-requires : tie.Need-refused-requires
+refused-requires c κs = search needs
+
+returns : tie.Need-returns
+unfolding call
+returns c =
+    let i = c .before .before in
+    let s = i .before in
+    ap told (c .refused .ensures)
+    ∙ number-strange (s .args .self) (s .pre .ready .orderly) (s .args .r) _ (i .is-number .ensures) (wanted s) (c .before .if1 .taken)
+
+place-requires : tie.Need-place-requires
+place-requires c κs = search needs
+
+number-requires : tie.Need-number-requires
+number-requires c κs = within (c .before .before)
+
+refused-requires-2 : tie.Need-refused-requires-2
+refused-requires-2 c κs = search needs
+
+returns-2 : tie.Need-returns-2
+unfolding call
+returns-2 c =
+    let n = c .before .before .before in
+    let p = n .before .before .before in
+    let i = p .before .before in
+    let s = i .before in
+    ap told (c .refused2 .ensures)
+    ∙ number-free (s .args .self) (s .pre .ready .orderly) (s .args .r) _ (i .is-number .ensures) (p .before .if1 .left) _ (p .place .ensures)
+    (n .number .result) (n .number .ensures) (wanted s) (c .before .if2 .taken)
+
+returns-3 : tie.Need-returns-3
+returns-3 c =
+    let o = c .before .before in
+    let n = o .before .before in
+    let s = start n in
+    owned n _ (o .if2 .left) (clear-none (s .args .self) (s .args .c) (s .args .r) (n .number .result) (s .pre .ready .orderly) (c .if3 .taken))
+
+refused-requires-3 : tie.Need-refused-requires-3
+refused-requires-3 c κs = search needs
+
+returns-4 : tie.Need-returns-4
+returns-4 c =
+    let e = c .before .before .before in
+    let o = e .before .before in
+    let n = o .before .before in
+    let s = start n in
+    owned n _ (o .if2 .left)
+    (ap told (c .refused3 .ensures)
+    ∙ clear-other (s .args .self) (s .args .c) (s .args .r) (n .number .result) (e .if3 .left) (s .pre .ready .orderly) (c .before .if4 .taken))
+
+number-released-requires : tie.Need-number-released-requires
+number-released-requires c κs =
+    let n = c .before .before .before .before .before .before in
+    record { orderly = start n .pre .ready .orderly; within = within (n .before .before .before) }
+
+returns-5 : tie.Need-returns-5
+returns-5 c =
+    let e = c .before .before .before in
+    let o = e .before .before in
+    let n = o .before .before in
+    let s = start n in
+    owned n _ (o .if2 .left)
+    (clear-own (s .args .self) (s .args .c) (s .args .r) (n .number .result) (e .if3 .left) _ _ (n .before .before .before .place .ensures) (c .before .if4 .left)
+    (c .number-released .ensures))
+
+pub clear-by-spec : {M : Type 1} → statement M
+clear-by-spec =
+    tie.close
+    (tie.spec
+    is-number-requires
+    refused-requires
+    returns
+    place-requires
+    number-requires
+    refused-requires-2
+    returns-2
+    returns-3
+    refused-requires-3
+    returns-4
+    number-released-requires
+    returns-5)

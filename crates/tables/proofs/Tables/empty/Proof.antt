@@ -1,0 +1,30 @@
+-- `tables::Tables::empty` meets its contract, piece by piece.
+-- Assumes nothing.
+use Rattle.tables.proofs.FreshTables.{fresh-laid}
+use borrow.Author.Needs.{needs}
+use Rattle.tables.proofs.Tables.empty.Statement.{statement}
+use Rattle.tables.proofs.Tables.empty.Tie as tie
+
+unused-record-requires : tie.Need-unused-record-requires
+unused-record-requires c κs = search needs
+
+from-ticks-requires : tie.Need-from-ticks-requires
+from-ticks-requires c κs = search needs
+
+fresh-requires : tie.Need-fresh-requires
+fresh-requires c κs = search needs
+
+fresh-requires-2 : tie.Need-fresh-requires-2
+fresh-requires-2 c κs = search needs
+
+returns : tie.Need-returns
+returns c =
+    let x = c .before in
+    let k = x .before in
+    let u = k .before in
+    let s = u .before in
+    fresh-laid (s .args .tracks) (s .args .system) (s .args .numbers) (u .unused-record .result) (k .from-ticks .result) (x .fresh .result) (c .fresh2 .result)
+    (u .unused-record .ensures) (k .from-ticks .ensures) (x .fresh .ensures) (c .fresh2 .ensures)
+
+pub empty-spec : {M : Type 1} → statement M
+empty-spec = tie.close (tie.spec unused-record-requires from-ticks-requires fresh-requires fresh-requires-2 returns)

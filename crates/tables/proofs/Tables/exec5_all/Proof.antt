@@ -1,0 +1,74 @@
+-- `tables::Tables::exec5_all` meets its contract: the tables are tested, then the caller, then what the rule says of it.
+-- Assumes nothing.
+use Rattle.rules.specs.Requests.{EXEC5ALL}
+use Rattle.tables.proofs.TrackPaths.{can-free-all, gives-all}
+use Rattle.tables.specs.Inner.{Calls}
+use Rattle.tables.proofs.Called.{called-unsound, called-none, called-known, called-by}
+use borrow.Author.Needs.{needs}
+use Rattle.tables.proofs.Tables.exec5_all.Statement.{statement}
+use Rattle.tables.proofs.Tables.exec5_all.Tie as tie
+
+calls : (e : tie.Else2) → Calls (e .before .before .before .before .args .self) (e .before .caller .result)
+calls e =
+    let i = e .before .before in
+    let t = i .before in
+    called-known (t .before .args .self) _ (t .tested .ensures) (i .if1 .taken) _ (e .before .caller .ensures) (e .if2 .left)
+
+tested-requires : tie.Need-tested-requires
+tested-requires c κs = search needs
+
+caller-requires : tie.Need-caller-requires
+caller-requires c κs = c .before .tested .ensures .ready (c .if1 .taken)
+
+refused-requires : tie.Need-refused-requires
+refused-requires c κs = search needs
+
+returns : tie.Need-returns
+returns c =
+    let k = c .before .before in
+    let i = k .before in
+    let t = i .before in
+    called-none (t .before .args .self) _ (t .tested .ensures) (i .if1 .taken) _ (k .caller .ensures) _ (c .before .if2 .taken) _ (c .refused .ensures)
+
+held-by-requires : tie.Need-held-by-requires
+held-by-requires c κs = calls (c .before .before) .ready .orderly .tracks
+
+replace-all-requires : tie.Need-replace-all-requires
+replace-all-requires c κs = calls (c .before .before .before) .ready .orderly .tracks
+
+freed-requires : tie.Need-freed-requires
+freed-requires c κs =
+    let e = c .before .before .before .before in
+    can-free-all (e .before .before .before .before .args .self) (e .before .caller .result) (calls e .ready .orderly) _ (c .replace-all .ensures)
+
+returns-2 : tie.Need-returns-2
+returns-2 c =
+    let r = c .before in
+    let h = r .before in
+    let e = h .before .before .before in
+    let s = e .before .before .before .before in
+    called-by (s .args .self) _ (calls e) EXEC5ALL
+    (gives-all (s .args .self) (e .before .caller .result) (calls e .ready .orderly) _ (h .held-by .ensures) _ (r .replace-all .ensures) _ (c .freed .ensures))
+
+refused-requires-2 : tie.Need-refused-requires-2
+refused-requires-2 c κs = search needs
+
+returns-3 : tie.Need-returns-3
+returns-3 c =
+    let t = c .before .before in
+    called-unsound (t .before .args .self) _ (t .tested .ensures) _ (c .before .if1 .left) _ (c .refused2 .ensures)
+
+pub exec5-all-spec : {M : Type 1} → statement M
+exec5-all-spec =
+    tie.close
+    (tie.spec
+    tested-requires
+    caller-requires
+    refused-requires
+    returns
+    held-by-requires
+    replace-all-requires
+    freed-requires
+    returns-2
+    refused-requires-2
+    returns-3)

@@ -1,0 +1,87 @@
+-- `tables::Tables::tick_ready` meets its contract. The loop's invariant: what those from p on have still to do, done to the tables as they are, is what all have to do.
+-- The measure is what is left of the programs.
+-- Assumes nothing.
+use Prim.Native.Nat.{_+_, _-_}
+use native.Mathlib.Omega.{arith}
+use mathlib.Core.Path.{refl}
+use Rattle.tables.proofs.Ticks.{Ticking, ticking-start, ticking-step, tick-ceiling, tick-done, due-fits, starts-few}
+use borrow.Author.Needs.{needs}
+use Rattle.tables.proofs.Tables.tick_ready.Statement.{statement}
+use Rattle.tables.proofs.Tables.tick_ready.Tie as tie
+
+abbrev Inv-loop : tie.InvT-loop
+Inv-loop self ticks now t₀ n₀ p₀ t n p = Ticking self t n p
+
+abbrev μ-loop : tie.MeasureT-loop
+μ-loop self ticks now t₀ n₀ p₀ t n p = 33 - p
+
+refused-requires : tie.Need-refused-requires Inv-loop μ-loop
+refused-requires c κs = search needs
+
+returns : tie.Need-returns Inv-loop μ-loop
+returns c = let s = c .before .before .before in tick-ceiling (s .args .self) (s .pre) _ (c .refused .ensures) (c .before .if1 .taken)
+
+add-now : tie.Need-add-now Inv-loop μ-loop
+add-now c = omega arith
+
+clocked-requires : tie.Need-clocked-requires Inv-loop μ-loop
+clocked-requires c κs = search needs
+
+loop-holds : tie.Need-loop-holds Inv-loop μ-loop
+loop-holds c = let s = c .before .before .before in ticking-start (s .args .self) _ (c .clocked .result) refl (c .clocked .ensures)
+
+record-requires : tie.Need-record-requires Inv-loop μ-loop
+record-requires c κs = (c .before .loop .inv .low, c .loop-test .taken)
+
+starts-requires : tie.Need-starts-requires Inv-loop μ-loop
+starts-requires c κs = search needs
+
+add-n : tie.Need-add-n Inv-loop μ-loop
+add-n c =
+    let r = c .before in
+    let l = r .before .before in
+    let s = l .before .before .before .before in
+    omega (
+      arith,
+      l .loop .inv .few,
+      l .loop .inv .high,
+      starts-few (r .«record» .result) (s .args .self .ledger .clock .ticks + 1) (c .starts .result) (c .starts .ensures),
+    )
+
+ticked-requires : tie.Need-ticked-requires Inv-loop μ-loop
+ticked-requires c κs =
+    let r = c .before in
+    let i = r .before in
+    let l = i .before in
+    let e = l .before .before in
+    let s = e .before .before in
+    record {
+      orderly = l .loop .inv .orderly;
+      known = (l .loop .inv .low, i .loop-test .taken);
+      fits = due-fits (s .args .self) _ (r .«record» .result) (s .pre) (l .loop .inv .low, i .loop-test .taken) (r .«record» .ensures) (e .if1 .left);
+    }
+
+add-p : tie.Need-add-p Inv-loop μ-loop
+add-p c = let i = c .before .before .before in omega (arith, i .loop-test .taken)
+
+loop-less : tie.Need-loop-less Inv-loop μ-loop
+loop-less c = let i = c .before .before .before in omega (arith, i .loop-test .taken)
+
+loop-again : tie.Need-loop-again Inv-loop μ-loop
+loop-again c =
+    let k = c .before in
+    let r = k .before in
+    let i = r .before in
+    let l = i .before in
+    let s = l .before .before .before .before in
+    ticking-step (s .args .self) _ _ _ _ (r .«record» .result) refl (r .«record» .ensures) (l .loop .inv) (i .loop-test .taken) (k .starts .result) (c .ticked .result)
+    (k .starts .ensures) (c .ticked .ensures)
+
+returns-2 : tie.Need-returns-2 Inv-loop μ-loop
+returns-2 c =
+    let l = c .before in
+    let e = l .before .before in
+    tick-done (e .before .before .args .self) (l .loop .n) (l .loop .p) (l .loop .t) (e .if1 .left) (l .loop .inv) (c .loop-test .left)
+
+pub tick-ready-spec : {M : Type 1} → statement M
+tick-ready-spec = tie.close (tie.spec Inv-loop μ-loop refused-requires returns add-now clocked-requires loop-holds record-requires starts-requires add-n ticked-requires add-p loop-less loop-again returns-2)

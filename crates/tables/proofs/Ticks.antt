@@ -1,0 +1,192 @@
+-- TICK: the programs are passed in their order, and what is left to do is what those from p on have still to do.
+-- Assumes nothing.
+use Prim.Native.Nat.{ℕ, suc, _+_, _-_, _≤_, _<_}
+use native.Mathlib.Omega.{arith}
+use native.Mathlib.Decide.{ℕ-discrete}
+use native.Mathlib.Numerals.{add-one}
+use mathlib.Core.Path.{_≡_, refl, sym, ap, _∙_}
+use mathlib.Core.Logic.{_≢_}
+use mathlib.Core.Bool.{Bool, true, false, cond, _&&_}
+use mathlib.Core.List.{List, [], _∷_}
+use lib.ListN.{length}
+use lib.Dec.{eqb}
+use borrow.Author.Tests.{eq-eqb, ne-eqb, lt-ltb, le-ltb}
+use Rattle.lists.specs.Lists.{hit, keep, from}
+use Rattle.lists.proofs.Tests.{and}
+use Rattle.clock.specs.Clock.{ceiling, farthest}
+use Rattle.records.specs.declared.Program.{Program}
+use Rattle.records.specs.declared.Why.the-variants.{Nothing}
+use Rattle.records.specs.Records.{Known, all}
+use Rattle.rules.specs.declared.Answer.the-variants.{Done, AtCeiling}
+use Rattle.rules.specs.Book.{Book, at, stateOf}
+use Rattle.rules.specs.Requests.{TICK}
+use Rattle.rules.specs.Plans.{Event, on, becomes, timed, clocked, done}
+use Rattle.rules.specs.Rules.{plan, dueAt, ticked, each}
+use Rattle.rules.specs.Keeper.{lists, State, step, play}
+use Rattle.rules.proofs.Paths.{need-met, need-failed}
+use Rattle.tables.specs.declared.Tables.{Tables}
+use Rattle.tables.specs.declared.Outcome.{Outcome}
+use Rattle.tables.specs.Tables.{plain}
+use Rattle.tables.specs.Calls.{told, served}
+use Rattle.tables.specs.Inner.{Orderly, Ready, Played, tickedBy}
+use Rattle.tables.proofs.Agree.{sound-clauses}
+use Rattle.tables.proofs.Serving.{play-append}
+use Rattle.tables.proofs.Endings.{played-as, played-on}
+use Rattle.tables.proofs.OperatorPaths.{second-fails, refusal, success}
+
+-- a program at its tick: not due; due, and not dormant; due, and dormant
+module _ (t : Tables) (p : ℕ) (r : Program) (now : ℕ) (O : Orderly t) where
+  pub not-due : r .due ≢ now → Played t (cond (eqb (r .due) now) (tickedBy p r) []) t
+  not-due n = rw (ne-eqb (r .due) now n) (record { orderly = O; state = refl })
+
+  module _ (d : ℕ) (D : d ≡ cond (eqb (r .interval) 0) 0 (r .due + r .interval)) (here : r .due ≡ now) (u : Tables)
+      (S : Played t (on p (timed d (r .interval)) ∷ []) u) where
+    moved : Played t (on p (timed (cond (eqb (r .interval) 0) 0 (r .due + r .interval)) (r .interval)) ∷ []) u
+    moved = played-as t u _ _ (ap (λ (x : ℕ). on p (timed x (r .interval)) ∷ []) D) S
+
+    pub due-only : r .state ≢ 0 → Played t (cond (eqb (r .due) now) (tickedBy p r) []) u
+    due-only n = rw (eq-eqb (r .due) now here, ne-eqb (r .state) 0 n) moved
+
+    pub due-starts : (w : Tables) → r .state ≡ 0 → Played u (on p (becomes 1 Nothing) ∷ []) w → Played t (cond (eqb (r .due) now) (tickedBy p r) []) w
+    due-starts w e W =
+        rw (eq-eqb (r .due) now here, eq-eqb (r .state) 0 e)
+        (played-on t u w (on p (timed (cond (eqb (r .interval) 0) 0 (r .due + r .interval)) (r .interval)) ∷ []) (on p (becomes 1 Nothing) ∷ []) moved W)
+
+-- the programs from p on
+from-step : (p : ℕ) → p ≤ 32 → from p (33 - p) ≡ p ∷ from (p + 1) (33 - (p + 1))
+from-step p h =
+    let e : 33 - p ≡ suc (32 - p) = omega arith in
+    let f : 32 - p ≡ 33 - (p + 1) = omega arith in
+    ap (from p) e ∙ ap (λ (n : ℕ). p ∷ from (suc p) n) f ∙ ap (λ (k : ℕ). p ∷ from k (33 - (p + 1))) (sym (add-one p))
+
+-- and they are all, from the first
+from-first : from 1 (33 - 1) ≡ all
+unfolding all
+from-first = refl
+
+from-last : (p : ℕ) → p ≡ 33 → from p (33 - p) ≡ []
+from-last p e = rw e
+
+zero-plus : (n : ℕ) → 0 + n ≡ n
+zero-plus n = omega arith
+
+-- what is left of the events, and of the count
+each-step : (f : ℕ → List Event) (c : Bool) (p : ℕ) (ks : List ℕ) (a : State lists)
+    → play lists (each f (cond c (p ∷ ks) ks)) a ≡ play lists (each f ks) (play lists (cond c (f p) []) a)
+each-step f true p ks a = play-append (f p) (each f ks) a
+each-step f false p ks a = refl
+
+count-step : (c : Bool) (p : ℕ) (ks : List ℕ) → length (cond c (p ∷ ks) ks) ≡ hit c + length ks
+count-step true p ks = omega arith
+count-step false p ks = omega arith
+
+hit-most : (c : Bool) → hit c ≤ 1
+hit-most true = omega arith
+hit-most false = omega arith
+
+starts-most : (c : Bool) (k : ℕ) → k ≡ hit c → k ≤ 1
+starts-most c k e = rw e (hit-most c)
+
+-- whether a program starts
+pub starts-few : (r : Program) (now k : ℕ) → k ≡ hit (eqb (r .due) now && eqb (r .state) 0) → k ≤ 1
+starts-few r now k = starts-most (eqb (r .due) now && eqb (r .state) 0) k
+
+pub starts-later : (r : Program) (now : ℕ) → r .due ≢ now → 0 ≡ hit (eqb (r .due) now && eqb (r .state) 0)
+starts-later r now n = sym (ap (λ (c : Bool). hit (c && eqb (r .state) 0)) (ne-eqb (r .due) now n))
+
+pub starts-busy : (r : Program) (now : ℕ) → r .state ≢ 0 → 0 ≡ hit (eqb (r .due) now && eqb (r .state) 0)
+starts-busy r now n = sym (ap hit (second-fails (eqb (r .due) now) (ne-eqb (r .state) 0 n)))
+
+pub starts-now : (r : Program) (now : ℕ) → r .due ≡ now → r .state ≡ 0 → 1 ≡ hit (eqb (r .due) now && eqb (r .state) 0)
+starts-now r now d e = sym (ap hit (and (eq-eqb (r .due) now d) (eq-eqb (r .state) 0 e)))
+
+-- p is due, and dormant
+abbrev pub starting : Book → ℕ → Bool
+starting b p = dueAt b p && eqb (stateOf b p) 0
+
+-- how far a tick has come: the programs below p are done
+pub record Ticking (s t : Tables) (n p : ℕ) : Type 0 where
+  pub low : 1 ≤ p
+  pub high : p ≤ 33
+  pub few : n < p
+  pub orderly : Orderly t
+  pub left : play lists (each (ticked (plain s .book)) (keep (dueAt (plain s .book)) (from p (33 - p)))) (plain t)
+      ≡ play lists (each (ticked (plain s .book)) (keep (dueAt (plain s .book)) all)) (step lists (clocked (plain s .book .clock + 1)) (plain s))
+  pub number : n + length (keep (starting (plain s .book)) (from p (33 - p))) ≡ length (keep (starting (plain s .book)) all)
+
+module _ (s : Tables) where
+  pub ticking-start : (now : ℕ) (t : Tables) → now ≡ plain s .book .clock + 1 → Played s (clocked now ∷ []) t → Ticking s t 0 1
+  ticking-start now t e S = record {
+    low = omega arith;
+    high = omega arith;
+    few = omega arith;
+    orderly = S .orderly;
+    left =
+        ap (λ (xs : List ℕ). play lists (each (ticked (plain s .book)) (keep (dueAt (plain s .book)) xs)) (plain t)) from-first
+        ∙ ap (play lists (each (ticked (plain s .book)) (keep (dueAt (plain s .book)) all))) (S .state ∙ ap (λ (x : ℕ). step lists (clocked x) (plain s)) e);
+    number = zero-plus _ ∙ ap (λ (xs : List ℕ). length (keep (starting (plain s .book)) xs)) from-first;
+  }
+
+  module _ (now n p : ℕ) (t : Tables) (r : Program) (N : now ≡ plain s .book .clock + 1) (X : r ≡ at (plain s .book) p) (T : Ticking s t n p) (h : p ≤ 32) where
+    due-here : eqb (r .due) now ≡ dueAt (plain s .book) p
+    unfolding dueAt
+    due-here = ap (λ (x : Program). eqb (x .due) now) X ∙ ap (λ (m : ℕ). eqb (at (plain s .book) p .due) m) N
+
+    pub ticking-step : (k : ℕ) (u : Tables) → k ≡ hit (eqb (r .due) now && eqb (r .state) 0) → Played t (cond (eqb (r .due) now) (tickedBy p r) []) u
+        → Ticking s u (n + k) (p + 1)
+    ticking-step k u K S =
+        let B = plain s .book in
+        let q = dueAt B p in
+        let ks = keep (dueAt B) (from (p + 1) (33 - (p + 1))) in
+        let ns = keep (starting B) (from (p + 1) (33 - (p + 1))) in
+        let k′ : k ≡ hit (starting B p) =
+        K ∙ ap (λ (c : Bool). hit (c && eqb (r .state) 0)) due-here ∙ ap (λ (x : Program). hit (q && eqb (x .state) 0)) X in
+        let S′ : plain u ≡ play lists (cond q (ticked B p) []) (plain t) =
+        S .state
+        ∙ ap (λ (c : Bool). play lists (cond c (tickedBy p r) []) (plain t)) due-here
+        ∙ ap (λ (x : Program). play lists (cond q (tickedBy p x) []) (plain t)) X in
+        let c : length (keep (starting B) (from p (33 - p))) ≡ hit (starting B p) + length ns =
+        ap (λ (xs : List ℕ). length (keep (starting B) xs)) (from-step p h) ∙ count-step (starting B p) p ns in
+        record {
+          low = omega arith;
+          high = omega arith;
+          few = omega (arith, starts-most (starting B p) k k′);
+          orderly = S .orderly;
+          left =
+              ap (play lists (each (ticked B) ks)) S′
+              ∙ sym (each-step (ticked B) q p ks (plain t))
+              ∙ sym (ap (λ (xs : List ℕ). play lists (each (ticked B) (keep (dueAt B) xs)) (plain t)) (from-step p h))
+              ∙ T .left;
+          number = omega arith;
+        }
+
+  -- the clock is at its ceiling
+  pub tick-ceiling : Ready s → (r : Outcome) → r ≡ record { answer = AtCeiling; tables = s } → ceiling ≤ plain s .book .clock → told r ≡ served s TICK
+  unfolding served plan
+  tick-ceiling R r E h = refusal s R AtCeiling 0 _ r E refl (need-failed 11 0 _ (le-ltb (plain s .book .clock) ceiling h))
+
+  pub tick-done : (n p : ℕ) (t : Tables) → plain s .book .clock < ceiling → Ticking s t n p → 32 < p → told (record { answer = Done n; tables = t }) ≡ served s TICK
+  unfolding served plan
+  tick-done n p t h T l =
+      let none = from-last p (omega arith) in
+      let B = plain s .book in
+      let m : n ≡ length (keep (starting B) all) =
+      omega (arith, ap (λ (xs : List ℕ). length (keep (starting B) xs)) none) in
+      success s t (Done n) n _ (clocked (plain s .book .clock + 1) ∷ each (ticked B) (keep (dueAt B) all)) refl
+      (need-met 11 0 _ (lt-ltb (plain s .book .clock) ceiling h)
+      ∙ ap (λ (k : ℕ). done (k ∷ []) (clocked (plain s .book .clock + 1) ∷ each (ticked B) (keep (dueAt B) all))) (sym m))
+      (record {
+        orderly = T .orderly;
+        state = sym (ap (λ (xs : List ℕ). play lists (each (ticked B) (keep (dueAt B) xs)) (plain t)) none) ∙ T .left;
+      })
+
+-- a due and its interval are far below the largest number
+near : (c d : ℕ) → c < ceiling → (d ≢ 0 → d ≤ c + farthest) → Dec (d ≡ 0) → d ≤ ceiling + farthest
+near c d h f (yes e) = omega arith
+near c d h f (no n) = omega (arith, f n)
+
+pub due-fits : (s : Tables) (p : ℕ) (r : Program) → Ready s → Known p → r ≡ at (plain s .book) p → plain s .book .clock < ceiling → r .due + r .interval ≤ 18446744073709551615
+due-fits s p r R P X h =
+    let D = sound-clauses s (R .sound) .dues in
+    let d = near (plain s .book .clock) (at (plain s .book) p .due) h (D .near p P) (ℕ-discrete (at (plain s .book) p .due) 0) in
+    omega (arith, d, D .steps p P, ap (λ (x : Program). x .due) X, ap (λ (x : Program). x .interval) X)

@@ -1,0 +1,92 @@
+// TICK: the clock moves on, and the timers now due.
+ghost use Prim.Native.Nat.{_+_, _≤_};
+ghost use mathlib.Core.Path.{_≡_};
+ghost use mathlib.Core.Bool.{cond, _&&_};
+ghost use mathlib.Core.List.{[]};
+ghost use lib.Dec.{eqb};
+ghost use Rattle.lists.specs.Lists.{hit};
+ghost use Rattle.rules.specs.Requests.{TICK};
+ghost use Rattle.tables.specs.Calls.{told, served, asked};
+ghost use Rattle.tables.specs.Inner.{Ready, Played, CanTick, tickedBy};
+use super::Outcome;
+use super::Tables;
+use clock::Clock;
+use records::Program;
+use records::Why;
+use rules::Answer;
+
+// The due that follows: none without an interval.
+fn next_due(due: u64, interval: u64) -> u64
+    requires { ⌜ due + interval ≤ 18446744073709551615 ⌝ }
+    ensures { λ r. ⌜ r ≡ cond (eqb interval 0) 0 (due + interval) ⌝ }
+{
+    if interval == 0 {
+        return 0;
+    }
+    due + interval
+}
+
+// 1 where a tick that makes the clock `now` starts the program, and 0 where not.
+fn starts(r: Program, now: u64) -> u64
+    ensures { λ n. ⌜ n ≡ hit (eqb (r .due) now && eqb (r .state) 0) ⌝ }
+{
+    if r.due != now {
+        return 0;
+    }
+    if r.state != 0 {
+        return 0;
+    }
+    1
+}
+
+impl Tables {
+    // TICK: the number of programs that it starts.
+    pub fn tick(self) -> Outcome
+        ensures { λ r. ⌜ told r ≡ asked self TICK ⌝ }
+    {
+        if self.tested() {
+            return self.tick_ready();
+        }
+        self.refused(Answer::NotSound)
+    }
+
+    fn tick_ready(self) -> Outcome
+        requires { ⌜ Ready self ⌝ }
+        ensures { λ r. ⌜ told r ≡ served self TICK ⌝ }
+    {
+        let book = self.ledger;
+        let ticks = book.clock.ticks;
+        if Clock::CEILING <= ticks {
+            return self.refused(Answer::AtCeiling);
+        }
+        let now = ticks + 1;
+        let mut t = self.clocked(now);
+        let mut n: u64 = 0;
+        let mut p: u8 = 1;
+        while p <= 32 {
+            let r = self.record(p);
+            n += starts(r, now);
+            t = t.ticked(p, r, now);
+            p += 1;
+        }
+        Outcome {
+            answer: Answer::Done(n),
+            tables: t,
+        }
+    }
+
+    // The timer of p, whose record was r before the tick, moves on or goes where it is due; p is scheduled where it was dormant.
+    fn ticked(self, p: u8, r: Program, now: u64) -> Tables
+        requires { ⌜ CanTick self p r ⌝ }
+        ensures { λ t. ⌜ Played self (cond (eqb (r .due) now) (tickedBy p r) []) t ⌝ }
+    {
+        if r.due != now {
+            return self;
+        }
+        let t = self.timed(p, next_due(r.due, r.interval), r.interval);
+        if r.state != 0 {
+            return t;
+        }
+        t.becomes(p, 1, Why::Nothing)
+    }
+}
