@@ -30,5 +30,8 @@ module _ (t : Tables) (b : Bool) (B : Tested t b) where
       caller = sym C;
     }
 
+    pub called-made : (q : Call) → c ≢ 0 → (r : Outcome) → told r ≡ planned t (callOf t c q) → told r ≡ asked t (running q)
+    called-made q n r E = E ∙ by-caller t (B .ready e) q c (sym C) (omega (arith, n))
+
 pub called-by : (t : Tables) (c : ℕ) → Calls t c → (q : Call) {x : Result} → x ≡ planned t (callOf t c q) → x ≡ asked t (running q)
 called-by t c C q R = R ∙ by-caller t (C .ready) q c (C .caller) (C .known .0)

@@ -18,6 +18,5 @@ pub mod FreshTables
 pub mod Ticks
 pub mod Called
 pub mod TrackPaths
-pub mod Calling
 pub mod SonPaths
 pub mod NumberPaths

@@ -217,13 +217,14 @@ impl Tables {
         if x.owner == 0 {
             return self.refused(Answer::NotAllocated);
         }
-        if x.lock == 0 {
+        let lock = x.lock;
+        if lock == 0 {
             return Outcome {
                 answer: Answer::Done(0),
                 tables: self,
             };
         }
-        if x.lock != c {
+        if lock != c {
             return self.refused(Answer::NotHolder);
         }
         self.number_released(k, x.owner, 0, false)

@@ -73,7 +73,7 @@ returns-2 c =
 
 returns-3 : tie.Need-returns-3
 returns-3 c =
-    let o = c .before .before in
+    let o = c .before in
     let n = o .before .before in
     let s = start n in
     owned n _ (o .if2 .left) (clear-none (s .args .self) (s .args .c) (s .args .r) (n .number .result) (s .pre .ready .orderly) (c .if3 .taken))
@@ -83,8 +83,8 @@ refused-requires-3 c κs = search needs
 
 returns-4 : tie.Need-returns-4
 returns-4 c =
-    let e = c .before .before .before in
-    let o = e .before .before in
+    let e = c .before .before in
+    let o = e .before in
     let n = o .before .before in
     let s = start n in
     owned n _ (o .if2 .left)
@@ -93,13 +93,13 @@ returns-4 c =
 
 number-released-requires : tie.Need-number-released-requires
 number-released-requires c κs =
-    let n = c .before .before .before .before .before .before in
+    let n = c .before .before .before .before in
     record { orderly = start n .pre .ready .orderly; within = within (n .before .before .before) }
 
 returns-5 : tie.Need-returns-5
 returns-5 c =
-    let e = c .before .before .before in
-    let o = e .before .before in
+    let e = c .before .before in
+    let o = e .before in
     let n = o .before .before in
     let s = start n in
     owned n _ (o .if2 .left)
