@@ -5,12 +5,12 @@ use native.Mathlib.Omega.{arith}
 use mathlib.Core.Path.{_≡_, refl, sym, ap, _∙_, subst}
 use mathlib.Core.Logic.{_≢_}
 use mathlib.Core.Bool.{Bool, true, false, not, cond, _&&_, _||_}
-use mathlib.Core.List.{List, [], _∷_, _++_}
+use mathlib.Core.List.{List, [], _∷_}
 use lib.Dec.{leb, ltb, eqb}
 use lib.ListN.{length, getD, take}
 use lib.Seq.{length-take-le}
 use borrow.Author.Tests.{not-true, not-false, le-leb, lt-leb, lt-ltb, le-ltb, eq-eqb, ne-eqb}
-use Rattle.lists.specs.Lists.{count, first, from, upTo, keep, remove}
+use Rattle.lists.specs.Lists.{count, first, from, upTo, remove}
 use Rattle.lists.proofs.Tests.{upTo-true}
 use Rattle.lists.proofs.Laws.{first-in, from-in, keep-in, count-remove-le}
 use Rattle.records.specs.declared.Resource.{Resource}
@@ -28,7 +28,6 @@ use Rattle.rules.specs.Rules.{allocated, number, waits, awaits, fromGeneral, wo
 use Rattle.rules.specs.Rules as rules
 use Rattle.rules.specs.Keeper.{lists, view}
 use Rattle.rules.proofs.Paths.{need-met, need-failed, either-so, either-not, waits-so, waits-told, allocated-not-ours, allocated-free, allocated-is}
-use Rattle.chains.specs.declared.Listing.{Listing}
 use Rattle.chains.specs.Links.{read}
 use Rattle.chains.specs.Inner.{Lists}
 use Rattle.ledger.specs.declared.Release.{Release}
@@ -37,7 +36,7 @@ use Rattle.tables.specs.declared.Tables.{Tables}
 use Rattle.tables.specs.Tables.{plain}
 use Rattle.tables.specs.Calls.{Result, told}
 use Rattle.tables.specs.Inner.{Orderly, Played, CanNumber, CanWake, planned}
-use Rattle.tables.specs.Releasing.{CanRelease, released}
+use Rattle.tables.specs.Releasing.{released}
 use Rattle.tables.proofs.Serving.{keeps, refuses}
 use Rattle.tables.proofs.Endings.{played-as, played-on}
 

@@ -1,4 +1,5 @@
 -- What the calls that name a program come to, test by test: the name is not legal, no program has it, its program is not dormant; and what is left to do.
+-- And a timer: its numbers are small enough that neither its due nor its interval wraps.
 -- Assumes nothing.
 use Prim.Native.Nat.{ℕ, _+_, _*_, _≤_}
 use native.Mathlib.Omega.{arith}
@@ -24,7 +25,7 @@ use Rattle.rules.specs.Plans.{Plan, refused, done, waiting, on, becomes, timed,
 use Rattle.rules.specs.Rules.{named, inside}
 use Rattle.rules.specs.Keeper.{lists, view, play}
 use Rattle.rules.proofs.Paths.{named-illegal, named-missing, named-found, inside-met, inside-failed, need-met, need-failed}
-use Rattle.rules.proofs.Finding.{Bears, find-bears}
+use Rattle.rules.proofs.Finding.{find-bears}
 use Rattle.tables.specs.declared.Tables.{Tables}
 use Rattle.tables.specs.Tables.{plain}
 use Rattle.tables.specs.Calls.{Result, told}
