@@ -5,6 +5,7 @@ pub mod Plain
 pub mod Serving
 pub mod Readied
 pub mod OneOutcome
+pub mod Demanded
 pub mod Turns
 pub mod Wakes
 pub mod Walking

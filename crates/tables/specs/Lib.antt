@@ -1,6 +1,7 @@
 pub mod Tables
 pub mod Sound
 pub mod Calls
+pub mod Demand
 pub mod Inner
 pub mod Walks
 pub mod Releasing

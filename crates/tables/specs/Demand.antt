@@ -1,0 +1,43 @@
+-- What demand 2 says of claims and counts, of the tables themselves.
+-- Assumes nothing.
+use Prim.Native.Nat.{ℕ, _+_, _≤_}
+use mathlib.Core.Path.{_≡_}
+use mathlib.Core.List.{List, [], _∷_}
+use Rattle.tracks.specs.Tracks.{LowestRun}
+use Rattle.rules.specs.Book.{Book}
+use Rattle.rules.specs.Requests.{OF, EXEC5, EXEC16, EXEC5ALL, EXEC6, CLEAR, FREE, Request, operator, TICK, running}
+use Rattle.rules.specs.Claims.{NoRun, Gained}
+use Rattle.rules.specs.Counts.{Freed, awoken, roused}
+use Rattle.tables.specs.declared.Tables.{Tables}
+use Rattle.tables.specs.Tables.{plain}
+use Rattle.tables.specs.Calls.{Result, asked}
+
+-- what is handed back for a claim of n tracks for h: the lowest free run, or state 5, or 8 and the tables as they were; the latter two exactly where there is no run
+pub record Claim (t : Tables) (h n w : ℕ) (r : Result) : Type 0 where
+  pub granted : (i : ℕ) → LowestRun (plain t .book .holders) i n → (r .number ≡ 0) × (r .values ≡ i ∷ [])
+  pub gained : (i : ℕ) → LowestRun (plain t .book .holders) i n → Gained (plain t .book) (plain (r .tables) .book) h i n
+  pub waits : NoRun (plain t .book .holders) n → w ≡ 0 → (r .number ≡ 1) × (r .values ≡ 5 ∷ [])
+  pub told : NoRun (plain t .book .holders) n → w ≡ 1 → (r .number ≡ 8) × (r .tables ≡ t)
+  pub only-waits : r .number ≡ 1 → NoRun (plain t .book .holders) n
+  pub only-told : r .number ≡ 8 → NoRun (plain t .book .holders) n
+
+-- the value is a difference of the tables before and after: free tracks, programs woken, programs started
+abbrev pub ValueFreed : Tables → Result → Type 0
+ValueFreed t r = Freed (plain t .book) (plain (r .tables) .book) (r .values)
+
+abbrev pub ValueAwoken : Tables → Result → Type 0
+ValueAwoken t r = r .values ≡ awoken (plain t .book) (plain (r .tables) .book) ∷ []
+
+abbrev pub ValueRoused : Tables → Result → Type 0
+ValueRoused t r = r .values ≡ roused (plain t .book) (plain (r .tables) .book) ∷ []
+
+-- every count that a call gives
+pub record Counted (t : Tables) : Type 0 where
+  pub off : (k : ℕ) (nm : List ℕ) → asked t (operator (OF k) nm) .number ≡ 0 → ValueFreed t (asked t (operator (OF k) nm))
+  pub own : (n s : ℕ) → asked t (running (EXEC5 n s)) .number ≡ 0 → ValueFreed t (asked t (running (EXEC5 n s)))
+  pub global : (n s : ℕ) → asked t (running (EXEC16 n s)) .number ≡ 0 → ValueFreed t (asked t (running (EXEC16 n s)))
+  pub each : asked t (running EXEC5ALL) .number ≡ 0 → ValueFreed t (asked t (running EXEC5ALL))
+  pub ending : asked t (running EXEC6) .number ≡ 0 → ValueAwoken t (asked t (running EXEC6))
+  pub clearing : (r : ℕ) → asked t (running (CLEAR r)) .number ≡ 0 → ValueAwoken t (asked t (running (CLEAR r)))
+  pub freeing : (r : ℕ) → asked t (running (FREE r)) .number ≡ 0 → ValueAwoken t (asked t (running (FREE r)))
+  pub tick : asked t TICK .number ≡ 0 → ValueRoused t (asked t TICK)
