@@ -37,6 +37,7 @@ use Rattle.tables.specs.Tables.{plain}
 use Rattle.tables.specs.Calls.{Result, told}
 use Rattle.tables.specs.Inner.{Orderly, Played, CanNumber, CanWake, planned}
 use Rattle.tables.specs.Releasing.{released}
+use Rattle.tables.proofs.Waiters.{general-known}
 use Rattle.tables.proofs.Serving.{keeps, refuses}
 use Rattle.tables.proofs.Endings.{played-as, played-on}
 
@@ -47,14 +48,6 @@ module _ (t : Tables) (w : ℕ) (x : Plan) where
 
   pub w-passed : (r : Result) → w ≤ 1 → r ≡ planned t x → r ≡ planned t (need (leb w 1) 3 0 x)
   w-passed r h e = e ∙ ap (planned t) (sym (need-met 3 0 x (le-leb w 1 h)))
-
--- the caller waits in chain 3, or is told
-module _ (t : Tables) (c w : ℕ) (y : Why) where
-  pub general-waits : (u : Tables) → w ≡ 0 → Played t (on c (becomes 3 y) ∷ []) u → told (record { answer = Waits 3; tables = u }) ≡ planned t (waits c w 3 y)
-  general-waits u e S = keeps t u (Waits 3) (waiting 3 (on c (becomes 3 y) ∷ [])) refl refl S ∙ ap (planned t) (sym (waits-so c w 3 y e))
-
-  pub general-told : Orderly t → w ≢ 0 → told (record { answer = NoRoom; tables = t }) ≡ planned t (waits c w 3 y)
-  general-told O n = refuses t NoRoom 0 O refl ∙ ap (planned t) (sym (waits-told c w 3 y n))
 
 -- number k with another owner and lock
 module _ (t : Tables) (O : Orderly t) (k o l : ℕ) (n : Numbers)
@@ -208,12 +201,6 @@ so-other p q b r B e R = R ∙ ap (λ (z : Bool). z && q) (sym (sym B ∙ not-fa
 woken-general : (t : Tables) (r : ℕ) (d : Bool) → fromGeneral (view lists (plain t)) (clears r d) ≡ woken (view lists (plain t)) (clears r d)
 unfolding woken clears
 woken-general t r d = refl
-
-general-known : (t : Tables) → Orderly t → (y : rules.Release) (z : ℕ) → 1 ≤ count z (fromGeneral (view lists (plain t)) y) → Known z
-general-known t O y z h =
-    let k = keep-in (λ q. awaits y (whyOf (plain t .book) q)) z (remove (y .ended) (getD (read (t .links)) 3 [])) h in
-    O .accounts .fits 3 (omega arith) (omega arith) .within z
-    (omega (arith, k .1, count-remove-le z (y .ended) (getD (read (t .links)) 3 [])))
 
 module _ (t : Tables) (O : Orderly t) (r : ℕ) (d : Bool) (x : Release) (X : Releases x (clears r d)) (ids : List ℕ) (len : ℕ)
     (G : (y : rules.Release) → Releases x y → Lists ids len (fromGeneral (view lists (plain t)) y)) where

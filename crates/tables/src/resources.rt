@@ -76,21 +76,6 @@ impl Tables {
         r <= wide(numbers.count)
     }
 
-    // The caller waits in chain 3 for a reason, or is told 8.
-    fn general_wait(self, c: u8, w: u64, why: Why) -> Outcome
-        requires { ⌜ Calls self c ⌝ }
-        ensures { λ r. ⌜ told r ≡ planned self (waits c w 3 why) ⌝ }
-    {
-        if w == 0 {
-            let t = self.becomes(c, 3, why);
-            return Outcome {
-                answer: Answer::Waits(3),
-                tables: t,
-            };
-        }
-        self.refused(Answer::NoRoom)
-    }
-
     // Number r is cleared or deallocated, and those wake who waited for that.
     fn number_released(self, r: usize, owner: u8, lock: u8, dealt: bool) -> Outcome
         requires { ⌜ CanRelease self r ⌝ }
@@ -133,7 +118,7 @@ impl Tables {
         let numbers = ledger.numbers;
         let r = numbers.lowest_free();
         if r == 0 {
-            return self.general_wait(c, w, Why::Number);
+            return self.waits(c, w, 3, Why::Number);
         }
         let t = self.numbered(numbers.with_number(r, owner_of(global, c), 0));
         Outcome {
@@ -186,7 +171,7 @@ impl Tables {
                 tables: t,
             };
         }
-        self.general_wait(c, w, Why::Lock(r as u8))
+        self.waits(c, w, 3, Why::Lock(r as u8))
     }
 
     // RN CLEAR: the caller's lock of number r is cleared.

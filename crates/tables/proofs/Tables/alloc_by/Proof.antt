@@ -24,8 +24,8 @@ returns c =
 lowest-free-requires : tie.Need-lowest-free-requires
 lowest-free-requires c κs = search needs
 
-general-wait-requires : tie.Need-general-wait-requires
-general-wait-requires c κs = search needs
+waits-requires : tie.Need-waits-requires
+waits-requires c κs = search needs
 
 returns-2 : tie.Need-returns-2
 unfolding call
@@ -35,7 +35,7 @@ returns-2 c =
     let s = l .before in
     w-passed (s .args .self) (s .args .w) (wanted s) _ (l .if1 .left)
     (none-free (s .args .self) (s .pre .ready .orderly) (s .args .c) (s .args .global) (s .args .w) _ (f .lowest-free .ensures) _ (c .before .if2 .taken)
-    (c .general-wait .ensures))
+    (c .waits .ensures))
 
 owner-of-requires : tie.Need-owner-of-requires
 owner-of-requires c κs = search needs
@@ -76,7 +76,7 @@ alloc-by-spec =
     refused-requires
     returns
     lowest-free-requires
-    general-wait-requires
+    waits-requires
     returns-2
     owner-of-requires
     with-number-requires

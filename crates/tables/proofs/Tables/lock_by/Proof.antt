@@ -124,8 +124,8 @@ cast-t18 c =
     let s = i .before .before in
     omega (arith, number-most (s .args .self) (s .pre .ready .orderly) (s .args .r) _ (i .is-number .ensures) (p .before .if2 .left))
 
-general-wait-requires : tie.Need-general-wait-requires
-general-wait-requires c κs = search needs
+waits-requires : tie.Need-waits-requires
+waits-requires c κs = search needs
 
 returns-6 : tie.Need-returns-6
 returns-6 c =
@@ -134,7 +134,7 @@ returns-6 c =
     let n = o .before .before in
     let s = start n in
     owned n _ (o .if3 .left)
-    (lock-taken (s .args .self) (s .args .c) (s .args .r) (s .args .w) (n .number .result) (e .if4 .left) _ (c .before .if5 .left) (c .general-wait .ensures))
+    (lock-taken (s .args .self) (s .args .c) (s .args .r) (s .args .w) (n .number .result) (e .if4 .left) _ (c .before .if5 .left) (c .waits .ensures))
 
 pub lock-by-spec : {M : Type 1} → statement M
 lock-by-spec =
@@ -154,5 +154,5 @@ lock-by-spec =
     numbered-requires
     returns-5
     cast-t18
-    general-wait-requires
+    waits-requires
     returns-6)
