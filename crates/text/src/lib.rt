@@ -1,1 +1,154 @@
-// Text as bytes. The definitions stand first; the functions follow with the page and the console line.
+// Text as bytes: put at a place of a lent buffer, and read: fields, words and numbers.
+ghost use mathlib.Core.Path.{_≡_};
+ghost use mathlib.Core.List.{[], _∷_};
+ghost use Prim.Native.Nat.{_+_, _≤_};
+ghost use lib.ListN.{length};
+ghost use lib.Seq.{slice};
+ghost use Rattle.lists.specs.Lists.{alike};
+ghost use Rattle.text.specs.Text.{decimal, horner, numberOf, entry};
+ghost use Rattle.text.specs.Inner.{Wrote, PartEnd, read};
+
+// Puts b at `at`. Each function that puts bytes hands back the place behind them.
+pub fn put_byte(buf: &mut [u8], at: usize, b: u8) -> usize
+    requires { ⌜ at + 1 ≤ length (now buf) ⌝ }
+    ensures { λ r. ⌜ Wrote (now (buf .entry)) at (b ∷ []) (now (buf .exit)) r ⌝ }
+{
+    buf[at] = b;
+    at + 1
+}
+
+pub fn put_bytes(buf: &mut [u8], at: usize, s: &[u8]) -> usize
+    requires { ⌜ at + length (now s) ≤ length (now buf) ⌝ }
+    ensures { λ r. ⌜ Wrote (now (buf .entry)) at (now (s .entry)) (now (buf .exit)) r ⌝ }
+{
+    let mut i = 0;
+    let mut o = at;
+    while i < s.len() {
+        buf[o] = s[i];
+        o += 1;
+        i += 1;
+    }
+    o
+}
+
+// n in decimal.
+pub fn put_number(buf: &mut [u8], at: usize, n: u64) -> usize
+    requires { ⌜ at + length (decimal n) ≤ length (now buf) ⌝ }
+    ensures { λ r. ⌜ Wrote (now (buf .entry)) at (decimal n) (now (buf .exit)) r ⌝ }
+{
+    if n < 10 {
+        put_byte(buf, at, 48 + n as u8)
+    } else {
+        let next = put_number(buf, at, n / 10);
+        put_byte(buf, next, 48 + (n % 10) as u8)
+    }
+}
+
+// The line key=value.
+pub fn put_entry(buf: &mut [u8], at: usize, key: &[u8], value: &[u8]) -> usize
+    requires { ⌜ at + length (entry (now key) (now value)) ≤ length (now buf) ⌝ }
+    ensures { λ r. ⌜ Wrote (now (buf .entry)) at (entry (now (key .entry)) (now (value .entry))) (now (buf .exit)) r ⌝ }
+{
+    let a = put_bytes(buf, at, key);
+    let b = put_byte(buf, a, b'=');
+    let c = put_bytes(buf, b, value);
+    put_byte(buf, c, 10)
+}
+
+// The line key=n.
+pub fn put_figure(buf: &mut [u8], at: usize, key: &[u8], n: u64) -> usize
+    requires { ⌜ at + length (entry (now key) (decimal n)) ≤ length (now buf) ⌝ }
+    ensures { λ r. ⌜ Wrote (now (buf .entry)) at (entry (now (key .entry)) (decimal n)) (now (buf .exit)) r ⌝ }
+{
+    let a = put_bytes(buf, at, key);
+    let b = put_byte(buf, a, b'=');
+    let c = put_number(buf, b, n);
+    put_byte(buf, c, 10)
+}
+
+// Where the part that begins at `from` ends: the place of the next byte d, or the length.
+pub fn part_end(s: &[u8], from: usize, d: u8) -> usize
+    requires { ⌜ from ≤ length (now s) ⌝ }
+    ensures { λ r. ⌜ PartEnd d (now (s .entry)) from r ⌝ }
+{
+    let mut i = from;
+    while i < s.len() {
+        if s[i] == d {
+            return i;
+        }
+        i += 1;
+    }
+    i
+}
+
+// Whether s[from..to] is w.
+pub fn is_word(s: &[u8], from: usize, to: usize, w: &[u8]) -> bool
+    requires { ⌜ from ≤ to ⌝ }
+    requires { ⌜ to ≤ length (now s) ⌝ }
+    ensures { λ r. ⌜ r ≡ alike (slice from to (now (s .entry))) (now (w .entry)) ⌝ }
+{
+    if to - from != w.len() {
+        return false;
+    }
+    let mut o = from;
+    let mut i = 0;
+    while i < w.len() {
+        if s[o] != w[i] {
+            return false;
+        }
+        o += 1;
+        i += 1;
+    }
+    true
+}
+
+// A number, or none where the bytes are not one.
+pub enum Number {
+    Is(u64),
+    Not,
+}
+
+// What the digits s[from..to] say.
+fn read_digits(s: &[u8], from: usize, to: usize) -> Number
+    requires { ⌜ from ≤ to ⌝ }
+    requires { ⌜ to ≤ from + 10 ⌝ }
+    requires { ⌜ to ≤ length (now s) ⌝ }
+    ensures { λ r. ⌜ read r ≡ horner 0 (slice from to (now (s .entry))) ⌝ }
+{
+    let mut a: u64 = 0;
+    let mut i = from;
+    while i < to {
+        let b = s[i];
+        if b < 48 {
+            return Number::Not;
+        }
+        if 57 < b {
+            return Number::Not;
+        }
+        a = a * 10 + (b - 48) as u64;
+        i += 1;
+    }
+    Number::Is(a)
+}
+
+// s[from..to] as a number of 1 to 10 digits without leading zeros.
+pub fn read_number(s: &[u8], from: usize, to: usize) -> Number
+    requires { ⌜ from ≤ to ⌝ }
+    requires { ⌜ to ≤ length (now s) ⌝ }
+    ensures { λ r. ⌜ read r ≡ numberOf 10 (slice from to (now (s .entry))) ⌝ }
+{
+    let n = to - from;
+    if n == 0 {
+        return Number::Not;
+    }
+    if 10 < n {
+        return Number::Not;
+    }
+    if n == 1 {
+        return read_digits(s, from, to);
+    }
+    if s[from] == 48 {
+        return Number::Not;
+    }
+    read_digits(s, from, to)
+}

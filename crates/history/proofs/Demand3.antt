@@ -1,0 +1,229 @@
+-- Demand 3 of the tables themselves: from any sound tables, and from fresh ones, after any run of calls the chains are what the replay says, which keeps none, and
+-- every call is told what the replay tells. Sound tables and the notes of their replay stay so under every call; all else is read off one such pair.
+-- Assumes nothing.
+use Prim.Native.Nat.{ℕ, zero, suc, _+_, _<_}
+use native.Mathlib.Omega.{arith}
+use mathlib.Core.Path.{_≡_, refl, sym, ap, ap₂, _∙_, subst}
+use mathlib.Core.Logic.{_≢_}
+use mathlib.Core.Bool.{Bool, true, false, not}
+use mathlib.Core.List.{List, [], _∷_, map}
+use lib.ListN.{length, getD}
+use lib.Seq.{ext-getD}
+use lib.Dec.{leb, eqb}
+use borrow.Author.Tests.{ne-eqb}
+use Rattle.lists.specs.Lists.{from, every}
+use Rattle.lists.proofs.Tests.{and}
+use Rattle.rules.specs.Book.{Book}
+use Rattle.rules.specs.Requests.{Call, Request, running}
+use Rattle.rules.specs.Plans.{Plan, refused, numberOf, valuesOf}
+use Rattle.rules.specs.Rules.{call, sizes}
+use Rattle.rules.specs.Keeper.{lists, Entries, entries, sorted, State, view, scheduled, asks, after, fresh}
+use Rattle.rules.specs.Replay.{Accounts, Fits, First, Acts}
+use Rattle.rules.specs.Replay as rules
+use Rattle.rules.specs.Sound.{Sound}
+use Rattle.rules.proofs.Alike.{Alike, fresh-alike, order-alike, asks-alike, after-alike}
+use Rattle.rules.proofs.Notes.{accounts-alike, alike-accounts}
+use Rattle.rules.proofs.Notes as accounts
+use Rattle.rules.proofs.Demand.{demand, accounted}
+use Rattle.rules.proofs.SoundFresh.{sound-fresh}
+use Rattle.rules.proofs.SoundRuns.{sound-after}
+use Rattle.tables.specs.declared.Tables.{Tables}
+use Rattle.tables.specs.Tables.{plain, lay}
+use Rattle.tables.specs.Sound.{sound}
+use Rattle.tables.specs.Walks.{Arrays}
+use Rattle.tables.specs.Calls.{asked, made}
+use Rattle.tables.specs.Inner.{planned}
+use Rattle.tables.proofs.Agree.{sound-clauses, sound-test}
+use Rattle.tables.proofs.Plain.{plain-lay, lay-sound, sound-plain}
+use Rattle.tables.proofs.Orderly.{orderly-lay, sound-orderly}
+use Rattle.page.specs.Page.{page}
+use Rattle.page.specs.Paging.{Written, beside, front, written, paged}
+use Rattle.console.specs.Line.{Line, bad, PAGE, lineOf}
+use Rattle.console.specs.Line as line
+use Rattle.console.specs.Console.{obeyed}
+use Rattle.history.specs.Runs.{Made, step, run, outcomes}
+use Rattle.history.specs.Runs as calls
+use Rattle.history.specs.Demand.{Told, toldOf, sortedOut, tellsRequest, tellsPage, tellsLine, tells, notesLine, notes, replay, replayed, ActsFor, for-none, for-first, Agrees, Demanded}
+use Rattle.history.proofs.LowNumbers.{low-plan}
+use Rattle.history.proofs.Steps.{asked-planned, paged-sound, keyed-sound}
+use Rattle.history.proofs.Begins.{requested-asked}
+
+-- sound tables, laid out as their plain state is, and the notes of a replay that it is alike to
+record Kept (t : Tables) (n : State entries) : Type 0 where
+  test : sound t ≡ true
+  plainly : Sound (plain t)
+  laid : lay (plain t) ≡ t
+  alike : Alike (plain t) n
+
+-- a sound state laid out
+kept-lay : (a : State lists) → Sound a → (n : State entries) → Alike a n → Kept (lay a) n
+kept-lay a S n k =
+    let e : plain (lay a) ≡ a = plain-lay a S in
+    record {
+      test = sound-test (lay a) (lay-sound a S);
+      plainly = subst Sound (sym e) S;
+      laid = ap lay e;
+      alike = subst (λ (x : State lists). Alike x n) (sym e) k;
+    }
+
+-- what is handed back: it says what the replay tells, its number is not 14, and its tables and the replay's notes go on together
+record Handed (w : Written) (x : Told) (n : State entries) : Type 0 where
+  told : toldOf w ≡ x
+  answers : not (eqb (w .number) 14) ≡ true
+  kept : Kept (w .tables) n
+
+not-14 : (a : ℕ) → a ≢ 14 → not (eqb a 14) ≡ true
+not-14 a n = ap not (ne-eqb a 14 n)
+
+-- the n numbers from p on, each with what f makes of it
+getD-from : (f : ℕ → List ℕ) (p n i : ℕ) → i < n → getD (map f (from p n)) i [] ≡ f (p + i)
+getD-from f p zero i h = absurd (omega arith)
+getD-from f p (suc n) zero h = ap f (omega arith)
+getD-from f p (suc n) (suc i) h = getD-from f (suc p) n i (omega arith) ∙ ap f (omega arith)
+
+module _ (t : Tables) (n : State entries) (K : Kept t n) where
+  -- the chains, all seven of them, are those that the replay sorts out
+  kept-sorted : plain t ≡ sortedOut n
+  kept-sorted =
+      let b : plain t .book ≡ n .book = sym (K .alike .book) in
+      let k : plain t .kept ≡ sortedOut n .kept = ext-getD [] (plain t .kept) (sortedOut n .kept) (K .alike .seven) chain in
+      λ i. record { book = b i; kept = k i }
+    where
+      chain : (s : ℕ) → s < length (plain t .kept) → getD (plain t .kept) s [] ≡ getD (sortedOut n .kept) s []
+      chain zero h = K .plainly .shape .dormant
+      chain (suc s) h =
+          let l : s < 6 = omega (arith, K .alike .seven) in
+          sym (order-alike (plain t) n (K .alike) (suc s) (omega arith) (omega arith))
+          ∙ ap (sorted (n .book) (n .kept)) (let e : suc s ≡ 1 + s = omega arith in e)
+          ∙ sym (getD-from (sorted (n .book) (n .kept)) 1 6 s l)
+
+  -- a request
+  handed-asked : (buf : List ℕ) (q : Request) → Handed (beside buf (asked t q)) (tellsRequest n buf q) (after entries n q)
+  handed-asked buf q =
+      let e : asked t q ≡ planned t (asks lists (plain t) q) = asked-planned t (K .test) q in
+      rw e
+      (record {
+        told = ap (λ (x : Plan). record { number = numberOf x; values = valuesOf x; buffer = buf }) (asks-alike (plain t) n (K .alike) q);
+        answers = not-14 (numberOf (asks lists (plain t) q)) (λ i. omega (arith, low-plan (view lists (plain t)) (scheduled lists (plain t)) q .most));
+        kept = kept-lay (after lists (plain t) q) (sound-after (plain t) (K .plainly) q) (after entries n q) (after-alike (plain t) n (K .alike) q);
+      })
+
+  -- PAGE
+  handed-written : (buf : List ℕ) → Handed (written t buf) (tellsPage n buf) n
+  unfolding written
+  handed-written buf =
+      go (leb (length (page (plain t))) (length buf)) refl (ap (λ (bytes : List ℕ). leb (length bytes) (length buf)) (sym same))
+    where
+      same : page (plain t) ≡ page (sortedOut n)
+      same = ap page kept-sorted
+
+      go : (b : Bool) → leb (length (page (plain t))) (length buf) ≡ b → leb (length (page (sortedOut n))) (length buf) ≡ b
+          → Handed (written t buf) (tellsPage n buf) n
+      go true e f = rw (e, written, f, tellsPage)
+          (record { told = λ i. record { number = 0; values = length (same i) ∷ []; buffer = front (same i) buf }; answers = refl; kept = K })
+      go false e f = rw (e, written, f, tellsPage)
+          (record { told = λ i. record { number = 12; values = length (same i) ∷ []; buffer = buf }; answers = refl; kept = K })
+
+  handed-paged : (buf : List ℕ) → Handed (paged t buf) (tellsPage n buf) n
+  handed-paged buf = rw (paged-sound t (K .test) buf) (handed-written buf)
+
+  -- a line
+  handed-obeyed : (buf : List ℕ) (l : Line) → Handed (obeyed t buf l) (tellsLine n buf l) (notesLine n l)
+  handed-obeyed buf bad = record { told = refl; answers = refl; kept = K }
+  handed-obeyed buf PAGE = handed-paged buf
+  handed-obeyed buf (line.asks q) = handed-asked buf q
+
+  -- any call
+  handed : (c : Made) → Handed (step t c) (tells n c) (notes n c)
+  unfolding step
+  handed (calls.request q) = rw (requested-asked t (K .test) (K .laid) q) (handed-asked [] q)
+  handed (calls.page buf) = handed-paged buf
+  handed (calls.line bytes buf) = rw (keyed-sound t (K .test) bytes buf) (handed-obeyed buf (lineOf bytes))
+
+  -- a call of the running program
+  acts-for : (c : Call) → ActsFor t n c
+  acts-for c = go (demand (plain t) (n .kept) (K .plainly) (alike-accounts (plain t) n (K .alike)) [] .holds .acts c)
+    where
+      planned-as : (x : Plan) → asks lists (plain t) (running c) ≡ x → asked t (running c) ≡ planned t x
+      planned-as x e = asked-planned t (K .test) (running c) ∙ ap (planned t) e
+
+      go : Acts (plain t) (n .kept .entry) c → ActsFor t n c
+      go (rules.for-none f e) =
+          for-none (λ p P. rw (K .alike .book) (f p P))
+          (planned-as (refused 2 0) e ∙ (λ i. record { number = 2; values = 0 ∷ []; tables = K .laid i }))
+      go (rules.for-first p F e) =
+          for-first p (subst (λ (b : Book). First b (n .kept .entry) 1 p) (sym (K .alike .book)) F) (planned-as (call (view lists (plain t)) p c) e)
+
+  agrees : Agrees t n
+  agrees = record {
+    book = sym (K .alike .book);
+    chains = λ s l h. subst (λ (b : Book). Fits b (n .kept .entry) s (getD (plain t .kept) s [])) (sym (K .alike .book)) (K .alike .fits s l h);
+    acts = acts-for;
+  }
+
+-- a run
+run-kept : (cs : List Made) (t : Tables) (n : State entries) → Kept t n → Kept (run t cs) (replay n cs)
+unfolding run
+run-kept [] t n K = K
+run-kept (c ∷ cs) t n K = run-kept cs (step t c .tables) (notes n c) (handed t n K c .kept)
+
+run-told : (cs : List Made) (t : Tables) (n : State entries) → Kept t n → map toldOf (outcomes t cs) ≡ replayed n cs
+unfolding outcomes
+run-told [] t n K = refl
+run-told (c ∷ cs) t n K = let H = handed t n K c in ap₂ _∷_ (H .told) (run-told cs (step t c .tables) (notes n c) (H .kept))
+
+run-answers : (cs : List Made) (t : Tables) (n : State entries) → Kept t n
+    → every (λ a. not (eqb a 14)) (map (λ (w : Written). w .number) (outcomes t cs)) ≡ true
+unfolding outcomes
+run-answers [] t n K = refl
+run-answers (c ∷ cs) t n K = let H = handed t n K c in and (H .answers) (run-answers cs (step t c .tables) (notes n c) (H .kept))
+
+kept-demanded : (t : Tables) (n : State entries) → Kept t n → (cs : List Made) → Demanded t n cs
+kept-demanded t n K cs = record {
+  agrees = agrees (run t cs) (replay n cs) (run-kept cs t n K);
+  told = run-told cs t n K;
+  sound = run-answers cs t n K;
+}
+
+-- the tables after a run, whole: what the replay sorts out, laid out
+kept-laid : (t : Tables) (n : State entries) → Kept t n → (cs : List Made) → run t cs ≡ lay (sortedOut (replay n cs))
+kept-laid t n K cs = let L : Kept (run t cs) (replay n cs) = run-kept cs t n K in sym (L .laid) ∙ ap lay (kept-sorted (run t cs) (replay n cs) L)
+
+-- from any sound tables on, and any entries that account for them
+module _ (t : Tables) (A : Arrays t) (s : sound t ≡ true) where
+  plainly : Sound (plain t)
+  plainly = sound-plain t A (sound-clauses t s)
+
+  kept-accounted : (e : Entries) → Accounts (plain t) e → Kept t (record { book = plain t .book; kept = e })
+  kept-accounted e a = record {
+    test = s;
+    plainly = plainly;
+    laid = orderly-lay t (sound-orderly t A (sound-clauses t s));
+    alike = accounts-alike (plain t) e (plainly .shape .programs) (plainly .shape .chains) a;
+  }
+
+  pub demand-sound : (e : Entries) → Accounts (plain t) e → (cs : List Made) → Demanded t (record { book = plain t .book; kept = e }) cs
+  demand-sound e a = kept-demanded t (record { book = plain t .book; kept = e }) (kept-accounted e a)
+
+  pub laid-sound : (e : Entries) → Accounts (plain t) e → (cs : List Made)
+      → run t cs ≡ lay (sortedOut (replay (record { book = plain t .book; kept = e }) cs))
+  laid-sound e a = kept-laid t (record { book = plain t .book; kept = e }) (kept-accounted e a)
+
+  -- such entries there are always
+  pub sound-accounted : Accounts (plain t) (accounts.notes (plain t .book) (plain t .kept))
+  sound-accounted = accounted (plain t) plainly
+
+  pub demand-any : (cs : List Made) → Demanded t (record { book = plain t .book; kept = accounts.notes (plain t .book) (plain t .kept) }) cs
+  demand-any = demand-sound (accounts.notes (plain t .book) (plain t .kept)) sound-accounted
+
+-- from fresh tables of any accepted sizes on
+module _ (T S R : ℕ) (e : sizes T S R ≡ true) where
+  kept-fresh : Kept (made T S R .tables) (fresh entries T S R)
+  unfolding made
+  kept-fresh = rw (e, made) (kept-lay (fresh lists T S R) (sound-fresh T S R e) (fresh entries T S R) (fresh-alike T S R))
+
+  pub demand-fresh : (cs : List Made) → Demanded (made T S R .tables) (fresh entries T S R) cs
+  demand-fresh = kept-demanded (made T S R .tables) (fresh entries T S R) kept-fresh
+
+  pub laid-fresh : (cs : List Made) → run (made T S R .tables) cs ≡ lay (sortedOut (replay (fresh entries T S R) cs))
+  laid-fresh = kept-laid (made T S R .tables) (fresh entries T S R) kept-fresh

@@ -1,0 +1,5 @@
+pub mod LowNumbers
+pub mod Steps
+pub mod Frames
+pub mod Begins
+pub mod Demand3

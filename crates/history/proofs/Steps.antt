@@ -1,0 +1,49 @@
+-- What the parts of a call come to on sound tables: a request keeps to its plan, and PAGE leaves the tables.
+-- Assumes nothing.
+use Prim.Native.Nat.{ℕ}
+use mathlib.Core.Path.{_≡_, refl, ap, _∙_}
+use mathlib.Core.Bool.{Bool, true, false}
+use mathlib.Core.List.{List}
+use lib.ListN.{length}
+use lib.Dec.{leb}
+use Rattle.rules.specs.Requests.{Request}
+use Rattle.rules.specs.Keeper.{lists, asks, after}
+use Rattle.rules.specs.Sound as rules
+use Rattle.rules.proofs.SoundRuns.{sound-after}
+use Rattle.tables.specs.declared.Tables.{Tables}
+use Rattle.tables.specs.Tables.{plain}
+use Rattle.tables.specs.Sound.{sound}
+use Rattle.tables.specs.Calls.{Result, asked}
+use Rattle.tables.specs.Inner.{planned}
+use Rattle.tables.proofs.Plain.{plain-lay}
+use Rattle.tables.proofs.Serving.{asked-sound, served-planned}
+use Rattle.page.specs.Page.{page}
+use Rattle.page.specs.Paging.{written, paged}
+use Rattle.console.specs.Line.{lineOf}
+use Rattle.console.specs.Console.{obeyed, keyed}
+
+-- PAGE leaves the tables
+pub written-leaves : (t : Tables) (buf : List ℕ) → written t buf .tables ≡ t
+unfolding written
+written-leaves t buf = go (leb (length (page (plain t))) (length buf)) refl
+  where
+    go : (b : Bool) → leb (length (page (plain t))) (length buf) ≡ b → written t buf .tables ≡ t
+    go true e = rw (e, written)
+    go false e = rw (e, written)
+
+module _ (t : Tables) (e : sound t ≡ true) where
+  -- the test of soundness is passed
+  pub asked-planned : (q : Request) → asked t q ≡ planned t (asks lists (plain t) q)
+  asked-planned q = asked-sound t q e ∙ served-planned t q
+
+  pub paged-sound : (buf : List ℕ) → paged t buf ≡ written t buf
+  unfolding paged
+  paged-sound buf = rw (e, paged)
+
+  pub keyed-sound : (bytes buf : List ℕ) → keyed t bytes buf ≡ obeyed t buf (lineOf bytes)
+  unfolding keyed
+  keyed-sound bytes buf = rw (e, keyed)
+
+  -- the plain state after a request is the rule's
+  pub plain-asked : rules.Sound (plain t) → (q : Request) → plain (asked t q .tables) ≡ after lists (plain t) q
+  plain-asked S q = ap (λ (r : Result). plain (r .tables)) (asked-planned q) ∙ plain-lay (after lists (plain t) q) (sound-after (plain t) S q)

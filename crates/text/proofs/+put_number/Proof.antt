@@ -1,0 +1,147 @@
+-- `text::put_number` meets its contract. It calls itself at n / 10, so the measure is n. Assumes nothing.
+use mathlib.Core.Path.{ap}
+use mathlib.Core.List.{[], _∷_}
+use Prim.Native.Nat.{ℕ, _+_, _/_, _%_, _<_}
+use native.Mathlib.Omega.{arith}
+use borrow.Author.Needs.{needs}
+use lib.ListN.{length, length-append}
+use Rattle.text.specs.Text.{decimal}
+use Rattle.text.proofs.Laws.{wrote-then, decimal-small, decimal-step}
+use borrow.Fn.Kinds.{In}
+use borrow.Fn.PlainCycle.{Measures, is, falls, and}
+use Rattle.text.proofs.put_number.Reads as put-number
+use Rattle.text.proofs.put_number.Kinds as put-number-kinds
+use Rattle.text.proofs.+put_number.Lts-put_number as put-number-lts
+use Rattle.text.proofs.put_byte.Reads as put-byte-reads
+use Rattle.text.proofs.+put_number.{statement}
+use Rattle.text.proofs.+put_number.Tie.{close}
+
+abbrev μ-put-number : Measures 1 put-number-kinds.ps ℕ
+μ-put-number κs a = a .1 .1 .0
+
+abbrev put-number-at : ℕ → In 1 put-number-kinds.ps
+put-number-at t =
+    and 1 put-number-kinds.ps (is 1 put-number-kinds.ps μ-put-number t) put-number.Pre
+
+abbrev put-number-below : ℕ → In 1 put-number-kinds.ps
+put-number-below t =
+    and 1 put-number-kinds.ps (falls 1 put-number-kinds.ps _<_ μ-put-number t) put-number.Pre
+
+put-number-cast-put-byte : (t : ℕ) → put-number-lts.Need-cast-put-byte (
+  put-byte-reads.Asked,
+  put-byte-reads.Learnt,
+  put-number-below t,
+  put-number.Post,
+) (put-number-at t) put-number.Post
+put-number-cast-put-byte t c = search needs
+
+put-number-add-put-byte : (t : ℕ) → put-number-lts.Need-add-put-byte (
+  put-byte-reads.Asked,
+  put-byte-reads.Learnt,
+  put-number-below t,
+  put-number.Post,
+) (put-number-at t) put-number.Post
+put-number-add-put-byte t c = search needs
+
+put-number-put-byte-requires : (t : ℕ) → put-number-lts.Need-put-byte-requires (
+  put-byte-reads.Asked,
+  put-byte-reads.Learnt,
+  put-number-below t,
+  put-number.Post,
+) (put-number-at t) put-number.Post
+put-number-put-byte-requires t c κs =
+    let n = c .before .before .before .args .n in
+    omega (arith, ap length (decimal-small n (c .before .if1 .taken)))
+
+put-number-put-number-requires : (t : ℕ) → put-number-lts.Need-put-number-requires (
+  put-byte-reads.Asked,
+  put-byte-reads.Learnt,
+  put-number-below t,
+  put-number.Post,
+) (put-number-at t) put-number.Post
+put-number-put-number-requires t c κs =
+    let n = c .before .before .before .args .n in
+    omega (arith, ap length (decimal-step n (c .before .if1 .left) (omega arith)), length-append (decimal (n / 10)) ((48 + n % 10) ∷ []))
+
+put-number-cast-put-byte-2 : (t : ℕ) → put-number-lts.Need-cast-put-byte-2 (
+  put-byte-reads.Asked,
+  put-byte-reads.Learnt,
+  put-number-below t,
+  put-number.Post,
+) (put-number-at t) put-number.Post
+put-number-cast-put-byte-2 t c = search needs
+
+put-number-add-put-byte-2 : (t : ℕ) → put-number-lts.Need-add-put-byte-2 (
+  put-byte-reads.Asked,
+  put-byte-reads.Learnt,
+  put-number-below t,
+  put-number.Post,
+) (put-number-at t) put-number.Post
+put-number-add-put-byte-2 t c = search needs
+
+put-number-put-byte-requires-2 : (t : ℕ) → put-number-lts.Need-put-byte-requires-2 (
+  put-byte-reads.Asked,
+  put-byte-reads.Learnt,
+  put-number-below t,
+  put-number.Post,
+) (put-number-at t) put-number.Post
+put-number-put-byte-requires-2 t c κs =
+    let n = c .before .before .before .before .before .before .before .args .n in
+    omega (arith, ap length (decimal-step n (c .before .before .before .before .before .if1 .left) (omega arith)), length-append (decimal (n / 10)) ((48 + n % 10) ∷ []))
+
+put-number-same-length : (t : ℕ) → put-number-lts.Need-same-length (
+  put-byte-reads.Asked,
+  put-byte-reads.Learnt,
+  put-number-below t,
+  put-number.Post,
+) (put-number-at t) put-number.Post
+put-number-same-length t c = search needs
+
+put-number-returns : (t : ℕ) → put-number-lts.Need-returns (
+  put-byte-reads.Asked,
+  put-byte-reads.Learnt,
+  put-number-below t,
+  put-number.Post,
+) (put-number-at t) put-number.Post
+put-number-returns t c = rw (decimal-small _ (c .before .before .before .before .if1 .taken)) (c .before .before .put-byte .ensures)
+
+put-number-same-length-2 : (t : ℕ) → put-number-lts.Need-same-length-2 (
+  put-byte-reads.Asked,
+  put-byte-reads.Learnt,
+  put-number-below t,
+  put-number.Post,
+) (put-number-at t) put-number.Post
+put-number-same-length-2 t c = search needs
+
+put-number-returns-2 : (t : ℕ) → put-number-lts.Need-returns-2 (
+  put-byte-reads.Asked,
+  put-byte-reads.Learnt,
+  put-number-below t,
+  put-number.Post,
+) (put-number-at t) put-number.Post
+put-number-returns-2 t c =
+    let s = c .before .before .before .before .before .before .before .before .before .before in
+    let n = s .args .n in
+    rw (decimal-step n (c .before .before .before .before .before .before .before .before .if1 .left) (omega (arith, s .fits .n)))
+    (wrote-then (decimal (n / 10)) ((48 + n % 10) ∷ []) (c .before .before .before .before .before .before .put-number .ensures) (c .before .before .put-byte2 .ensures))
+
+pub +put-number-spec : {M : Type 1} → statement M
++put-number-spec = close μ-put-number λ t. put-number-lts.spec (
+  put-byte-reads.Asked,
+  put-byte-reads.Learnt,
+  put-number-below t,
+  put-number.Post,
+)
+    (put-number-at t)
+    put-number.Post
+    (put-number-cast-put-byte t)
+    (put-number-add-put-byte t)
+    (put-number-put-byte-requires t)
+    (put-number-put-number-requires t)
+    (put-number-cast-put-byte-2 t)
+    (put-number-add-put-byte-2 t)
+    (put-number-put-byte-requires-2 t)
+    (put-number-same-length t)
+    (put-number-returns t)
+    (put-number-same-length-2 t)
+    (put-number-returns-2 t)

@@ -1,0 +1,193 @@
+-- Laws of what is written: stores one after the other, what is left to be stored, the digits of a number, an entry.
+-- Assumes nothing.
+use Prim.Native.Nat.{ℕ, zero, suc, _+_, _*_, _/_, _%_, _<_, _≤_}
+use native.Mathlib.Nat.{add-zero, zero-add, add-suc, suc-add}
+use native.Mathlib.Numerals.{add-one}
+use native.Mathlib.Omega.{arith}
+use mathlib.Core.Path.{_≡_, refl, sym, ap, _∙_}
+use mathlib.Core.Bool.{Bool, true, false}
+use mathlib.Core.List.{List, [], _∷_, _++_}
+use lib.Dec.{ltb}
+use lib.ListN.{length, getD, take, drop, set, length-append, length-set}
+use lib.Seq.{sets, sets-eq, take-at, length-sets, drop-cons}
+use borrow.Author.Tests.{lt-ltb, le-ltb}
+use Rattle.lists.specs.Lists.{join}
+use Rattle.text.specs.Text.{digits, decimal, entry}
+use Rattle.text.specs.Inner.{Wrote}
+
+pub sets-append : (x y l : List ℕ) (i : ℕ) → sets l i (x ++ y) ≡ sets (sets l i x) (i + length x) y
+sets-append [] y l i = ap (λ (k : ℕ). sets l k y) (sym (add-zero i))
+sets-append (a ∷ x) y l i = sets-append x y (set l i a) (suc i) ∙ ap (λ (k : ℕ). sets (sets (set l i a) (suc i) x) k y) (suc-add i (length x) ∙ sym (add-suc i (length x)))
+
+-- `all` is to be stored from at₀ on in l₀; the list is l by now, and `rest` is left, from `at` on
+pub record Left (l₀ : List ℕ) (at₀ : ℕ) (all : List ℕ) (l : List ℕ) (at : ℕ) (rest : List ℕ) : Type 0 where
+  pub whole : sets l at rest ≡ sets l₀ at₀ all
+  pub end : at + length rest ≡ at₀ + length all
+  pub same : length l ≡ length l₀
+
+pub left-start : {l : List ℕ} {at : ℕ} {all : List ℕ} → Left l at all l at all
+left-start = record { whole = refl; end = refl; same = refl }
+
+-- a write of what stands first among what is left
+pub left-step : {l₀ all l l′ rest : List ℕ} {at₀ at at′ : ℕ} (x : List ℕ) → Left l₀ at₀ all l at (x ++ rest) → Wrote l at x l′ at′ → Left l₀ at₀ all l′ at′ rest
+left-step {l₀} {all} {l} {l′} {rest} {at₀} {at} {at′} x h w = record {
+  whole = ap (λ (k : List ℕ). sets k at′ rest) (w .buffer) ∙ ap (λ (k : ℕ). sets (sets l at x) k rest) (w .place) ∙ sym (sets-append x rest l at) ∙ h .whole;
+  end = omega (arith, w .place, h .end, length-append x rest);
+  same = ap length (w .buffer) ∙ length-sets l at x ∙ h .same;
+}
+
+-- the last write
+pub left-last : {l₀ all l l′ : List ℕ} {at₀ at at′ : ℕ} (x : List ℕ) → Left l₀ at₀ all l at x → Wrote l at x l′ at′ → Wrote l₀ at₀ all l′ at′
+left-last x h w = record { buffer = w .buffer ∙ h .whole; place = w .place ∙ h .end }
+
+-- nothing is left
+pub left-none : {l₀ all l : List ℕ} {at₀ at : ℕ} → Left l₀ at₀ all l at [] → Wrote l₀ at₀ all l at
+left-none {at = at} h = record { buffer = h .whole; place = sym (add-zero at) ∙ h .end }
+
+pub left-end : {l₀ all l rest : List ℕ} {at₀ at : ℕ} → Left l₀ at₀ all l at rest → rest ≡ [] → Wrote l₀ at₀ all l at
+left-end h e = left-none (rw e at h)
+
+-- there is room for what stands first
+pub left-room : {l₀ all l : List ℕ} {at₀ at : ℕ} (x rest : List ℕ) → Left l₀ at₀ all l at (x ++ rest) → at₀ + length all ≤ length l₀ → at + length x ≤ length l
+left-room x rest h room = omega (arith, h .end, h .same, length-append x rest)
+
+pub left-room-last : {l₀ all l : List ℕ} {at₀ at : ℕ} (x : List ℕ) → Left l₀ at₀ all l at x → at₀ + length all ≤ length l₀ → at + length x ≤ length l
+left-room-last x h room = omega (arith, h .end, h .same)
+
+-- a turn of the loop that copies
+pub left-turn : {l₀ l : List ℕ} {at₀ at i : ℕ} (s : List ℕ) → i < length s → Left l₀ at₀ s l at (drop i s)
+    → Left l₀ at₀ s (set l at (getD s i 0)) (at + 1) (drop (i + 1) s)
+left-turn {l₀} {l} {at₀} {at} {i} s more h = rw (add-one at, add-one i) (record {
+  whole = ap (λ (r : List ℕ). sets l at r) (sym (drop-cons s i 0 more)) ∙ h .whole;
+  end = omega (arith, h .end, ap length (drop-cons s i 0 more));
+  same = length-set l at (getD s i 0) ∙ h .same;
+})
+
+-- the same by pieces: ps are the pieces that are left. A piece stands under a constructor, so antt finds it by itself
+pub record Parts (l₀ : List ℕ) (at₀ : ℕ) (all : List ℕ) (l : List ℕ) (at : ℕ) (ps : List (List ℕ)) : Type 0 where
+  pub left : Left l₀ at₀ all l at (join ps)
+
+pub parts-start : {l : List ℕ} {at : ℕ} (ps : List (List ℕ)) → Parts l at (join ps) l at ps
+parts-start ps = record { left = left-start }
+
+pub parts-step : {l₀ all l l′ : List ℕ} {at₀ at at′ : ℕ} {x : List ℕ} {ps : List (List ℕ)} → Parts l₀ at₀ all l at (x ∷ ps) → Wrote l at x l′ at′
+    → Parts l₀ at₀ all l′ at′ ps
+parts-step {x = x} h w = record { left = left-step x (h .left) w }
+
+pub parts-room : {l₀ all l : List ℕ} {at₀ at : ℕ} {x : List ℕ} {ps : List (List ℕ)} → Parts l₀ at₀ all l at (x ∷ ps) → at₀ + length all ≤ length l₀
+    → at + length x ≤ length l
+parts-room {x = x} {ps = ps} h room = left-room x (join ps) (h .left) room
+
+pub parts-end : {l₀ all l : List ℕ} {at₀ at : ℕ} → Parts l₀ at₀ all l at [] → Wrote l₀ at₀ all l at
+parts-end h = left-none (h .left)
+
+-- whole writes: none, two one after the other, one at the front
+pub wrote-none : {l : List ℕ} {at : ℕ} → Wrote l at [] l at
+wrote-none {at = at} = record { buffer = refl; place = sym (add-zero at) }
+
+pub wrote-then : {l₀ l₁ l₂ : List ℕ} {at₀ at₁ at₂ : ℕ} (x y : List ℕ) → Wrote l₀ at₀ x l₁ at₁ → Wrote l₁ at₁ y l₂ at₂ → Wrote l₀ at₀ (x ++ y) l₂ at₂
+wrote-then x y v w = left-last y (left-step x left-start v) w
+
+pub wrote-length : {l x l′ : List ℕ} {at n : ℕ} → Wrote l at x l′ n → length l′ ≡ length l
+wrote-length {l} {x} {at = at} w = ap length (w .buffer) ∙ length-sets l at x
+
+pub wrote-front : {l x l′ : List ℕ} {n : ℕ} → Wrote l 0 x l′ n → length x ≤ length l → l′ ≡ x ++ drop (length x) l
+wrote-front {l} {x} w room = w .buffer ∙ sets-eq x l 0 (omega arith) ∙ ap (λ (k : ℕ). x ++ drop k l) (zero-add (length x))
+
+pub wrote-front-take : {l x l′ : List ℕ} {n : ℕ} → Wrote l 0 x l′ n → length x ≤ length l → take (length x) l′ ≡ x
+wrote-front-take {l} {x} w room = ap (take (length x)) (wrote-front w room) ∙ take-at x (drop (length x) l) (length x) refl
+
+pub wrote-take : {l x l′ : List ℕ} {n : ℕ} → Wrote l 0 x l′ n → length x ≤ length l → take n l′ ≡ x
+wrote-take {l} {x} {l′} {n} w room = ap (λ (k : ℕ). take k l′) (w .place ∙ zero-add (length x)) ∙ wrote-front-take w room
+
+-- 10 ^ f, by steps that `omega` reads
+abbrev pub ten : ℕ → ℕ
+ten zero = 1
+ten (suc f) = 10 * ten f
+
+pub ten-mono : (i j : ℕ) → i ≤ j → ten i ≤ ten j
+ten-mono zero zero h = omega arith
+ten-mono zero (suc j) h = omega (arith, ten-mono zero j (omega arith))
+ten-mono (suc i) zero h = omega arith
+ten-mono (suc i) (suc j) h = omega (arith, ten-mono i j (omega arith))
+
+-- n's digits, by those of n / 10
+abbrev last : Bool → ℕ → List ℕ → List ℕ
+last b n more = elim b [ true ↦ (48 + n) ∷ [] | false ↦ more ++ ((48 + n % 10) ∷ []) ]
+
+pub digits-small : (f n : ℕ) → n < 10 → digits (suc f) n ≡ (48 + n) ∷ []
+unfolding digits
+digits-small f n h = ap (λ (b : Bool). last b n (digits f (n / 10))) (lt-ltb n 10 h)
+
+pub digits-step : (f n : ℕ) → 10 ≤ n → digits (suc f) n ≡ digits f (n / 10) ++ ((48 + n % 10) ∷ [])
+unfolding digits
+digits-step f n h = ap (λ (b : Bool). last b n (digits f (n / 10))) (le-ltb n 10 h)
+
+-- more fuel changes nothing
+pub digits-more : (f n : ℕ) → n < ten (suc f) → digits (suc f) n ≡ digits (suc (suc f)) n
+unfolding digits
+digits-more zero n h = digits-small zero n h ∙ sym (digits-small 1 n h)
+digits-more (suc f) n h = ap (last (ltb n 10) n) (digits-more f (n / 10) (omega arith))
+
+pub decimal-small : (n : ℕ) → n < 10 → decimal n ≡ (48 + n) ∷ []
+unfolding decimal
+decimal-small n h = digits-small 19 n h
+
+pub decimal-step : (n : ℕ) → 10 ≤ n → n < ten 20 → decimal n ≡ decimal (n / 10) ++ ((48 + n % 10) ∷ [])
+unfolding decimal
+decimal-step n h b = digits-step 19 n h ∙ ap (λ (r : List ℕ). r ++ ((48 + n % 10) ∷ [])) (digits-more 18 (n / 10) (omega arith))
+
+-- a number below 10 ^ (f + 1) has at most f + 1 digits, whatever the fuel
+pub digits-length : (f g n : ℕ) → n < ten (suc f) → length (digits g n) ≤ suc f
+unfolding digits
+digits-length f zero n h = omega arith
+digits-length zero (suc g) n h = rw (digits-small g n h) (omega arith)
+digits-length (suc f) (suc g) n h = go (digits-length f g (n / 10) (omega arith)) (ltb n 10)
+  where
+    go : length (digits g (n / 10)) ≤ suc f → (t : Bool) → length (last t n (digits g (n / 10))) ≤ suc (suc f)
+    go ih true = omega arith
+    go ih false = omega (arith, length-append (digits g (n / 10)) ((48 + n % 10) ∷ []))
+
+pub decimal-length : (f n : ℕ) → n < ten (suc f) → length (decimal n) ≤ suc f
+unfolding decimal
+decimal-length f n h = digits-length f 20 n h
+
+-- and whatever the number, at most as many as the fuel
+digits-most : (g n : ℕ) → length (digits g n) ≤ g
+unfolding digits
+digits-most zero n = omega arith
+digits-most (suc g) n = go (digits-most g (n / 10)) (ltb n 10)
+  where
+    go : length (digits g (n / 10)) ≤ g → (t : Bool) → length (last t n (digits g (n / 10))) ≤ suc g
+    go ih true = omega arith
+    go ih false = omega (arith, length-append (digits g (n / 10)) ((48 + n % 10) ∷ []))
+
+pub decimal-most : (n : ℕ) → length (decimal n) ≤ 20
+unfolding decimal
+decimal-most n = digits-most 20 n
+
+-- there is a first digit
+pub digits-pos : (f n : ℕ) → 0 < length (digits (suc f) n)
+unfolding digits
+digits-pos f n = go (ltb n 10)
+  where
+    go : (t : Bool) → 0 < length (last t n (digits f (n / 10)))
+    go true = omega arith
+    go false = omega (arith, length-append (digits f (n / 10)) ((48 + n % 10) ∷ []))
+
+pub decimal-pos : (n : ℕ) → 0 < length (decimal n)
+unfolding decimal
+decimal-pos n = digits-pos 19 n
+
+-- an entry: its length, and the four writes that make it
+pub entry-length : (key value : List ℕ) → length (entry key value) ≡ length key + length value + 2
+unfolding entry
+entry-length key value = omega (arith, length-append key (61 ∷ (value ++ (10 ∷ []))), length-append value (10 ∷ []))
+
+pub entry-most : (key : List ℕ) (n : ℕ) → length (entry key (decimal n)) ≤ length key + 22
+entry-most key n = omega (arith, entry-length key (decimal n), decimal-most n)
+
+pub entry-wrote : {l₀ l₁ l₂ l₃ l₄ key value : List ℕ} {at₀ at₁ at₂ at₃ at₄ : ℕ} → Wrote l₀ at₀ key l₁ at₁ → Wrote l₁ at₁ (61 ∷ []) l₂ at₂ → Wrote l₂ at₂ value l₃ at₃
+    → Wrote l₃ at₃ (10 ∷ []) l₄ at₄ → Wrote l₀ at₀ (entry key value) l₄ at₄
+unfolding entry
+entry-wrote {key = key} {value = value} a b c d = wrote-then key (61 ∷ (value ++ (10 ∷ []))) a (wrote-then (61 ∷ []) (value ++ (10 ∷ [])) b (wrote-then value (10 ∷ []) c d))

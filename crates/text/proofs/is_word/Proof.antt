@@ -1,0 +1,78 @@
+-- `text::is_word` meets its contract. The invariant: the two are alike where they are from o and from i on. Assumes nothing.
+use mathlib.Core.Path.{_≡_, refl, sym, ap, ap₂, _∙_}
+use Prim.Native.Nat.{_+_, _-_, _≤_}
+use native.Mathlib.Omega.{arith}
+use lib.ListN.{length, drop, drop-of-length-le}
+use lib.Seq.{slice, length-slice}
+use Rattle.lists.specs.Lists.{alike}
+use Rattle.text.proofs.Fields.{slice-none, alike-on, alike-differ, alike-not}
+use Rattle.text.proofs.is_word.Statement.{statement}
+use Rattle.text.proofs.is_word.Tie as tie
+
+abbrev Inv-loop : tie.InvT-loop
+Inv-loop s from to w o₀ i₀ o i = (i ≤ length w) × (o + length w ≡ to + i) × (alike (slice from to s) w ≡ alike (slice o to s) (drop i w))
+
+abbrev μ-loop : tie.MeasureT-loop
+μ-loop s from to w o₀ i₀ o i = length w - i
+
+sub-if1 : tie.Need-sub-if1 Inv-loop μ-loop
+sub-if1 c = omega arith
+
+returns : tie.Need-returns Inv-loop μ-loop
+returns c =
+    let a = c .before .args in
+    sym (alike-not (slice (a .from) (a .to) (a .s .now)) (a .w .now) (λ e. c .if1 .taken (sym (length-slice (a .from) (a .to) (a .s .now) (omega arith)) ∙ ap length e)))
+
+loop-holds : tie.Need-loop-holds Inv-loop μ-loop
+loop-holds c = (omega arith, omega arith, refl)
+
+shared-slice-read-if2 : tie.Need-shared-slice-read-if2 Inv-loop μ-loop
+shared-slice-read-if2 c = omega arith
+
+shared-slice-read-if2-2 : tie.Need-shared-slice-read-if2-2 Inv-loop μ-loop
+shared-slice-read-if2-2 c = omega arith
+
+returns-2 : tie.Need-returns-2 Inv-loop μ-loop
+returns-2 c =
+    let b = c .before .before .before .before in
+    let a = b .before .before .args in
+    sym (b .loop .inv .2 ∙ alike-differ (a .s .now) (a .w .now) (b .loop .o) (b .loop .i) (a .to) (omega arith) (omega arith) (omega arith) (c .if2 .taken))
+
+add-o : tie.Need-add-o Inv-loop μ-loop
+add-o c = omega arith
+
+add-i : tie.Need-add-i Inv-loop μ-loop
+add-i c = omega arith
+
+loop-less : tie.Need-loop-less Inv-loop μ-loop
+loop-less c = omega arith
+
+loop-again : tie.Need-loop-again Inv-loop μ-loop
+loop-again c =
+    let b = c .before .before .before .before in
+    let a = b .before .before .args in
+    (omega arith, omega arith, b .loop .inv .2 ∙ alike-on (a .s .now) (a .w .now) (b .loop .o) (b .loop .i) (a .to) (omega arith) (omega arith) (omega arith) (c .if2 .left))
+
+returns-3 : tie.Need-returns-3 Inv-loop μ-loop
+returns-3 c =
+    let b = c .before in
+    let a = b .before .before .args in
+    sym (b .loop .inv .2 ∙ ap₂ alike (slice-none (a .s .now) (b .loop .o) (a .to) (omega arith)) (drop-of-length-le (a .w .now) (c .loop-test .left)))
+
+pub is-word-spec : {M : Type 1} → statement M
+is-word-spec =
+    tie.close
+    (tie.spec
+    Inv-loop
+    μ-loop
+    sub-if1
+    returns
+    loop-holds
+    shared-slice-read-if2
+    shared-slice-read-if2-2
+    returns-2
+    add-o
+    add-i
+    loop-less
+    loop-again
+    returns-3)

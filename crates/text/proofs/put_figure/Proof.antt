@@ -1,0 +1,49 @@
+-- `text::put_figure` meets its contract. Its four writes are the entry (`entry-wrote`), and the room is the entry's length. Assumes nothing.
+use native.Mathlib.Omega.{arith}
+use borrow.Author.Needs.{needs}
+use Rattle.text.specs.Text.{decimal}
+use Rattle.text.proofs.Laws.{entry-length, entry-wrote}
+use Rattle.text.proofs.put_figure.Statement.{statement}
+use Rattle.text.proofs.put_figure.Tie as tie
+
+put-bytes-requires : tie.Need-put-bytes-requires
+put-bytes-requires c κs =
+    let s = c .before .before .before .args in
+    omega (arith, entry-length (s .key .now) (decimal (s .n)))
+
+put-byte-requires : tie.Need-put-byte-requires
+put-byte-requires c κs =
+    let s = c .before .before .before .before .before .before .before .args in
+    omega (arith, entry-length (s .key .now) (decimal (s .n)))
+
+put-number-requires : tie.Need-put-number-requires
+put-number-requires c κs =
+    let s = c .before .before .before .before .before .before .before .before .before .before .before .args in
+    omega (arith, entry-length (s .key .now) (decimal (s .n)))
+
+put-byte-requires-2 : tie.Need-put-byte-requires-2
+put-byte-requires-2 c κs =
+    let s = c .before .before .before .before .before .before .before .before .before .before .before .before .before .before .before .args in
+    omega (arith, entry-length (s .key .now) (decimal (s .n)))
+
+same-length : tie.Need-same-length
+same-length c = search needs
+
+returns : tie.Need-returns
+returns c =
+    let d = c .before .before in
+    let v = d .before .before .before .before in
+    let e = v .before .before .before .before in
+    let k = e .before .before .before .before in
+    entry-wrote (k .put-bytes .ensures) (e .put-byte .ensures) (v .put-number .ensures) (d .put-byte2 .ensures)
+
+pub put-figure-spec : {M : Type 1} → statement M
+put-figure-spec =
+    tie.close
+    (tie.spec
+    put-bytes-requires
+    put-byte-requires
+    put-number-requires
+    put-byte-requires-2
+    same-length
+    returns)

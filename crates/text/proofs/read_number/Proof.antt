@@ -1,0 +1,68 @@
+-- `text::read_number` meets its contract. Each answer is a case of `numberOf`. Assumes nothing.
+use mathlib.Core.Path.{_≡_, sym, _∙_}
+use mathlib.Core.List.{List}
+use Prim.Native.Nat.{ℕ, _-_}
+use native.Mathlib.Omega.{arith}
+use borrow.Author.Needs.{needs}
+use lib.ListN.{length}
+use lib.Seq.{slice, length-slice}
+use Rattle.text.proofs.Fields.{slice-head}
+use Rattle.text.proofs.Read.{numberOf-none, numberOf-long, numberOf-zero, numberOf-plain}
+use Rattle.text.proofs.read_number.Statement.{statement}
+use Rattle.text.proofs.read_number.Tie as tie
+
+abbrev Part : tie.Start → List ℕ
+Part s = slice (s .args .from) (s .args .to) (s .args .s .now)
+
+long : (s : tie.Start) → length (Part s) ≡ s .args .to - s .args .from
+long s = length-slice (s .args .from) (s .args .to) (s .args .s .now) (omega arith)
+
+sub-n : tie.Need-sub-n
+sub-n c = search needs
+
+returns : tie.Need-returns
+returns c = let s = c .before .before in sym (numberOf-none 10 (Part s) (omega (arith, long s)))
+
+returns-2 : tie.Need-returns-2
+returns-2 c = let s = c .before .before .before in sym (numberOf-long 10 (Part s) (omega (arith, long s)))
+
+read-digits-requires : tie.Need-read-digits-requires
+read-digits-requires c κs = search needs
+
+returns-3 : tie.Need-returns-3
+returns-3 c =
+    let s = c .before .before .before .before .before in
+    c .read-digits .ensures ∙ sym (numberOf-plain 10 (Part s) (omega (arith, long s)) (omega (arith, long s)) (λ l q. omega (arith, long s)))
+
+shared-slice-read-if4 : tie.Need-shared-slice-read-if4
+shared-slice-read-if4 c = search needs
+
+returns-4 : tie.Need-returns-4
+returns-4 c =
+    let s = c .before .before .before .before .before .before in
+    let a = s .args in
+    sym (numberOf-zero 10 (Part s) (omega (arith, long s)) (slice-head (a .s .now) (a .from) (a .to) (omega arith) (omega arith) ∙ c .if4 .taken))
+
+read-digits-requires-2 : tie.Need-read-digits-requires-2
+read-digits-requires-2 c κs = search needs
+
+returns-5 : tie.Need-returns-5
+returns-5 c =
+    let s = c .before .before .before .before .before .before .before in
+    let a = s .args in
+    let e = slice-head (a .s .now) (a .from) (a .to) (omega arith) (omega arith) in
+    c .read-digits2 .ensures ∙ sym (numberOf-plain 10 (Part s) (omega (arith, long s)) (omega (arith, long s)) (λ l q. c .before .if4 .left (sym e ∙ q)))
+
+pub read-number-spec : {M : Type 1} → statement M
+read-number-spec =
+    tie.close
+    (tie.spec
+    sub-n
+    returns
+    returns-2
+    read-digits-requires
+    returns-3
+    shared-slice-read-if4
+    returns-4
+    read-digits-requires-2
+    returns-5)
