@@ -25,6 +25,7 @@ use Rattle.rules.proofs.Alike.{Alike, fresh-alike, order-alike, asks-alike, aft
 use Rattle.rules.proofs.Notes.{accounts-alike, alike-accounts}
 use Rattle.rules.proofs.Notes as accounts
 use Rattle.rules.proofs.Demand.{demand, accounted}
+use Rattle.rules.proofs.Refusals.{answered}
 use Rattle.rules.proofs.SoundFresh.{sound-fresh}
 use Rattle.rules.proofs.SoundRuns.{sound-after}
 use Rattle.tables.specs.declared.Tables.{Tables}
@@ -44,7 +45,6 @@ use Rattle.console.specs.Console.{obeyed}
 use Rattle.history.specs.Runs.{Made, step, run, outcomes}
 use Rattle.history.specs.Runs as calls
 use Rattle.history.specs.Demand.{Told, toldOf, sortedOut, tellsRequest, tellsPage, tellsLine, tells, notesLine, notes, replay, replayed, ActsFor, for-none, for-first, Agrees, Demanded}
-use Rattle.history.proofs.LowNumbers.{low-plan}
 use Rattle.history.proofs.Steps.{asked-planned, paged-sound, keyed-sound}
 use Rattle.history.proofs.Begins.{requested-asked}
 
@@ -104,7 +104,7 @@ module _ (t : Tables) (n : State entries) (K : Kept t n) where
       rw e
       (record {
         told = ap (λ (x : Plan). record { number = numberOf x; values = valuesOf x; buffer = buf }) (asks-alike (plain t) n (K .alike) q);
-        answers = not-14 (numberOf (asks lists (plain t) q)) (λ i. omega (arith, low-plan (view lists (plain t)) (scheduled lists (plain t)) q .most));
+        answers = not-14 (numberOf (asks lists (plain t) q)) (λ i. omega (arith, answered lists (plain t) q .highest));
         kept = kept-lay (after lists (plain t) q) (sound-after (plain t) (K .plainly) q) (after entries n q) (after-alike (plain t) n (K .alike) q);
       })
 

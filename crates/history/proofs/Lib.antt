@@ -1,4 +1,3 @@
-pub mod LowNumbers
 pub mod Steps
 pub mod Frames
 pub mod Begins

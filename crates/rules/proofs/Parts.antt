@@ -34,7 +34,7 @@ Upon P F (renewed T S R ∷ es) = F × Upon P F es
 
 -- a refusal's number is one of 2 to 14
 abbrev pub Listed : Plan → Type 0
-Listed (refused a v) = upTo 2 14 a ≡ true
+Listed (refused a v) = upTo 2 11 a ≡ true
 Listed (done vs es) = Unit {0}
 Listed (waiting s es) = Unit {0}
 
@@ -109,12 +109,12 @@ module _ (P : ℕ → Deed → Type 0) (F : Type 0) where
   of-waiting : (s : ℕ) (es : List Event) → Upon P F es → Of P F (waiting s es)
   of-waiting s es u = record { events = u; number = tt }
 
-  of-test : (b : Bool) (a n : ℕ) (x : Plan) → upTo 2 14 a ≡ true → (b ≡ true → Of P F x) → Of P F (need b a n x)
+  of-test : (b : Bool) (a n : ℕ) (x : Plan) → upTo 2 11 a ≡ true → (b ≡ true → Of P F x) → Of P F (need b a n x)
   unfolding need
   of-test true a n x l u = u refl
   of-test false a n x l u = record { events = tt; number = l }
 
-  of-need : (b : Bool) (a n : ℕ) (x : Plan) → upTo 2 14 a ≡ true → Of P F x → Of P F (need b a n x)
+  of-need : (b : Bool) (a n : ℕ) (x : Plan) → upTo 2 11 a ≡ true → Of P F x → Of P F (need b a n x)
   of-need b a n x l u = of-test b a n x l (λ e. u)
 
   of-either : (b : Bool) (x y : Plan) → Of P F x → Of P F y → Of P F (either b x y)

@@ -23,8 +23,8 @@ plan-listed v c q =
       woken = λ x h. tt;
     }) .number
 
-listed-highest : (x : Plan) → Listed x → numberOf x ≤ 14
-listed-highest (refused a v) h = upTo-true 2 14 a h .1
+listed-highest : (x : Plan) → Listed x → numberOf x ≤ 11
+listed-highest (refused a v) h = upTo-true 2 11 a h .1
 listed-highest (done vs es) h = omega arith
 listed-highest (waiting s es) h = omega arith
 
@@ -38,7 +38,7 @@ answered K t q =
     let listed : Listed (asks K t q) = plan-listed (view K t) (scheduled K t) q in
     record {
       highest = listed-highest (asks K t q) listed;
-      lowest = λ a v e. upTo-true 2 14 a (subst Listed e listed) .0;
+      lowest = λ a v e. upTo-true 2 11 a (subst Listed e listed) .0;
       nothing = refusal-nothing (asks K t q);
       stays = λ h. ap (λ (es : List _). play K es t) (refusal-nothing (asks K t q) h);
     }

@@ -9,7 +9,7 @@ use Rattle.rules.specs.Keeper.{Keeper, State, asks, after}
 
 -- what is said of the answer to a request
 pub record Answered (K : Keeper) (t : State K) (q : Request) : Type 0 where
-  pub highest : numberOf (asks K t q) ≤ 14
+  pub highest : numberOf (asks K t q) ≤ 11  -- 12, 13 and 14 are of the buffer, the line and the tables
   pub lowest : (a v : ℕ) → asks K t q ≡ refused a v → 2 ≤ a
   pub nothing : 2 ≤ numberOf (asks K t q) → eventsOf (asks K t q) ≡ []
   pub stays : 2 ≤ numberOf (asks K t q) → after K t q ≡ t
