@@ -16,7 +16,7 @@ use Rattle.tables.specs.Sound.{sound}
 use Rattle.tables.specs.Calls.{served, asked, made}
 use Rattle.page.specs.Page.{usedOnes, heading, recorded, chained, heldLine, numberLine, page}
 use Rattle.page.specs.Paging.{written, paged}
-use Rattle.console.specs.Line.{execs, numbers, forms, lineOf}
+use Rattle.console.specs.Line.{execsOn, execs, allocs, numbers, others, forms, lineOf}
 use Rattle.console.specs.Console.{keyed}
 use Rattle.console.specs.Sheet.{answerLine, linesOf, printed, sheet}
 use Rattle.history.specs.Runs as history
@@ -25,5 +25,5 @@ use Rattle.bench.specs.Cases.{bench}
 
 pub computed : toldAnew bench ≡ bench
 unfolding
-    same digits decimal numberOf parts entry timeOf nameOf all find lowestUnused need either found named inside waits woken frees clears ends order dueAt takes gives allocated call asCaller plan act step testNames testZeros testChains testWhys testSystem testUsers testUnlocked testLimits testDues walk read testLinks linksOf testBlank sound served asked made usedOnes heading recorded chained heldLine numberLine page written paged execs numbers forms lineOf keyed answerLine linesOf printed sheet history.step tell tellAll printAll toldAnew bench
+    same digits decimal numberOf parts entry timeOf nameOf all find lowestUnused need either found named inside waits woken frees clears ends order dueAt takes gives allocated call asCaller plan act step testNames testZeros testChains testWhys testSystem testUsers testUnlocked testLimits testDues walk read testLinks linksOf testBlank sound served asked made usedOnes heading recorded chained heldLine numberLine page written paged execsOn execs allocs numbers others forms lineOf keyed answerLine linesOf printed sheet history.step tell tellAll printAll toldAnew bench
 computed = refl

@@ -4,18 +4,21 @@ use Prim.Native.Nat.{ℕ}
 use mathlib.Core.Bool.{Bool, true, false, cond, _&&_}
 use mathlib.Core.List.{List, [], _∷_, _++_, map}
 use lib.ListN.{length, take, replicate}
-use lib.Dec.{eqb}
+use lib.Dec.{leb, eqb}
 use Rattle.text.specs.Text.{text, decimal, between, parts}
 use Rattle.tables.specs.declared.Tables.{Tables}
 use Rattle.tables.specs.Tables.{plain, smallest}
 use Rattle.page.specs.Page.{page}
-use Rattle.page.specs.Paging.{Written}
+use Rattle.page.specs.Paging.{Written, front}
 use Rattle.console.specs.Line.{Line, bad, PAGE, asks, lineOf}
 use Rattle.console.specs.Console.{keyed}
 
 -- the buffer that `sheet` lends: no page is longer
+abbrev pub room : ℕ
+room = 8192
+
 abbrev pub lent : List ℕ
-lent = replicate 8192 0
+lent = replicate room 0
 
 -- `answer=a,value=v`, the parts of a time joined by dots
 unfoldable pub answerLine : Written → List ℕ
@@ -26,6 +29,21 @@ abbrev pub shown : Line → Tables → Written → List ℕ
 shown bad t r = answerLine r
 shown PAGE t r = cond (eqb (r .number) 0) (page (plain t)) (answerLine r)
 shown (asks q) t r = answerLine r
+
+-- what a line prints, at the front of a lent buffer, and the tables after it; where fewer than 8,192 bytes are lent nothing is done
+pub record Shown : Type 0 where
+  pub length : ℕ
+  pub tables : Tables
+  pub buffer : List ℕ
+
+unfoldable pub lineShown : Tables → List ℕ → List ℕ → Shown
+lineShown t l out =
+    let r : Written = keyed t l lent in
+    let bytes : List ℕ = shown (lineOf l) t r in
+    elim (leb room (length out)) [
+      | true ↦ record { length = length bytes; tables = r .tables; buffer = front bytes out }
+      | false ↦ record { length = 0; tables = t; buffer = out }
+    ]
 
 -- the lines of a text: a last one without byte 10 counts
 abbrev pub dropEmpty : List (List ℕ) → List (List ℕ)

@@ -1,0 +1,9 @@
+pub mod AnswerLaws
+pub mod LongLines
+pub mod Copying
+pub mod FieldLaws
+pub mod NameBytes
+pub mod Words
+pub mod KeyLaws
+pub mod OneLine
+pub mod LineOutcome

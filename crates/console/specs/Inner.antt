@@ -1,0 +1,130 @@
+-- What inner functions ask and promise; nothing here need be believed for the calls.
+-- Assumes nothing.
+use Prim.Native.Nat.{ℕ, _≤_, _<_}
+use mathlib.Core.Path.{_≡_}
+use mathlib.Core.Bool.{Bool, true, false, cond}
+use mathlib.Core.List.{List, [], _∷_, _++_, map}
+use lib.ListN.{length, drop, take}
+use lib.Seq.{slice}
+use lib.Dec.{leb}
+use Rattle.text.specs.Text.{text, decimal, between, parts}
+use Rattle.text.specs.Inner.{PartEnd}
+use Rattle.rules.specs.Requests.{PR, OF, EXEC5, EXEC5ALL, EXEC12, LOAD, operator}
+use Rattle.rules.specs.declared.Answer.{Answer}
+use Rattle.rules.specs.Answers as answers
+use Rattle.tables.specs.declared.Tables.{Tables}
+use Rattle.tables.specs.Sound.{sound}
+use Rattle.tables.specs.Calls.{Result, notSound}
+use Rattle.page.specs.Paging.{Written, beside}
+use Rattle.console.specs.declared.Asked.{Asked}
+use Rattle.console.specs.Commands.{saying}
+use Rattle.console.specs.declared.fields.NumberField.{NumberField}
+use Rattle.console.specs.declared.fields.NumberField.the-variants as numberField
+use Rattle.console.specs.declared.fields.NameField.{NameField}
+use Rattle.console.specs.declared.fields.NameField.the-variants as nameField
+use Rattle.console.specs.declared.fields.One.{One}
+use Rattle.console.specs.declared.fields.One.the-variants as one
+use Rattle.console.specs.declared.fields.Two.{Two}
+use Rattle.console.specs.declared.fields.Two.the-variants as two
+use Rattle.console.specs.declared.fields.Three.{Three}
+use Rattle.console.specs.declared.fields.Three.the-variants as three
+use Rattle.console.specs.declared.fields.NameNumber.{NameNumber}
+use Rattle.console.specs.Line.{Line, bad, PAGE, asks, Form, over, number, name, word, _↝_, calls}
+use Rattle.console.specs.Console.{obeyed}
+
+-- the fields from a place on; past the end there is none
+unfoldable pub fieldsFrom : List ℕ → ℕ → List (List ℕ)
+fieldsFrom s at = cond (leb at (length s)) (parts 44 (drop at s)) []
+
+-- What reading a field comes to, whatever the form does with it: the form goes on with what was read and the fields behind it, or the line is bad.
+abbrev pub onNumber : (ℕ → Form) → List ℕ → NumberField → Line
+onNumber k s numberField.Not = bad
+onNumber k s (numberField.Is n next) = k n (fieldsFrom s next)
+
+pub record NumberRead (s : List ℕ) (at : ℕ) (r : NumberField) : Type 0 where
+  pub says : (k : ℕ → Form) → number k (fieldsFrom s at) ≡ onNumber k s r
+
+abbrev pub onName : (List ℕ → Form) → List ℕ → NameField → Line
+onName k s nameField.Not = bad
+onName k s (nameField.Is a b c d e next) = k (a ∷ b ∷ c ∷ d ∷ e ∷ []) (fieldsFrom s next)
+
+pub record NameRead (s : List ℕ) (at : ℕ) (r : NameField) : Type 0 where
+  pub says : (k : List ℕ → Form) → name k (fieldsFrom s at) ≡ onName k s r
+
+pub record OverRead (s : List ℕ) (at : ℕ) (r : Bool) : Type 0 where
+  pub says : (x : Line) → over x (fieldsFrom s at) ≡ cond r x bad
+  pub past : r ≡ true → length s < at
+  pub within : r ≡ false → at ≤ length s
+
+-- the numbers that a line ends with
+abbrev pub onOne : (ℕ → Line) → One → Line
+onOne k one.Not = bad
+onOne k (one.Is n) = k n
+
+pub record OneRead (s : List ℕ) (at : ℕ) (r : One) : Type 0 where
+  pub says : (k : ℕ → Line) → number (λ n. over (k n)) (fieldsFrom s at) ≡ onOne k r
+
+abbrev pub onTwo : (ℕ → ℕ → Line) → Two → Line
+onTwo k two.Not = bad
+onTwo k (two.Is n m) = k n m
+
+pub record TwoRead (s : List ℕ) (at : ℕ) (r : Two) : Type 0 where
+  pub says : (k : ℕ → ℕ → Line) → number (λ n. number (λ m. over (k n m))) (fieldsFrom s at) ≡ onTwo k r
+
+abbrev pub onThree : (ℕ → ℕ → ℕ → Line) → Three → Line
+onThree k three.Not = bad
+onThree k (three.Is n m l) = k n m l
+
+pub record ThreeRead (s : List ℕ) (at : ℕ) (r : Three) : Type 0 where
+  pub says : (k : ℕ → ℕ → ℕ → Line) → number (λ n. number (λ m. number (λ l. over (k n m l)))) (fieldsFrom s at) ≡ onThree k r
+
+pub record NameNumberRead (s : List ℕ) (at : ℕ) (r : NameNumber) : Type 0 where
+  pub says : (k : List ℕ → ℕ → Line) → name (λ nm. number (λ n. over (k nm n))) (fieldsFrom s at) ≡ onOne (k (r .name)) (r .number)
+
+-- lines behind their first words: EXEC 12, EXEC 5, LOAD, PR, OF
+abbrev pub timing : Form
+timing = name λ nm. number λ r. number λ m. number λ o. calls (EXEC12 nm r m o)
+
+abbrev pub giving : Form
+giving = word ("ALL" ↝ calls EXEC5ALL ∷ []) (number λ n. number λ s. calls (EXEC5 n s))
+
+abbrev pub loading : Form
+loading = name λ nm. number λ p. over (asks (LOAD nm p))
+
+abbrev pub pricing : Form
+pricing = name λ nm. number λ n. over (asks (operator (PR n) nm))
+
+abbrev pub ending : Form
+ending = name λ nm. number λ k. over (asks (operator (OF k) nm))
+
+-- what a line that says l does
+unfoldable pub obeys : Tables → List ℕ → Line → Written
+obeys t buf l = elim (sound t) [ true ↦ obeyed t buf l | false ↦ beside buf (notSound t) ]
+
+-- a line that is not understood: 13, but 14 where the tables are not sound
+abbrev pub refusing : Tables → Result
+refusing t = elim (sound t) [ true ↦ record { number = 13; values = 0 ∷ []; tables = t } | false ↦ notSound t ]
+
+abbrev pub isPage : Asked → Bool
+isPage a = elim (saying [] a) [ bad ↦ false | PAGE ↦ true | asks q ↦ false ]
+
+-- the bytes printed for an answer
+unfoldable pub valuesLine : Answer → List ℕ
+valuesLine a = between 46 (map decimal (answers.values a))
+
+unfoldable pub answerBytes : Answer → List ℕ
+unfolding valuesLine
+answerBytes a = text "answer=" ++ decimal (answers.number a) ++ text ",value=" ++ valuesLine a ++ (10 ∷ [])
+
+-- e is where the line that begins at `from` ends, or the end of the block
+pub record LineEnd (s : List ℕ) (from e : ℕ) : Type 0 where
+  pub high : e ≤ length s
+  pub past : length s < from → e ≡ length s
+  pub line : from ≤ length s → PartEnd 10 s from e
+
+-- what a line that goes on behind the block has of it goes to the front, 73 bytes at most; n of them
+pub record Carried (before : List ℕ) (from to : ℕ) (after : List ℕ) (n : ℕ) : Type 0 where
+  pub kept : from ≤ to → to ≤ length before → take n after ≡ take 73 (slice from to before)
+  pub most : n ≤ 73
+  pub fits : n ≤ length after
+  pub same : length after ≡ length before

@@ -1,0 +1,88 @@
+// Answers as they are printed: the outline's number, and the value or the parts of a time.
+ghost use mathlib.Core.Path.{_≡_};
+ghost use Prim.Native.Nat.{_+_, _≤_};
+ghost use mathlib.Core.List.{map};
+ghost use lib.ListN.{length};
+ghost use Rattle.text.specs.Text.{decimal, between};
+ghost use Rattle.text.specs.Inner.{Wrote};
+ghost use Rattle.clock.specs.Clock.{partsOf};
+ghost use Rattle.rules.specs.Answers.{number};
+ghost use Rattle.console.specs.Inner.{valuesLine, answerBytes};
+use clock::Time;
+use rules::Answer;
+
+// The outline's number of an answer.
+pub fn number_of(answer: Answer) -> u64
+    ensures { λ r. ⌜ r ≡ number answer ⌝ }
+{
+    match answer {
+        Answer::Done(_) => 0,
+        Answer::Told(_) => 0,
+        Answer::Waits(_) => 1,
+        Answer::NoCaller => 2,
+        Answer::NotAllowed => 3,
+        Answer::NoProgram => 4,
+        Answer::WrongState(_) => 5,
+        Answer::NameInUse => 6,
+        Answer::AllUsed => 7,
+        Answer::NoRoom => 8,
+        Answer::NotHolder => 9,
+        Answer::NotAllocated => 10,
+        Answer::AtCeiling => 11,
+        Answer::TooShort(_) => 12,
+        Answer::NotUnderstood => 13,
+        Answer::NotSound => 14,
+    }
+}
+
+// day.hour.minute.second.hundredth
+fn put_time(buf: &mut [u8], at: usize, t: Time) -> usize
+    requires { ⌜ at + length (between 46 (map decimal (partsOf t))) ≤ length (now buf) ⌝ }
+    ensures { λ r. ⌜ Wrote (now (buf .entry)) at (between 46 (map decimal (partsOf t))) (now (buf .exit)) r ⌝ }
+{
+    let a = text::put_number(buf, at, t.day);
+    let b = text::put_byte(buf, a, b'.');
+    let c = text::put_number(buf, b, t.hour);
+    let d = text::put_byte(buf, c, b'.');
+    let e = text::put_number(buf, d, t.minute);
+    let f = text::put_byte(buf, e, b'.');
+    let g = text::put_number(buf, f, t.second);
+    let h = text::put_byte(buf, g, b'.');
+    text::put_number(buf, h, t.hundredth)
+}
+
+fn put_values(buf: &mut [u8], at: usize, answer: Answer) -> usize
+    requires { ⌜ at + length (valuesLine answer) ≤ length (now buf) ⌝ }
+    ensures { λ r. ⌜ Wrote (now (buf .entry)) at (valuesLine answer) (now (buf .exit)) r ⌝ }
+{
+    match answer {
+        Answer::Done(v) => text::put_number(buf, at, v),
+        Answer::Told(t) => put_time(buf, at, t),
+        Answer::Waits(s) => text::put_number(buf, at, s as u64),
+        Answer::WrongState(s) => text::put_number(buf, at, s as u64),
+        Answer::TooShort(n) => text::put_number(buf, at, n),
+        Answer::NoCaller
+        | Answer::NotAllowed
+        | Answer::NoProgram
+        | Answer::NameInUse
+        | Answer::AllUsed
+        | Answer::NoRoom
+        | Answer::NotHolder
+        | Answer::NotAllocated
+        | Answer::AtCeiling
+        | Answer::NotUnderstood
+        | Answer::NotSound => text::put_number(buf, at, 0),
+    }
+}
+
+// The line for an answer, at the front.
+pub(crate) fn put_answer(buf: &mut [u8], answer: Answer) -> usize
+    requires { ⌜ length (answerBytes answer) ≤ length (now buf) ⌝ }
+    ensures { λ r. ⌜ Wrote (now (buf .entry)) 0 (answerBytes answer) (now (buf .exit)) r ⌝ }
+{
+    let a = text::put_bytes(buf, 0, b"answer=");
+    let b = text::put_number(buf, a, number_of(answer));
+    let c = text::put_bytes(buf, b, b",value=");
+    let d = put_values(buf, c, answer);
+    text::put_byte(buf, d, 10)
+}

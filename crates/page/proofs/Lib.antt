@@ -1,0 +1,13 @@
+pub mod Widths
+pub mod Weights
+pub mod RecordRoom
+pub mod ChainRoom
+pub mod HeldRoom
+pub mod NumberRoom
+pub mod Room
+pub mod Writing
+pub mod Runs
+pub mod Spans
+pub mod Paged
+pub mod Lending
+pub mod OnePage

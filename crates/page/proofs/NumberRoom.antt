@@ -1,0 +1,59 @@
+-- Room for the lines of the resource numbers: each has at most 18 bytes besides its number, and there are at most 16.
+-- Assumes nothing.
+use Prim.Native.Nat.{ℕ, _+_, _≤_}
+use native.Mathlib.Omega.{arith}
+use mathlib.Core.Path.{_≡_, refl}
+use mathlib.Core.Bool.{Bool, true, false, cond}
+use mathlib.Core.List.{List, [], _++_, map}
+use lib.ListN.{length, length-append}
+use lib.Dec.{eqb, ltb}
+use Rattle.lists.specs.Lists.{count, from, join}
+use Rattle.lists.proofs.Laws.{from-in}
+use Rattle.text.specs.Text.{text, digits, decimal, entry}
+use Rattle.text.proofs.Laws.{entry-length}
+use Rattle.records.specs.declared.Resource.{Resource}
+use Rattle.records.specs.Numbers.{globally, numberAt}
+use Rattle.rules.specs.Book.{Book}
+use Rattle.rules.specs.Sound.{Limits}
+use Rattle.page.specs.Page.{party, orDash, numberLine}
+use Rattle.page.proofs.Widths.{gain-most, party-length, orDash-length}
+use Rattle.page.proofs.Weights.{weigh, weigh-from, lines-weigh}
+
+abbrev number : ℕ → ℕ
+number r = 18 + length (decimal r)
+
+number-most : (r : ℕ) (x : Resource) → x .owner ≤ globally → x .lock ≤ 32 → length (numberLine r x) ≤ number r
+unfolding numberLine
+number-most r x h k = go (eqb (x .owner) 0)
+  where
+    shown : List ℕ
+    shown = decimal r ++ text ":" ++ party (x .owner) ++ text ":" ++ orDash (ltb 0 (x .lock)) (x .lock)
+
+    shown-length : length shown ≡ length (decimal r) + length (party (x .owner)) + length (orDash (ltb 0 (x .lock)) (x .lock)) + 2
+    shown-length = simp length-append (omega arith)
+
+    go : (t : Bool) → length (cond t [] (entry (text "number") shown)) ≤ number r
+    go true = omega arith
+    go false = omega (
+      arith,
+      entry-length (text "number") shown,
+      shown-length,
+      party-length (x .owner) (omega arith),
+      gain-most (x .owner),
+      orDash-length (ltb 0 (x .lock)) 1 (x .lock) (omega arith),
+    )
+
+-- nine numbers of one digit, seven of two
+numbers-weigh : (n : ℕ) → n ≤ 16 → weigh number (from 1 n) ≤ 311
+unfolding decimal digits
+numbers-weigh n h = weigh-from number 1 n 16 311 h refl
+
+pub number-room : (b : Book) → Limits b → length (join (map (λ r. numberLine r (numberAt (b .resources) r)) (from 1 (b .numbers)))) ≤ 311
+number-room b L =
+    omega (arith, lines-weigh number (λ r. numberLine r (numberAt (b .resources) r)) (from 1 (b .numbers)) each, numbers-weigh (b .numbers) (L .few))
+  where
+    each : (r : ℕ) → 1 ≤ count r (from 1 (b .numbers)) → length (numberLine r (numberAt (b .resources) r)) ≤ number r
+    each r k =
+        let f = from-in r 1 (b .numbers) k in
+        let ours : (1 ≤ r) × (r ≤ b .numbers) = (f .0, omega arith) in
+        number-most r (numberAt (b .resources) r) (L .owner r ours) (L .locker r ours)

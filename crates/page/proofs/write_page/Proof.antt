@@ -1,0 +1,107 @@
+-- `write_page` meets its contract: the page fits the space, since the tables are sound, and so the front of the space is the page.
+-- Assumes nothing.
+use Prim.Native.Nat.{ℕ, _≤_}
+use native.Mathlib.Omega.{arith}
+use borrow.Author.Needs.{needs}
+use mathlib.Core.Path.{_≡_, sym, _∙_}
+use mathlib.Core.Bool.{true, false}
+use lib.ListN.{length, take, replicate, length-map, length-replicate}
+use lib.Seq.{length-take-le}
+use borrow.Author.Tests.{not-true, not-false}
+use Rattle.records.proofs.Program as program
+use Rattle.records.proofs.Resource as resource
+use Rattle.text.proofs.Laws.{wrote-length, wrote-take}
+use Rattle.tables.specs.Tables.{plain}
+use Rattle.tables.specs.Sound.{sound}
+use Rattle.tables.specs.Walks.{Arrays}
+use Rattle.page.specs.Page.{page}
+use Rattle.page.specs.Inner.{CanPage}
+use Rattle.page.proofs.Writing.{wrote-as}
+use Rattle.page.proofs.Lending.{can-page, handed-unsound, handed-short, handed-done}
+use Rattle.page.proofs.write_page.Statement.{statement}
+use Rattle.page.proofs.write_page.Tie as tie
+
+is-sound-requires : tie.Need-is-sound-requires
+is-sound-requires c κs = search needs
+
+arrays : (s : tie.Start) → Arrays (s .args .tables)
+arrays s = record {
+  programs = sym (length-map (s .args .tables .ledger .programs) (program.the-field .into)) ∙ s .good .0 .1 .1 .0 .1 .1 .0 .1 .0 .1;
+  links = search needs;
+  holders = search needs;
+  resources = sym (length-map (s .args .tables .ledger .numbers .resources) (resource.the-field .into)) ∙ s .good .0 .1 .1 .0 .1 .1 .1 .1 .1 .0 .1 .1 .1 .0 .1 .0 .1;
+}
+
+unsound : (c : tie.Then1) → sound (c .before .before .before .args .tables) ≡ false
+unsound c = sym (c .before .is-sound .ensures) ∙ not-true (c .before .is-sound .result) (c .if1 .taken)
+
+approved : (c : tie.Else1) → sound (c .before .before .before .args .tables) ≡ true
+approved c = sym (c .before .is-sound .ensures) ∙ not-false (c .before .is-sound .result) (c .if1 .left)
+
+returns : tie.Need-returns
+returns c = let s = c .before .before .before in handed-unsound (s .args .tables) (s .args .buf .now) (unsound c)
+
+slice-aggregate-put-page : tie.Need-slice-aggregate-put-page
+slice-aggregate-put-page c = search needs
+
+-- the space is room for the page, and the page is what it begins with
+fits : (c : tie.After-space) → CanPage (c .before .before .before .before .args .tables) (replicate {A = ℕ} 8192 0)
+fits c =
+    let s = c .before .before .before .before in
+    can-page (s .args .tables) (replicate {A = ℕ} 8192 0) (arrays s) (approved (c .before)) (omega (arith, length-replicate {A = ℕ} 8192 0))
+
+within : (c : tie.After-put-page) → c .put-page .result ≤ length (c .put-page .last .0)
+within c = omega (arith, c .put-page .ensures .place, wrote-length (c .put-page .ensures), fits (c .before) .room)
+
+begins : (c : tie.After-put-page) → take (c .put-page .result) (c .put-page .last .0) ≡ page (plain (c .before .before .before .before .before .args .tables))
+begins c = wrote-take (c .put-page .ensures) (fits (c .before) .room)
+
+put-page-requires : tie.Need-put-page-requires
+put-page-requires c κs = fits c
+
+returns-2 : tie.Need-returns-2
+returns-2 c =
+    let p = c .before .before in
+    let s = p .before .before .before .before .before in
+    handed-short (s .args .tables) (s .args .buf .now) (p .put-page .result) (approved (p .before .before)) (p .put-page .ensures .place) (omega (arith, c .if2 .taken))
+
+array-share-prefix-space : tie.Need-array-share-prefix-space
+array-share-prefix-space c = within (c .before .before .before)
+
+slice-aggregate-put-bytes : tie.Need-slice-aggregate-put-bytes
+slice-aggregate-put-bytes c =
+    let p = c .before .before .before .before in
+    sym (length-take-le (p .put-page .result) (p .put-page .last .0) (within p))
+
+put-bytes-requires : tie.Need-put-bytes-requires
+put-bytes-requires c κs =
+    let e = c .before .before in
+    let p = e .before .before in
+    omega (arith, length-take-le (p .put-page .result) (p .put-page .last .0) (within p), e .if2 .left)
+
+same-length : tie.Need-same-length
+same-length c = wrote-length (c .before .before .put-bytes .ensures)
+
+returns-3 : tie.Need-returns-3
+returns-3 c =
+    let b = c .before .before in
+    let e = b .before .before .before in
+    let p = e .before .before in
+    let s = p .before .before .before .before .before in
+    handed-done (s .args .tables) (s .args .buf .now) (p .put-page .result) (b .put-bytes .result) (b .put-bytes .last .0) (approved (p .before .before))
+    (p .put-page .ensures .place) (omega (arith, e .if2 .left)) (wrote-as (sym (begins p)) (b .put-bytes .ensures))
+
+pub write-page-spec : {M : Type 1} → statement M
+write-page-spec =
+    tie.close
+    (tie.spec
+    is-sound-requires
+    returns
+    slice-aggregate-put-page
+    put-page-requires
+    returns-2
+    array-share-prefix-space
+    slice-aggregate-put-bytes
+    put-bytes-requires
+    same-length
+    returns-3)
