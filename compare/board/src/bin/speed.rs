@@ -1,0 +1,264 @@
+//! How quick the library is beside the engine, on the same input in one process: see `USAGE`.
+
+#![forbid(unsafe_code)]
+
+use board::clock::{race, Contestant};
+use board::pack::{pack, unpack, Bytes};
+use board::tables::{reply_of, Case, Cases, Kind};
+use board::{ffi, load, natural, words};
+use engine::sheet::lines;
+use std::process::ExitCode;
+
+const USAGE: &str = "usage:
+  speed [--rounds N]
+Status 0: measured; 1: the two sides differ; 2: not run.";
+
+fn main() -> ExitCode {
+    let words: Vec<String> = std::env::args().skip(1).collect();
+    let rounds = match rounds(&words) {
+        Ok(rounds) => rounds,
+        Err(message) => {
+            eprintln!("{}", message);
+            return ExitCode::from(2);
+        }
+    };
+    match rows(rounds).and_then(|()| growth(rounds)) {
+        Ok(()) => ExitCode::SUCCESS,
+        Err(message) => {
+            println!("{}", message);
+            ExitCode::from(1)
+        }
+    }
+}
+
+fn rounds(words: &[String]) -> Result<usize, String> {
+    let mut rounds = 9;
+    for (option, value) in words::pairs(words, USAGE)? {
+        match option.as_str() {
+            "--rounds" => rounds = words::whole(&value)?.max(1) as usize,
+            _ => return Err(USAGE.to_string()),
+        }
+    }
+    Ok(rounds)
+}
+
+/// The library on a text.
+struct Ours<'a> {
+    text: &'a [u8],
+    out: Vec<u8>,
+}
+
+impl<'a> Ours<'a> {
+    fn new(text: &'a [u8]) -> Ours<'a> {
+        // With no buffer at all it still tells how long one has to be.
+        let size = ffi::run(text, &mut []).unwrap_or(0) as usize;
+        Ours { text, out: vec![0; size] }
+    }
+}
+
+impl Contestant for Ours<'_> {
+    fn prepare(&mut self) {
+        self.out.fill(0);
+    }
+
+    fn work(&mut self) -> u64 {
+        ffi::run(self.text, &mut self.out).unwrap_or(0)
+    }
+}
+
+/// The engine on a text.
+struct Rust<'a> {
+    text: &'a [u8],
+    out: Vec<u8>,
+    tested: bool,
+}
+
+impl<'a> Rust<'a> {
+    fn new(text: &'a [u8], tested: bool) -> Rust<'a> {
+        let mut rust = Rust { text, out: Vec::new(), tested };
+        rust.work();
+        rust
+    }
+}
+
+impl Contestant for Rust<'_> {
+    fn prepare(&mut self) {
+        self.out.fill(0);
+    }
+
+    fn work(&mut self) -> u64 {
+        natural::run(self.text, &mut self.out, self.tested) as u64
+    }
+}
+
+/// Nanoseconds a line on each text: the library, the engine with the test, the engine without it.
+/// All of them run in the same rounds.
+fn text_times(rounds: usize, texts: &[&[u8]]) -> Result<Vec<[f64; 3]>, String> {
+    let mut sides: Vec<Box<dyn Contestant + '_>> = Vec::new();
+    for text in texts {
+        let (mut ours, mut rust) = (Ours::new(text), Rust::new(text, true));
+        ours.work();
+        rust.work();
+        if ours.out != rust.out {
+            return Err(String::from("the two sides print different bytes; run `agree text`"));
+        }
+        sides.push(Box::new(ours));
+        sides.push(Box::new(rust));
+        sides.push(Box::new(Rust::new(text, false)));
+    }
+    let times = race(rounds, &mut sides);
+    let counts = texts.iter().map(|text| lines(text).len() as f64);
+    let a_line = |(times, count): (&[f64], f64)| [0, 1, 2].map(|side| times[side] / count);
+    Ok(times.chunks(3).zip(counts).map(a_line).collect())
+}
+
+fn heading() {
+    println!(
+        "Speed: the engine's time divided by the library's; above 1.00 the library is quicker.\n\
+         \"tested\" is the engine with a soundness test before every line, as the library has it,\n\
+         \"untested\" the engine without any.\n"
+    );
+    println!("{:32}{:>18}{:>32}", "", "speed against", "ns a line, of this machine");
+    let sides = ["tested", "untested"];
+    println!(
+        "{:32}{:>8}{:>10}{:>12}{:>10}{:>10}",
+        "", sides[0], sides[1], "library", sides[0], sides[1]
+    );
+}
+
+fn rows(rounds: usize) -> Result<(), String> {
+    heading();
+    let texts = [
+        ("mixed console lines", load::mixed(200_000)),
+        ("TICK, 32 timers", load::ticks(100_000)),
+        ("PAGE, full tables", load::pages(3_000)),
+        ("claims, 256 tracks in fragments", load::claims(256, 50_000)),
+    ];
+    for (name, text) in &texts {
+        let [ours, tested, untested] = text_times(rounds, &[text])?[0];
+        println!(
+            "{:32}{:>8.2}{:>10.2}{:>12.0}{:>10.0}{:>10.0}",
+            name,
+            tested / ours,
+            untested / ours,
+            ours,
+            tested,
+            untested
+        );
+    }
+    let cases = given();
+    calls(rounds, "soundness of given tables", &cases, sounds)?;
+    calls(rounds, "one line on given tables", &cases, asks)
+}
+
+/// Sound tables, reached and not, each with a line.
+fn given() -> Vec<Case> {
+    let mut cases = Cases::new(1);
+    let kinds = [Kind::Reached, Kind::Unreached];
+    let mut list: Vec<Case> = (0..2_000).map(|k| cases.case(kinds[k % 2])).collect();
+    for case in &mut list {
+        case.page = vec![0; 8_192];
+    }
+    list
+}
+
+fn calls(
+    rounds: usize,
+    name: &str,
+    cases: &[Case],
+    sides: fn(&[Case]) -> Vec<Box<dyn Contestant + '_>>,
+) -> Result<(), String> {
+    let mut sides = sides(cases);
+    if sides[0].work() != sides[1].work() {
+        return Err(String::from("the two sides answer differently; run `agree tables`"));
+    }
+    let times = race(rounds, &mut sides);
+    let count = cases.len() as f64;
+    let (ours, rust) = (times[0] / count, times[1] / count);
+    println!("{:32}{:>8.2}{:>10}{:>12.0}{:>10.0}{:>10}", name, rust / ours, "-", ours, rust, "-");
+    Ok(())
+}
+
+/// One side of a call on given bytes: what it makes of a case, as a number. The buffers are for the
+/// tables after it and for the page.
+struct Call<'a> {
+    cases: &'a [Case],
+    tables: Bytes,
+    page: Vec<u8>,
+    call: fn(&Case, &mut Bytes, &mut [u8]) -> u64,
+}
+
+impl Contestant for Call<'_> {
+    fn prepare(&mut self) {
+        self.page.fill(0);
+    }
+
+    fn work(&mut self) -> u64 {
+        let mut sum: u64 = 0;
+        for case in self.cases {
+            let done = (self.call)(case, &mut self.tables, &mut self.page);
+            sum = sum.wrapping_mul(31).wrapping_add(done);
+        }
+        sum
+    }
+}
+
+fn call<'a>(
+    cases: &'a [Case],
+    call: fn(&Case, &mut Bytes, &mut [u8]) -> u64,
+) -> Box<dyn Contestant + 'a> {
+    Box::new(Call { cases, tables: cases[0].tables, page: vec![0; 8_192], call })
+}
+
+fn sounds(cases: &[Case]) -> Vec<Box<dyn Contestant + '_>> {
+    let ours =
+        |case: &Case, _: &mut Bytes, _: &mut [u8]| ffi::sound(&case.tables).map_or(2, u64::from);
+    let rust = |case: &Case, _: &mut Bytes, _: &mut [u8]| u64::from(unpack(&case.tables).sound());
+    vec![call(cases, ours), call(cases, rust)]
+}
+
+fn asks(cases: &[Case]) -> Vec<Box<dyn Contestant + '_>> {
+    let ours = |case: &Case, tables: &mut Bytes, page: &mut [u8]| {
+        *tables = case.tables;
+        let reply = ffi::ask(tables, &case.line, page);
+        reply.map_or(u64::MAX, |reply| sum(reply, tables))
+    };
+    let rust = |case: &Case, tables: &mut Bytes, page: &mut [u8]| {
+        *tables = case.tables;
+        let (after, answer) = unpack(tables).line(&case.line, page);
+        *tables = pack(&after);
+        sum(reply_of(answer), tables)
+    };
+    vec![call(cases, ours), call(cases, rust)]
+}
+
+/// A few numbers of what a line leaves: to see that both did the same is the task of `agree`.
+fn sum(reply: ffi::Reply, tables: &Bytes) -> u64 {
+    reply.number + reply.values[0] + u64::from(tables[0]) + u64::from(tables[302])
+}
+
+/// How the time of a line grows: against the first column.
+fn growth(rounds: usize) -> Result<(), String> {
+    println!("\nGrowth: the time of a line as a multiple of that in the first column.");
+    let programs = [1, 8, 16, 32].map(|n| (n, load::by_programs(n, 20_000)));
+    grow(rounds, "programs", &programs)?;
+    let tracks = [16, 64, 256].map(|n| (n, load::by_tracks(n, 20_000)));
+    grow(rounds, "tracks", &tracks)?;
+    let lines = [1_000, 10_000, 100_000].map(|n| (n, load::by_programs(8, n)));
+    grow(rounds, "lines", &lines)
+}
+
+fn grow(rounds: usize, name: &str, texts: &[(usize, Vec<u8>)]) -> Result<(), String> {
+    let list: Vec<&[u8]> = texts.iter().map(|(_, text)| text.as_slice()).collect();
+    let columns = text_times(rounds, &list)?;
+    let numbers: String = texts.iter().map(|(n, _)| format!("{:>10}", n)).collect();
+    println!("\n{:32}{}", name, numbers);
+    for (side, title) in ["library", "engine, tested", "engine, untested"].iter().enumerate() {
+        let ratios: String = columns
+            .iter()
+            .map(|times| format!("{:>10.2}", times[side] / columns[0][side]))
+            .collect();
+        println!("  {:30}{}", title, ratios);
+    }
+    Ok(())
+}

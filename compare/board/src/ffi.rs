@@ -1,0 +1,111 @@
+//! The three functions of `libboard.a`, each behind a safe one. Nothing checks these declarations
+//! against the library's source. All the unsafe code there is stands in this file.
+
+/// The tables as bytes; `pack` says which byte is what.
+pub const TABLES: usize = 1_237;
+
+/// An answer as bytes: its number and five values.
+pub const ANSWER: usize = 48;
+
+/// The longest text that `board_run` takes.
+const LONGEST_TEXT: u64 = 1 << 48;
+
+/// What a line was answered with; absent values are 0.
+#[derive(Clone, Copy, Debug, PartialEq, Eq)]
+pub struct Reply {
+    pub number: u64,
+    pub values: [u64; 5],
+}
+
+impl Reply {
+    pub fn of_bytes(bytes: &[u8; ANSWER]) -> Reply {
+        let mut words = [0; 6];
+        for (word, part) in words.iter_mut().zip(bytes.chunks_exact(8)) {
+            let mut eight = [0; 8];
+            eight.copy_from_slice(part);
+            *word = u64::from_le_bytes(eight);
+        }
+        let [number, values @ ..] = words;
+        Reply { number, values }
+    }
+}
+
+mod library {
+    extern "C" {
+        pub fn board_run(text: *const u8, text_len: usize, out: *mut u8, out_len: usize) -> u64;
+        pub fn board_ask(
+            tables: *mut u8,
+            tables_len: usize,
+            line: *const u8,
+            line_len: usize,
+            page: *mut u8,
+            page_len: usize,
+            answer: *mut u8,
+            answer_len: usize,
+        ) -> u64;
+        pub fn board_sound(tables: *const u8, tables_len: usize) -> u64;
+    }
+}
+
+/// Runs a whole console text, into `out` as far as it fits. How many bytes the whole output has;
+/// none for a text that the library does not take.
+pub fn run(text: &[u8], out: &mut [u8]) -> Option<u64> {
+    if text.len() as u64 > LONGEST_TEXT {
+        return None;
+    }
+    // The pointers and lengths are those of slices, and `out`, being lent alone, overlaps nothing.
+    let size =
+        unsafe { library::board_run(text.as_ptr(), text.len(), out.as_mut_ptr(), out.len()) };
+    Some(size)
+}
+
+/// One console line on tables, which become the tables after it. None where there are not so many
+/// bytes as tables have, or where the library does not take them.
+pub fn ask(tables: &mut [u8], line: &[u8], page: &mut [u8]) -> Option<Reply> {
+    if tables.len() != TABLES {
+        return None;
+    }
+    let mut answer = [0; ANSWER];
+    if ask_bytes(tables, line, page, &mut answer) != 1 {
+        return None;
+    }
+    Some(Reply::of_bytes(&answer))
+}
+
+/// The same with every length as it is given: the library itself tests two of them, and hands back
+/// 0, with nothing done, where they are wrong.
+pub fn ask_bytes(tables: &mut [u8], line: &[u8], page: &mut [u8], answer: &mut [u8]) -> u64 {
+    // The pointers and lengths are those of slices, and three of them are lent alone, so that no
+    // two overlap.
+    unsafe {
+        library::board_ask(
+            tables.as_mut_ptr(),
+            tables.len(),
+            line.as_ptr(),
+            line.len(),
+            page.as_mut_ptr(),
+            page.len(),
+            answer.as_mut_ptr(),
+            answer.len(),
+        )
+    }
+}
+
+/// Whether these tables are sound. None where there are not so many bytes as tables have, or where
+/// the library says neither.
+pub fn sound(tables: &[u8]) -> Option<bool> {
+    if tables.len() != TABLES {
+        return None;
+    }
+    match sound_bytes(tables) {
+        0 => Some(false),
+        1 => Some(true),
+        _ => None,
+    }
+}
+
+/// The same with the length as it is given: the library itself tests it.
+pub fn sound_bytes(tables: &[u8]) -> u64 {
+    // The pointer and the length are those of a slice, of which the library only reads.
+    unsafe { library::board_sound(tables.as_ptr(), tables.len()) }
+}

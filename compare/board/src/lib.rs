@@ -1,0 +1,32 @@
+//! The library `libboard.a` held against the engine, in one process.
+//!
+//! | file | subject |
+//! |---|---|
+//! | `ffi` | the library's three functions |
+//! | `pack` | the engine's tables as the library's bytes, and back |
+//! | `make` | sound tables: some that a run reaches, some that none does |
+//! | `harm` | bytes changed, fields exchanged, noise |
+//! | `ask` | a console line for given tables |
+//! | `show` | tables and answers in print |
+//! | `tables` | one line on any tables: both sides |
+//! | `text` | a whole text: both sides |
+//! | `natural` | the engine as a program that tests its tables at every line |
+//! | `load` | texts whose speed is measured |
+//! | `clock` | rounds, medians and ratios |
+//! | `words` | what stands on the command line |
+
+#![deny(unsafe_code)]
+
+pub mod ask;
+pub mod clock;
+#[allow(unsafe_code)]
+pub mod ffi;
+pub mod harm;
+pub mod load;
+pub mod make;
+pub mod natural;
+pub mod pack;
+pub mod show;
+pub mod tables;
+pub mod text;
+pub mod words;

@@ -1,0 +1,119 @@
+//! Texts whose speed is measured.
+
+use comparer::script::generate;
+
+/// Generated scripts one after the other, so many lines in all.
+pub fn mixed(lines: usize) -> Vec<u8> {
+    let mut text = Vec::new();
+    let mut seed = 1;
+    let mut left = lines;
+    while left > 0 {
+        let part = left.min(250);
+        text.extend(generate(seed, part));
+        if !text.ends_with(b"\n") {
+            text.push(b'\n');
+        }
+        left -= part;
+        seed += 1;
+    }
+    text
+}
+
+fn joined(lines: Vec<String>) -> Vec<u8> {
+    let mut text = lines.join("\n").into_bytes();
+    text.push(b'\n');
+    text
+}
+
+/// An opening, then the lines of a cycle over and over, so many lines in all.
+fn repeated(opening: Vec<String>, cycle: &[String], lines: usize) -> Vec<u8> {
+    let left = lines.saturating_sub(opening.len());
+    let mut list = opening;
+    list.extend(cycle.iter().cycle().take(left).cloned());
+    joined(list)
+}
+
+fn name(k: usize) -> String {
+    format!("P{}", k)
+}
+
+/// So many programs of one priority, all scheduled.
+fn scheduled(opening: &mut Vec<String>, programs: usize) {
+    opening.extend((1..=programs).map(|k| format!("LOAD,{},10", name(k))));
+    opening.extend((1..=programs).map(|k| format!("RU,{}", name(k))));
+}
+
+/// Timers of 32 programs, with intervals of 1 to 32 ticks, and nothing but ticks.
+pub fn ticks(lines: usize) -> Vec<u8> {
+    let mut opening = vec![String::from("FRESH,256,0,16")];
+    scheduled(&mut opening, 32);
+    opening.extend((1..=32).map(|k| format!("EXEC,12,{},1,{},{}", name(k), k, k)));
+    repeated(opening, &[String::from("TICK")], lines)
+}
+
+/// Nothing but pages of tables in which every record, track and number is in use.
+pub fn pages(lines: usize) -> Vec<u8> {
+    let mut opening = vec![String::from("FRESH,256,0,16")];
+    scheduled(&mut opening, 32);
+    opening.extend((1..=32).map(|k| format!("EXEC,12,{},4,4095,4095", name(k))));
+    for _ in 0..128 {
+        opening.extend([String::from("EXEC,4,1,1"), String::from("EXEC,15,1,1")]);
+    }
+    for r in 1..=16 {
+        opening.push(String::from("RN,ALLOC,G,1"));
+        opening.push(format!("RN,LOCK,{},1", r));
+    }
+    // Nine are suspended, nine wait for tracks, nine for a lock, five stay scheduled.
+    for k in 1..=9 {
+        opening.push(format!("SS,{}", name(k)));
+    }
+    opening.extend((10..=18).map(|_| String::from("EXEC,4,256,0")));
+    for _ in 19..=27 {
+        opening.push(String::from("RN,LOCK,16,0"));
+    }
+    repeated(opening, &[String::from("PAGE")], lines)
+}
+
+/// Every second track is free, so that no claim of two succeeds: such claims and claims of one, in
+/// turn, until all tracks are held, and then what was claimed is given back.
+pub fn claims(tracks: usize, lines: usize) -> Vec<u8> {
+    let mut cycle = Vec::new();
+    for _ in 0..tracks / 2 {
+        cycle.extend([String::from("EXEC,4,2,1"), String::from("EXEC,4,1,1")]);
+    }
+    cycle.push(String::from("EXEC,4,1,1"));
+    cycle.push(String::from("EXEC,5,ALL"));
+    repeated(fragments(tracks), &cycle, lines)
+}
+
+fn fragments(tracks: usize) -> Vec<String> {
+    let mut opening = vec![format!("FRESH,{},0,0", tracks)];
+    scheduled(&mut opening, 1);
+    for _ in 0..tracks / 2 {
+        opening.extend([String::from("EXEC,4,1,1"), String::from("EXEC,15,1,1")]);
+    }
+    opening.push(String::from("EXEC,5,ALL"));
+    opening
+}
+
+/// Lines that concern programs and chains, the same whatever their number.
+pub fn by_programs(programs: usize, lines: usize) -> Vec<u8> {
+    let mut opening = vec![String::from("FRESH,16,0,4")];
+    scheduled(&mut opening, programs);
+    opening.extend((1..=programs).map(|k| format!("EXEC,12,{},4,4095,4095", name(k))));
+    let mut cycle = Vec::new();
+    for k in 1..=programs {
+        cycle.push(format!("SS,{}", name(k)));
+        cycle.push(format!("GO,{}", name(k)));
+        cycle.push(format!("PR,{},10", name(k)));
+        cycle.push(String::from("TICK"));
+        cycle.push(String::from("EXEC,11"));
+    }
+    repeated(opening, &cycle, lines)
+}
+
+/// Claims in fragmented tracks, the same lines whatever their number.
+pub fn by_tracks(tracks: usize, lines: usize) -> Vec<u8> {
+    let cycle = ["EXEC,4,2,1", "EXEC,4,1,1", "EXEC,15,2,1", "EXEC,5,ALL"].map(String::from);
+    repeated(fragments(tracks), &cycle, lines)
+}

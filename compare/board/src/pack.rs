@@ -1,0 +1,161 @@
+//! The engine's raw tables as the 1,237 bytes that the library takes, and back. Numbers are
+//! little-endian:
+//!
+//! | place | bytes | what |
+//! |---|---|---|
+//! | 0 | 8 | clock |
+//! | 8 | 2 | T |
+//! | 10 | 2 | S |
+//! | 12 | 1 | R |
+//! | 13 | 256 | the holder of each track |
+//! | 269 | 16 x 2 | each resource number: owner, lock |
+//! | 301 | 40 | links |
+//! | 341 | 32 x 28 | records: used, name 5, priority 2, state, why kind, why number 2, due 8, interval 8 |
+//!
+//! Some bytes are read the same as others (a `used` of 2 as 1, a why kind of 9 as 4), so that
+//! `pack` of `unpack` is not always the bytes one began with; `unpack` of `pack` always is the
+//! tables.
+
+use crate::ffi::TABLES;
+use engine::raw::{Raw, RawNumber, RawRecord, RawWhy, BLANK_NUMBER, SLOTS, UNUSED};
+use engine::tables::RECORDS;
+use std::convert::TryFrom;
+
+pub type Bytes = [u8; TABLES];
+
+pub const AT_TRACKS: usize = 13;
+pub const AT_NUMBERS: usize = AT_TRACKS + 256;
+pub const AT_LINKS: usize = AT_NUMBERS + 32;
+pub const AT_RECORDS: usize = AT_LINKS + SLOTS;
+pub const RECORD: usize = 28;
+
+/// The kinds of a why, as bytes.
+const NOTHING: u8 = 0;
+const TRACKS: u8 = 1;
+const SON: u8 = 2;
+const LOCK: u8 = 3;
+const NUMBER: u8 = 4;
+
+/// The bytes of tables. Their numbers have to fit, as those of `unpack` and of sound tables do;
+/// `narrow` makes them.
+pub fn pack(raw: &Raw) -> Bytes {
+    let mut bytes = [0; TABLES];
+    let mut rest: &mut [u8] = &mut bytes;
+    put(&mut rest, &raw.clock.to_le_bytes());
+    put(&mut rest, &two(raw.t));
+    put(&mut rest, &two(raw.s));
+    put(&mut rest, &[one(raw.r)]);
+    put(&mut rest, &raw.tracks);
+    for number in &raw.numbers {
+        put(&mut rest, &[number.owner, number.lock]);
+    }
+    put(&mut rest, &raw.links);
+    for record in &raw.records {
+        put_record(&mut rest, record);
+    }
+    assert!(rest.is_empty(), "every byte has its place");
+    bytes
+}
+
+fn put_record(rest: &mut &mut [u8], record: &RawRecord) {
+    let (kind, number) = match record.why {
+        RawWhy::Nothing => (NOTHING, 0),
+        RawWhy::Tracks(n) => (TRACKS, n),
+        RawWhy::Son(k) => (SON, k),
+        RawWhy::Lock(r) => (LOCK, r),
+        RawWhy::Number => (NUMBER, 0),
+    };
+    put(rest, &[u8::from(record.used)]);
+    put(rest, &record.name);
+    put(rest, &two(record.priority));
+    put(rest, &[one(record.state), kind]);
+    put(rest, &two(number));
+    put(rest, &record.due.to_le_bytes());
+    put(rest, &record.interval.to_le_bytes());
+}
+
+fn put(rest: &mut &mut [u8], part: &[u8]) {
+    let (front, back) = std::mem::take(rest).split_at_mut(part.len());
+    front.copy_from_slice(part);
+    *rest = back;
+}
+
+fn one(number: u64) -> u8 {
+    u8::try_from(number).expect("a number that fits its byte")
+}
+
+fn two(number: u64) -> [u8; 2] {
+    u16::try_from(number).expect("a number that fits its two bytes").to_le_bytes()
+}
+
+/// The tables that the library reads in these bytes.
+pub fn unpack(bytes: &Bytes) -> Raw {
+    let mut rest: &[u8] = bytes;
+    let mut raw = Raw {
+        records: [UNUSED; RECORDS],
+        clock: number(&mut rest, 8),
+        t: number(&mut rest, 2),
+        s: number(&mut rest, 2),
+        r: number(&mut rest, 1),
+        tracks: [0; 256],
+        numbers: [BLANK_NUMBER; 16],
+        links: [0; SLOTS],
+    };
+    raw.tracks.copy_from_slice(take(&mut rest, 256));
+    for number in &mut raw.numbers {
+        let part = take(&mut rest, 2);
+        *number = RawNumber { owner: part[0], lock: part[1] };
+    }
+    raw.links.copy_from_slice(take(&mut rest, SLOTS));
+    for record in &mut raw.records {
+        *record = record_of(&mut rest);
+    }
+    raw
+}
+
+fn record_of(rest: &mut &[u8]) -> RawRecord {
+    let used = take(rest, 1)[0] != 0;
+    let mut name = [0; 5];
+    name.copy_from_slice(take(rest, 5));
+    let priority = number(rest, 2);
+    let state = number(rest, 1);
+    let kind = take(rest, 1)[0];
+    let count = number(rest, 2);
+    let why = match kind {
+        NOTHING => RawWhy::Nothing,
+        TRACKS => RawWhy::Tracks(count),
+        SON => RawWhy::Son(count % 256),
+        LOCK => RawWhy::Lock(count % 256),
+        _ => RawWhy::Number,
+    };
+    RawRecord { used, name, priority, state, why, due: number(rest, 8), interval: number(rest, 8) }
+}
+
+fn take<'a>(rest: &mut &'a [u8], size: usize) -> &'a [u8] {
+    let (front, back) = rest.split_at(size);
+    *rest = back;
+    front
+}
+
+fn number(rest: &mut &[u8], size: usize) -> u64 {
+    let mut eight = [0; 8];
+    eight[..size].copy_from_slice(take(rest, size));
+    u64::from_le_bytes(eight)
+}
+
+/// Cuts every number to what its bytes hold, so that the tables can be packed.
+pub fn narrow(raw: &mut Raw) {
+    raw.t %= 65_536;
+    raw.s %= 65_536;
+    raw.r %= 256;
+    for record in &mut raw.records {
+        record.priority %= 65_536;
+        record.state %= 256;
+        record.why = match record.why {
+            RawWhy::Tracks(n) => RawWhy::Tracks(n % 65_536),
+            RawWhy::Son(k) => RawWhy::Son(k % 256),
+            RawWhy::Lock(r) => RawWhy::Lock(r % 256),
+            other => other,
+        };
+    }
+}

@@ -1,0 +1,23 @@
+//! The library against the engine, in short; `agree` does it at length.
+
+use board::{tables, text};
+
+#[test]
+fn wrong_lengths() {
+    assert_eq!(tables::lengths(), Ok(()));
+}
+
+#[test]
+fn one_line_on_any_tables() {
+    let mut count = tables::Count::default();
+    let compared = tables::agree(2, 10_000, &mut count);
+    assert!(compared.is_ok(), "{}", compared.unwrap_err());
+    assert_eq!(count.sum(), 10_000);
+}
+
+#[test]
+fn whole_texts() {
+    let mut count = text::Count::default();
+    let compared = text::agree(1..61, 100, &mut count);
+    assert!(compared.is_ok(), "{}", compared.unwrap_err());
+}

@@ -1,0 +1,217 @@
+//! What this package itself is made of: the bytes of tables, the tables and lines that are made,
+//! and the engine's own test.
+
+use board::ffi::{Reply, TABLES};
+use board::pack::{pack, unpack, AT_LINKS, AT_NUMBERS, AT_RECORDS, RECORD};
+use board::tables::{engine_side, Cases, Kind};
+use board::{load, make, natural};
+use comparer::prng::Prng;
+use comparer::script::generate;
+use engine::raw::{Raw, RawNumber, RawRecord, RawWhy, LINKS, UNUSED};
+use engine::sheet::lines;
+use engine::{sheet, Engine, Fault, Holder, Timer, Why};
+
+/// Each field at its place, worked out by hand.
+#[test]
+fn places() {
+    assert_eq!((AT_NUMBERS, AT_LINKS, AT_RECORDS), (269, 301, 341));
+    assert_eq!(AT_RECORDS + 32 * RECORD, TABLES);
+    let (engine, _) = Engine::fresh(256, 1, 16, Fault::None);
+    let mut raw = Raw::of(&engine);
+    raw.clock = 0x0102_0304_0506_0708;
+    raw.tracks[255] = 33;
+    raw.numbers[15] = RawNumber { owner: 33, lock: 32 };
+    raw.links[6] = 9;
+    raw.links[LINKS + 32] = 7;
+    raw.records[31] = RawRecord {
+        used: true,
+        name: *b"WHZAT",
+        priority: 0x1234,
+        state: 5,
+        why: RawWhy::Tracks(0x0100),
+        due: 0x11,
+        interval: 0x2200,
+    };
+    let bytes = pack(&raw);
+    assert_eq!(bytes[..14], [8, 7, 6, 5, 4, 3, 2, 1, 0, 1, 1, 0, 16, 34]);
+    assert_eq!((bytes[268], bytes[299], bytes[300]), (33, 33, 32));
+    assert_eq!((bytes[307], bytes[340]), (9, 7));
+    let record = [1, b'W', b'H', b'Z', b'A', b'T', 0x34, 0x12, 5, 1, 0, 1];
+    assert_eq!(bytes[1_209..1_221], record);
+    assert_eq!(bytes[1_221..], [0x11, 0, 0, 0, 0, 0, 0, 0, 0, 0x22, 0, 0, 0, 0, 0, 0]);
+    assert_eq!(unpack(&bytes), raw);
+}
+
+/// Bytes that are read as others.
+#[test]
+fn read_as_others() {
+    let mut bytes = [0; TABLES];
+    let at = AT_RECORDS;
+    bytes[at] = 200;
+    bytes[at + 9] = 9;
+    bytes[at + 10] = 7;
+    let record = unpack(&bytes).records[0];
+    assert_eq!(record, RawRecord { used: true, why: RawWhy::Number, ..UNUSED });
+    bytes[at + 11] = 1;
+    for (kind, why) in [(1, RawWhy::Tracks(263)), (2, RawWhy::Son(7)), (3, RawWhy::Lock(7))] {
+        bytes[at + 9] = kind;
+        assert_eq!(unpack(&bytes).records[0].why, why);
+    }
+}
+
+#[test]
+fn there_and_back() {
+    let mut cases = Cases::new(3);
+    for _ in 0..3_000 {
+        let case = cases.next_case();
+        let raw = unpack(&case.tables);
+        assert_eq!(unpack(&pack(&raw)), raw);
+    }
+}
+
+#[test]
+fn an_answer() {
+    let mut bytes = [0; 48];
+    for (place, byte) in [(0, 12), (8, 1), (9, 2), (40, 5), (47, 128)] {
+        bytes[place] = byte;
+    }
+    let reply = Reply::of_bytes(&bytes);
+    assert_eq!(reply, Reply { number: 12, values: [513, 0, 0, 0, (128 << 56) + 5] });
+}
+
+/// Every answer number occurs, and what no run reaches is there.
+#[test]
+fn the_cases_go_everywhere() {
+    let mut cases = Cases::new(1);
+    let mut answers = [0; 15];
+    for _ in 0..20_000 {
+        let case = cases.next_case();
+        let (sound, outcome) = engine_side(&case);
+        assert!(sound || !matches!(case.kind, Kind::Reached | Kind::Unreached));
+        answers[outcome.reply.number as usize] += 1;
+    }
+    assert!(answers.iter().all(|times| *times > 0), "{:?}", answers);
+    let mut prng = Prng::new(1);
+    let (mut dormant_owner, mut mutual, mut beyond, mut full) = (0, 0, 0, 0);
+    for _ in 0..5_000 {
+        let raw = make::unreached(&mut prng);
+        let record = |p: u64| &raw.records[p as usize - 1];
+        let dormant = |p: u8| (1..=32).contains(&p) && record(u64::from(p)).state == 0;
+        dormant_owner += u32::from(raw.numbers.iter().any(|n| dormant(n.owner) && dormant(n.lock)));
+        let waits = |p, k| record(p).why == RawWhy::Son(k);
+        mutual += u32::from((1..=32).any(|p| (1..=32).any(|k| waits(p, k) && waits(k, p))));
+        beyond += u32::from(raw.records.iter().any(|record| record.due > 1_000_000_000_000));
+        full += u32::from(raw.records.iter().all(|record| record.used));
+    }
+    let seen = [dormant_owner, mutual, beyond, full];
+    assert!(seen.iter().all(|times| *times > 100), "{:?}", seen);
+}
+
+/// The engine's own test says what the raw one says, on engines with a field changed.
+#[test]
+fn natural_soundness() {
+    let mut prng = Prng::new(5);
+    let mut sound = [0, 0];
+    for _ in 0..40_000 {
+        let mut engine = make::unreached(&mut prng).engine(Fault::None).expect("sound tables");
+        assert!(natural::sound(&engine));
+        change(&mut prng, &mut engine);
+        let raw = Raw::of(&engine).sound();
+        assert_eq!(natural::sound(&engine), raw, "{:?}", engine);
+        sound[usize::from(raw)] += 1;
+    }
+    assert!(sound[0] > 5_000 && sound[1] > 5_000);
+}
+
+/// One field of an engine, to a value that the raw form has too.
+fn change(prng: &mut Prng, engine: &mut Engine) {
+    let p = prng.between(1, 32) as usize;
+    let holder = prng.pick(&[Holder::Free, Holder::Global, Holder::System, Holder::Program(p)]);
+    let number = prng.pick(&[0, 1, 15, 16, 17, 255, 256, 257]);
+    let whys = [
+        Why::Nothing,
+        Why::Number,
+        Why::Tracks(number),
+        Why::Lock(number as usize),
+        Why::Son(number as usize),
+        Why::Son(p),
+        Why::Son(p),
+    ];
+    let clock = engine.clock;
+    match prng.below(6) {
+        0 => engine.clock = prng.pick(&[0, clock + 1, 1_000_000_000_000, 1_000_000_000_001]),
+        1 => engine.system = prng.pick(&[0, 1, engine.system + 1, 256, 257]),
+        2 => {
+            let place = prng.below(engine.t()) as usize;
+            engine.tracks[place] = holder;
+        }
+        3 if engine.r() > 0 => {
+            let place = prng.below(engine.r()) as usize;
+            engine.numbers[place].owner = holder;
+            engine.numbers[place].lock = prng.pick(&[None, Some(p), engine.numbers[place].lock]);
+        }
+        _ => {
+            let other = engine.programs.values().next().map(|program| program.name);
+            if let Some(program) = engine.programs.get_mut(&p) {
+                match prng.below(6) {
+                    0 => program.name[prng.below(5) as usize] = prng.pick(b" A1a"),
+                    1 => program.name = other.unwrap_or(program.name),
+                    2 => program.priority = prng.pick(&[0, 32_767, 32_768]),
+                    3 => program.state = prng.below(8) as u8,
+                    4 => program.why = prng.pick(&whys),
+                    _ => {
+                        let last = clock + 1_474_200_000;
+                        // A due of 0 is no timer in the raw form.
+                        let due = prng.pick(&[clock.max(1), clock + 1, last, last + 1]);
+                        let interval = prng.pick(&[0, 1_474_200_000, 1_474_200_001]);
+                        program.timer = Some(Timer { due, interval, setting: 0 });
+                    }
+                }
+            }
+        }
+    }
+}
+
+/// With the test and without it the engine prints what `sheet` prints.
+#[test]
+fn natural_run() {
+    let mut texts: Vec<Vec<u8>> = (1..40).map(|seed| generate(seed, 100)).collect();
+    texts.extend(["", "\n", "\n\n", "PAGE", "PAGE\n", "PAGE\n\n"].map(|text| text.into()));
+    for text in texts {
+        let mut out = vec![7];
+        for tested in [true, false] {
+            natural::run(&text, &mut out, tested);
+            assert_eq!(out, sheet(&text, Fault::None));
+        }
+    }
+}
+
+/// The texts that are timed do what their names say.
+#[test]
+fn loads() {
+    let printed = |text: &[u8]| sheet(text, Fault::None);
+    let times = |out: &[u8], wanted: &str| {
+        lines(out).iter().filter(|line| **line == wanted.as_bytes()).count()
+    };
+    assert_eq!(lines(&load::mixed(1_100)).len(), 1_100);
+    let claims = printed(&load::claims(256, 2_000));
+    let refused = times(&claims, "answer=8,value=0");
+    assert!(refused > 800 && refused < 900, "{}", refused);
+    // The last free track, once in the opening and then once in each of six rounds.
+    assert_eq!(times(&claims, "answer=0,value=254"), 7);
+    let pages = printed(&load::pages(1_000));
+    let count = times(&pages, "page=rte2");
+    let held = lines(&pages).iter().filter(|line| line.starts_with(b"held=")).count();
+    assert_eq!((times(&pages, "programs=32"), held), (count, 256 * count));
+    assert!(count > 500 && times(&pages, "number=16:global:1") == count);
+    let ticks = printed(&load::ticks(1_000));
+    assert_eq!(lines(&ticks).iter().filter(|line| !line.starts_with(b"answer=0")).count(), 0);
+    for n in [1, 8, 16, 32] {
+        let out = printed(&load::by_programs(n, 1_000));
+        assert!(lines(&out).iter().all(|line| line.starts_with(b"answer=0")));
+    }
+    for n in [16, 64, 256] {
+        let out = printed(&load::by_tracks(n, 2_000));
+        assert!(times(&out, "answer=8,value=0") > 800);
+    }
+}
