@@ -1,0 +1,97 @@
+-- Laws of an answer as bytes: five numbers of eight bytes each, and which five an answer's values are.
+-- Assumes nothing.
+use Prim.Native.Nat.{ℕ, _*_}
+use native.Mathlib.Omega.{arith}
+use mathlib.Core.Path.{_≡_, refl, sym, ap₂}
+use mathlib.Core.List.{List, [], _∷_, _++_, map}
+use lib.ListN.{length, getD, take, replicate}
+use denote.Enum.Declared.{tagOf}
+use types.Run.{OneOf, miss}
+use Rattle.lists.specs.Lists.{join}
+use Rattle.text.specs.Inner.{Wrote}
+use Rattle.text.proofs.Laws.{parts-start, parts-step, parts-end, wrote-then}
+use Rattle.page.proofs.Writing.{wrote-as}
+use Rattle.rules.specs.declared.Answer.{Answer}
+use Rattle.rules.specs.declared.Answer.the-variants.{Done, Told, Waits, NoCaller, NotAllowed, NoProgram, WrongState, NameInUse, AllUsed, NoRoom, NotHolder, NotAllocated, AtCeiling, TooShort, NotUnderstood, NotSound}
+use Rattle.rules.specs.Answers.{number, values}
+use Rattle.rules.proofs.Answer.{the-type}
+use Rattle.board.specs.Packed.{inBytes}
+use Rattle.board.specs.Board.{figures}
+
+-- an answer that holds nothing has the value 0; the places of such answers among all
+abbrev bare : List ℕ
+bare = 3 ∷ 4 ∷ 5 ∷ 7 ∷ 8 ∷ 9 ∷ 10 ∷ 11 ∷ 12 ∷ 14 ∷ 15 ∷ []
+
+pub first-none : (a : Answer) → OneOf bare (tagOf the-type a) → 0 ≡ getD (values a) 0 0
+first-none (Done v) h = absurd (miss bare 0 tt h)
+first-none (Told t) h = absurd (miss bare 1 tt h)
+first-none (Waits s) h = absurd (miss bare 2 tt h)
+first-none NoCaller h = refl
+first-none NotAllowed h = refl
+first-none NoProgram h = refl
+first-none (WrongState s) h = absurd (miss bare 6 tt h)
+first-none NameInUse h = refl
+first-none AllUsed h = refl
+first-none NoRoom h = refl
+first-none NotHolder h = refl
+first-none NotAllocated h = refl
+first-none AtCeiling h = refl
+first-none (TooShort n) h = absurd (miss bare 13 tt h)
+first-none NotUnderstood h = refl
+first-none NotSound h = refl
+
+-- the five numbers; of an answer that is no time the first is its value, and the others are 0
+abbrev pub five : Answer → List ℕ
+five a = take 5 (values a ++ replicate {A = ℕ} 5 0)
+
+abbrev timeless : List ℕ
+timeless = 0 ∷ 2 ∷ 3 ∷ 4 ∷ 5 ∷ 6 ∷ 7 ∷ 8 ∷ 9 ∷ 10 ∷ 11 ∷ 12 ∷ 13 ∷ 14 ∷ 15 ∷ []
+
+pub five-one : (a : Answer) → OneOf timeless (tagOf the-type a) → five a ≡ getD (values a) 0 0 ∷ 0 ∷ 0 ∷ 0 ∷ 0 ∷ []
+five-one (Done v) h = refl
+five-one (Told t) h = absurd (miss timeless 1 tt h)
+five-one (Waits s) h = refl
+five-one NoCaller h = refl
+five-one NotAllowed h = refl
+five-one NoProgram h = refl
+five-one (WrongState s) h = refl
+five-one NameInUse h = refl
+five-one AllUsed h = refl
+five-one NoRoom h = refl
+five-one NotHolder h = refl
+five-one NotAllocated h = refl
+five-one AtCeiling h = refl
+five-one (TooShort n) h = refl
+five-one NotUnderstood h = refl
+five-one NotSound h = refl
+
+-- five writes, and those behind that of the answer's number
+pub five-wrote : {l₀ l₁ l₂ l₃ l₄ l₅ : List ℕ} {at₀ at₁ at₂ at₃ at₄ at₅ : ℕ} (a b c d e : ℕ) → Wrote l₀ at₀ (inBytes 8 a) l₁ at₁ → Wrote l₁ at₁ (inBytes 8 b) l₂ at₂
+    → Wrote l₂ at₂ (inBytes 8 c) l₃ at₃ → Wrote l₃ at₃ (inBytes 8 d) l₄ at₄ → Wrote l₄ at₄ (inBytes 8 e) l₅ at₅
+    → Wrote l₀ at₀ (join (map (inBytes 8) (a ∷ b ∷ c ∷ d ∷ e ∷ []))) l₅ at₅
+five-wrote a b c d e v w x y z =
+    parts-end (parts-step (parts-step (parts-step (parts-step (parts-step (parts-start (map (inBytes 8) (a ∷ b ∷ c ∷ d ∷ e ∷ []))) v) w) x) y) z)
+
+pub figures-wrote : {l₀ l₁ l₂ : List ℕ} {at₀ at₁ at₂ : ℕ} (a : Answer) (n : ℕ) (vs : List ℕ) → n ≡ number a → vs ≡ five a
+    → Wrote l₀ at₀ (inBytes 8 n) l₁ at₁ → Wrote l₁ at₁ (join (map (inBytes 8) vs)) l₂ at₂ → Wrote l₀ at₀ (figures (number a) (values a)) l₂ at₂
+unfolding figures
+figures-wrote a n vs e f v w =
+    wrote-as (ap₂ (λ (k : ℕ) (xs : List ℕ). join (map (inBytes 8) (k ∷ xs))) (sym e) (sym f)) (wrote-then (inBytes 8 n) (join (map (inBytes 8) vs)) v w)
+
+-- a number of eight bytes, and five more
+five-long : (vs : List ℕ) → length (take 5 (vs ++ replicate {A = ℕ} 5 0)) ≡ 5
+five-long [] = refl
+five-long (a ∷ []) = refl
+five-long (a ∷ b ∷ []) = refl
+five-long (a ∷ b ∷ c ∷ []) = refl
+five-long (a ∷ b ∷ c ∷ d ∷ []) = refl
+five-long (a ∷ b ∷ c ∷ d ∷ e ∷ vs) = refl
+
+longs-length : (vs : List ℕ) → length (join (map (inBytes 8) vs)) ≡ 8 * length vs
+longs-length [] = refl
+longs-length (v ∷ vs) = omega (arith, longs-length vs)
+
+pub figures-length : (a : ℕ) (vs : List ℕ) → length (figures a vs) ≡ 48
+unfolding figures
+figures-length a vs =
+    omega (arith, longs-length (a ∷ take 5 (vs ++ replicate {A = ℕ} 5 0)), five-long vs)

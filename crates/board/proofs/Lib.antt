@@ -1,0 +1,9 @@
+pub mod Figures
+pub mod Fills
+pub mod Pieces
+pub mod Lossless
+pub mod Answered
+pub mod Agreed
+pub mod Lines
+pub mod Whole
+pub mod Running

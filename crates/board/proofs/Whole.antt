@@ -1,0 +1,100 @@
+-- A buffer that is long enough for the whole output of some lines holds it whole; and what is put never goes past the buffer's end.
+-- Assumes nothing.
+use Prim.Native.Nat.{ℕ, _+_, _-_, _<_, _≤_}
+use native.Mathlib.Omega.{arith}
+use mathlib.Core.Path.{_≡_, refl, ap, _∙_}
+use mathlib.Core.Bool.{Bool, true, false}
+use mathlib.Core.List.{List, [], _∷_, _++_}
+use lib.Dec.{leb}
+use lib.ListN.{length, length-append}
+use borrow.Author.Tests.{leb-true, le-leb, lt-leb}
+use Rattle.tables.specs.declared.Tables.{Tables}
+use Rattle.tables.specs.Tables.{smallest}
+use Rattle.page.specs.Paging.{front}
+use Rattle.console.specs.Line.{lineOf}
+use Rattle.console.specs.Console.{keyed}
+use Rattle.console.specs.Sheet.{lent, shown, linesOf, printed, sheet}
+use Rattle.board.specs.Board.{longest, filled, ran}
+
+-- what a line prints, and the tables after it
+abbrev pub bytesOf : Tables → List ℕ → List ℕ
+bytesOf t l = shown (lineOf l) t (keyed t l lent)
+
+abbrev pub after : Tables → List ℕ → Tables
+after t l = keyed t l lent .tables
+
+-- the first of some lines, and the others
+pub printed-first : (t : Tables) (l : List ℕ) (ls : List (List ℕ)) → printed t (l ∷ ls) ≡ bytesOf t l ++ printed (after t l) ls
+unfolding printed
+printed-first t l ls = refl
+
+pub printed-length : (t : Tables) (l : List ℕ) (ls : List (List ℕ)) → length (printed t (l ∷ ls)) ≡ length (bytesOf t l) + length (printed (after t l) ls)
+printed-length t l ls = ap length (printed-first t l ls) ∙ length-append (bytesOf t l) (printed (after t l) ls)
+
+pub printed-none : (t : Tables) → length (printed t []) ≡ 0
+unfolding printed
+printed-none t = refl
+
+module _ (t : Tables) (l : List ℕ) (ls : List (List ℕ)) (n : ℕ) where
+  abbrev others : List ℕ
+  others = filled (after t l) ls (n - length (bytesOf t l))
+
+  by-room : (b : Bool) → leb (length (bytesOf t l)) n ≡ b → filled t (l ∷ ls) n ≡ elim b [ true ↦ bytesOf t l ++ others | false ↦ [] ]
+  unfolding filled
+  by-room b e = ap (λ (x : Bool). elim x [ true ↦ bytesOf t l ++ others | false ↦ [] ]) e
+
+  pub filled-fits : length (bytesOf t l) ≤ n → filled t (l ∷ ls) n ≡ bytesOf t l ++ others
+  filled-fits h = by-room true (le-leb (length (bytesOf t l)) n h)
+
+  pub filled-over : n < length (bytesOf t l) → filled t (l ∷ ls) n ≡ []
+  filled-over h = by-room false (lt-leb (length (bytesOf t l)) n h)
+
+pub filled-none : (t : Tables) (n : ℕ) → filled t [] n ≡ []
+unfolding filled
+filled-none t n = refl
+
+-- no more is put than there is room for
+pub filled-most : (t : Tables) (ls : List (List ℕ)) (n : ℕ) → length (filled t ls n) ≤ n
+filled-most t [] n = rw (filled-none t n) (omega arith)
+filled-most t (l ∷ ls) n = go (leb (length (bytesOf t l)) n) refl (filled-most (after t l) ls (n - length (bytesOf t l)))
+  where
+    go : (b : Bool) → leb (length (bytesOf t l)) n ≡ b → length (filled (after t l) ls (n - length (bytesOf t l))) ≤ n - length (bytesOf t l) → length (filled t (l ∷ ls) n) ≤ n
+    go true e ih =
+        omega (
+          arith,
+          ap length (by-room t l ls n true e),
+          length-append (bytesOf t l) (filled (after t l) ls (n - length (bytesOf t l))),
+          leb-true (length (bytesOf t l)) n e,
+        )
+    go false e ih = omega (arith, ap length (by-room t l ls n false e))
+
+-- with room for all of it, all of it is put
+pub filled-all : (t : Tables) (ls : List (List ℕ)) (n : ℕ) → length (printed t ls) ≤ n → filled t ls n ≡ printed t ls
+unfolding printed
+filled-all t [] n h = filled-none t n
+filled-all t (l ∷ ls) n h =
+    let both = printed-length t l ls in
+    filled-fits t l ls n (omega arith)
+    ∙ ap (λ (r : List ℕ). bytesOf t l ++ r) (filled-all (after t l) ls (n - length (bytesOf t l)) (omega arith))
+
+-- a whole text
+module _ (s out : List ℕ) where
+  abbrev put : List ℕ
+  put = filled smallest (linesOf s) (length out)
+
+  by-size : (b : Bool) → leb (length s) longest ≡ b
+      → ran s out ≡ elim b [ true ↦ record { length = length (sheet s); buffer = front put out } | false ↦ record { length = 0; buffer = out } ]
+  unfolding ran
+  by-size b e = ap (λ (x : Bool). elim x [ true ↦ record { length = length (sheet s); buffer = front put out } | false ↦ record { length = 0; buffer = out } ]) e
+
+  pub ran-over : longest < length s → ran s out ≡ record { length = 0; buffer = out }
+  ran-over h = by-size false (lt-leb (length s) longest h)
+
+  pub ran-put : length s ≤ longest → ran s out ≡ record { length = length (sheet s); buffer = front put out }
+  ran-put h = by-size true (le-leb (length s) longest h)
+
+  -- a buffer that is long enough begins with all that `sheet` prints
+  pub ran-whole : length s ≤ longest → length (sheet s) ≤ length out → ran s out ≡ record { length = length (sheet s); buffer = front (sheet s) out }
+  unfolding sheet
+  ran-whole h room =
+      ran-put h ∙ ap (λ (x : List ℕ). record { length = length (sheet s); buffer = front x out }) (filled-all smallest (linesOf s) (length out) room)

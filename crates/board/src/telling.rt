@@ -1,0 +1,58 @@
+// An answer as bytes: its number and five values, each in 8 bytes.
+ghost use mathlib.Core.Path.{_≡_};
+ghost use Prim.Native.Nat.{_+_, _≤_};
+ghost use mathlib.Core.List.{[], _∷_, map};
+ghost use lib.ListN.{length, getD};
+ghost use Rattle.lists.specs.Lists.{join};
+ghost use Rattle.text.specs.Inner.{Wrote};
+ghost use Rattle.rules.specs.Answers.{number, values};
+ghost use Rattle.board.specs.Packed.{inBytes};
+ghost use Rattle.board.specs.Board.{figures};
+use super::pack;
+use rules::Answer;
+
+// The value of an answer, the day of one that is a time.
+fn first_value(answer: Answer) -> u64
+    ensures { λ r. ⌜ r ≡ getD (values answer) 0 0 ⌝ }
+{
+    match answer {
+        Answer::Done(v) => v,
+        Answer::Told(t) => t.day,
+        Answer::Waits(s) => s as u64,
+        Answer::WrongState(s) => s as u64,
+        Answer::TooShort(n) => n,
+        Answer::NoCaller
+        | Answer::NotAllowed
+        | Answer::NoProgram
+        | Answer::NameInUse
+        | Answer::AllUsed
+        | Answer::NoRoom
+        | Answer::NotHolder
+        | Answer::NotAllocated
+        | Answer::AtCeiling
+        | Answer::NotUnderstood
+        | Answer::NotSound => 0,
+    }
+}
+
+fn put_five(buf: &mut [u8], at: usize, a: u64, b: u64, c: u64, d: u64, e: u64) -> usize
+    requires { ⌜ at + 40 ≤ length (now buf) ⌝ }
+    ensures { λ r. ⌜ Wrote (now (buf .entry)) at (join (map (inBytes 8) (a ∷ b ∷ c ∷ d ∷ e ∷ []))) (now (buf .exit)) r ⌝ }
+{
+    let i = pack::put_long(buf, at, a);
+    let j = pack::put_long(buf, i, b);
+    let k = pack::put_long(buf, j, c);
+    let l = pack::put_long(buf, k, d);
+    pack::put_long(buf, l, e)
+}
+
+pub(crate) fn put_figures(buf: &mut [u8], answer: Answer) -> usize
+    requires { ⌜ length (now buf) ≡ 48 ⌝ }
+    ensures { λ r. ⌜ Wrote (now (buf .entry)) 0 (figures (number answer) (values answer)) (now (buf .exit)) r ⌝ }
+{
+    let at = pack::put_long(buf, 0, console::number_of(answer));
+    if let Answer::Told(t) = answer {
+        return put_five(buf, at, t.day, t.hour, t.minute, t.second, t.hundredth);
+    }
+    put_five(buf, at, first_value(answer), 0, 0, 0, 0)
+}
