@@ -13,19 +13,9 @@ use Rattle.records.specs.declared.Resource.{Resource}
 use Rattle.records.specs.Records.{all, missing, recordAt}
 use Rattle.records.specs.Numbers.{free, numberAt}
 use Rattle.records.proofs.Find.{at-place}
-use Rattle.records.proofs.Search.{span, span-all}
+use Rattle.records.proofs.Search.{span, span-all, span-next, span-none}
 use Rattle.page.specs.Page.{recorded, numberLine}
 use Rattle.page.specs.Inner.{usedIn, recordLines, numberLines}
-
--- a span is its first number and the span behind it
-step : (p q n m : ℕ) → n ≡ suc m → q ≡ suc p → from p n ≡ p ∷ from q m
-step p q n m e f = rw (e, f)
-
-span-next : (p n : ℕ) → p ≤ n → span p n ≡ p ∷ span (p + 1) n
-span-next p n h = step p (p + 1) (n + 1 - p) (n + 1 - (p + 1)) (omega arith) (omega arith)
-
-span-none : (p n : ℕ) → n < p → span p n ≡ []
-span-none p n h = let e : n + 1 - p ≡ 0 = omega arith in rw e
 
 -- the used records from p on, and their lines
 abbrev pub usedFrom : List Program → ℕ → List ℕ

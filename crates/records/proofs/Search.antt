@@ -17,10 +17,10 @@ span-all n = let e : n + 1 - 1 ≡ n = omega arith in rw e
 step : (p q n m : ℕ) → n ≡ suc m → q ≡ suc p → from p n ≡ p ∷ from q m
 step p q n m e f = rw (e, f)
 
-span-next : (p n : ℕ) → p ≤ n → span p n ≡ p ∷ span (p + 1) n
+pub span-next : (p n : ℕ) → p ≤ n → span p n ≡ p ∷ span (p + 1) n
 span-next p n h = step p (p + 1) (n + 1 - p) (n + 1 - (p + 1)) (omega arith) (omega arith)
 
-span-none : (p n : ℕ) → n < p → span p n ≡ []
+pub span-none : (p n : ℕ) → n < p → span p n ≡ []
 span-none p n h = let e : n + 1 - p ≡ 0 = omega arith in rw e
 
 module _ (f : ℕ → Bool) (p n : ℕ) (h : p ≤ n) where

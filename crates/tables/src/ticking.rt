@@ -65,6 +65,10 @@ impl Tables {
         let mut p: u8 = 1;
         while p <= 32 {
             let r = self.record(p);
+            if r.due != now {
+                p += 1;
+                continue;
+            }
             n += starts(r, now);
             t = t.ticked(p, r, now);
             p += 1;

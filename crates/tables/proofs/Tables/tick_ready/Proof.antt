@@ -1,10 +1,11 @@
 -- `tables::Tables::tick_ready` meets its contract. The loop's invariant: what those from p on have still to do, done to the tables as they are, is what all have to do.
 -- The measure is what is left of the programs.
 -- Assumes nothing.
-use Prim.Native.Nat.{_+_, _-_}
+use Prim.Native.Nat.{ℕ, _+_, _-_}
+use native.Mathlib.Nat.{add-zero}
 use native.Mathlib.Omega.{arith}
-use mathlib.Core.Path.{refl}
-use Rattle.tables.proofs.Ticks.{Ticking, ticking-start, ticking-step, tick-ceiling, tick-done, due-fits, starts-few}
+use mathlib.Core.Path.{refl, subst}
+use Rattle.tables.proofs.Ticks.{Ticking, ticking-start, ticking-step, tick-ceiling, tick-done, due-fits, starts-few, starts-later, not-due}
 use borrow.Author.Needs.{needs}
 use Rattle.tables.proofs.Tables.tick_ready.Statement.{statement}
 use Rattle.tables.proofs.Tables.tick_ready.Tie as tie
@@ -33,12 +34,29 @@ loop-holds c = let s = c .before .before .before in ticking-start (s .args .self
 record-requires : tie.Need-record-requires Inv-loop μ-loop
 record-requires c κs = (c .before .loop .inv .low, c .loop-test .taken)
 
+add-p : tie.Need-add-p Inv-loop μ-loop
+add-p c = omega (arith, c .before .before .before .loop-test .taken)
+
+loop-less : tie.Need-loop-less Inv-loop μ-loop
+loop-less c = omega (arith, c .before .before .before .loop-test .taken)
+
+-- a program that is not due: nothing is done for it
+loop-again : tie.Need-loop-again Inv-loop μ-loop
+loop-again c =
+    let r = c .before .before in
+    let i = r .before in
+    let l = i .before in
+    let s = l .before .before .before .before in
+    subst (λ (m : ℕ). Ticking (s .args .self) (l .loop .t) m (l .loop .p + 1)) (add-zero (l .loop .n))
+    (ticking-step (s .args .self) _ _ _ _ (r .«record» .result) refl (r .«record» .ensures) (l .loop .inv) (i .loop-test .taken) 0 (l .loop .t)
+    (starts-later (r .«record» .result) _ (c .if2 .taken)) (not-due (l .loop .t) (l .loop .p) (r .«record» .result) _ (l .loop .inv .orderly) (c .if2 .taken)))
+
 starts-requires : tie.Need-starts-requires Inv-loop μ-loop
 starts-requires c κs = search needs
 
 add-n : tie.Need-add-n Inv-loop μ-loop
 add-n c =
-    let r = c .before in
+    let r = c .before .before .before in
     let l = r .before .before in
     let s = l .before .before .before .before in
     omega (
@@ -50,7 +68,7 @@ add-n c =
 
 ticked-requires : tie.Need-ticked-requires Inv-loop μ-loop
 ticked-requires c κs =
-    let r = c .before in
+    let r = c .before .before .before in
     let i = r .before in
     let l = i .before in
     let e = l .before .before in
@@ -61,16 +79,16 @@ ticked-requires c κs =
       fits = due-fits (s .args .self) _ (r .«record» .result) (s .pre) (l .loop .inv .low, i .loop-test .taken) (r .«record» .ensures) (e .if1 .left);
     }
 
-add-p : tie.Need-add-p Inv-loop μ-loop
-add-p c = let i = c .before .before .before in omega (arith, i .loop-test .taken)
+add-p-2 : tie.Need-add-p-2 Inv-loop μ-loop
+add-p-2 c = let i = c .before .before .before .before .before in omega (arith, i .loop-test .taken)
 
-loop-less : tie.Need-loop-less Inv-loop μ-loop
-loop-less c = let i = c .before .before .before in omega (arith, i .loop-test .taken)
+loop-less-2 : tie.Need-loop-less-2 Inv-loop μ-loop
+loop-less-2 c = let i = c .before .before .before .before .before in omega (arith, i .loop-test .taken)
 
-loop-again : tie.Need-loop-again Inv-loop μ-loop
-loop-again c =
+loop-again-2 : tie.Need-loop-again-2 Inv-loop μ-loop
+loop-again-2 c =
     let k = c .before in
-    let r = k .before in
+    let r = k .before .before .before in
     let i = r .before in
     let l = i .before in
     let s = l .before .before .before .before in
@@ -84,4 +102,4 @@ returns-2 c =
     tick-done (e .before .before .args .self) (l .loop .n) (l .loop .p) (l .loop .t) (e .if1 .left) (l .loop .inv) (c .loop-test .left)
 
 pub tick-ready-spec : {M : Type 1} → statement M
-tick-ready-spec = tie.close (tie.spec Inv-loop μ-loop refused-requires returns add-now clocked-requires loop-holds record-requires starts-requires add-n ticked-requires add-p loop-less loop-again returns-2)
+tick-ready-spec = tie.close (tie.spec Inv-loop μ-loop refused-requires returns add-now clocked-requires loop-holds record-requires add-p loop-less loop-again starts-requires add-n ticked-requires add-p-2 loop-less-2 loop-again-2 returns-2)
