@@ -88,12 +88,25 @@ impl Tracks {
         ensures { λ r. ⌜ foundIs r ≡ lowest n 0 (holders self) ⌝ }
     {
         let end = wide(self.count);
+        if end == 0 {
+            return Found::Nothing;
+        }
+        if n == 0 {
+            return Found::At(0);
+        }
+        // tracks `start` to i - 1 are free, and fewer than n
         let mut start: usize = 0;
-        while start < end {
-            if self.run_at(Tracks::FREE, start, n) {
+        let mut i: usize = 0;
+        while i < end {
+            if self.holders[i] != Tracks::FREE {
+                start = i + 1;
+                i += 1;
+                continue;
+            }
+            i += 1;
+            if n <= i - start {
                 return Found::At(start);
             }
-            start += 1;
         }
         Found::Nothing
     }

@@ -1,42 +1,47 @@
--- `tracks::Tracks::lowest_run` meets its contract. The loop's invariant: the search from the track reached answers what the whole search does. The measure is the tracks left.
+-- `tracks::Tracks::lowest_run` meets its contract. The loop's invariant: what one pass knows at track i (`Sought`). The measure is the tracks left.
 -- Assumes nothing.
 use Prim.Native.Nat.{_-_}
 use native.Mathlib.Omega.{arith}
 use borrow.Author.Needs.{needs}
-use mathlib.Core.Path.{_≡_, refl, sym, _∙_}
-use mathlib.Core.Bool.{true, false}
-use lib.ListN.{length, drop}
-use Rattle.tracks.specs.Tracks.{holders, lowest}
-use Rattle.tracks.proofs.Turns.{lowest-past, lowest-turn}
+use mathlib.Core.Path.{sym}
+use lib.Seq.{getD-take}
+use Rattle.tracks.specs.Tracks.{nobody, holders}
+use Rattle.tracks.proofs.OnePass.{Sought, sought-first, sought-held, sought-free, sought-found, sought-none, lowest-empty, lowest-zero}
 use Rattle.tracks.proofs.Tracks.lowest_run.Statement.{statement}
 use Rattle.tracks.proofs.Tracks.lowest_run.Tie as tie
 
 abbrev Inv-loop : tie.InvT-loop
-Inv-loop self n end start₀ start =
-    (length (holders self) ≡ self .count) × (lowest n 0 (holders self) ≡ lowest n start (drop start (holders self)))
+Inv-loop n self end start₀ i₀ start i = Sought n (holders self) start i
 
 abbrev μ-loop : tie.MeasureT-loop
-μ-loop self n end start₀ start = end - start
+μ-loop n self end start₀ i₀ start i = end - i
 
 wide-requires : tie.Need-wide-requires Inv-loop μ-loop
 wide-requires c κs = search needs
 
-loop-holds : tie.Need-loop-holds Inv-loop μ-loop
-loop-holds c = (c .before .pre .long, refl)
-
-run-at-requires : tie.Need-run-at-requires Inv-loop μ-loop
-run-at-requires c κs = search needs
-
 returns : tie.Need-returns Inv-loop μ-loop
 returns c =
-    let l = c .before .before .before in
-    let s = l .before .before in
-    sym
-    (l .loop .inv .1
-    ∙ lowest-turn true (s .args .n) (l .loop .start) (holders (s .args .self)) (omega arith) (sym (c .before .run-at .ensures) ∙ c .if1 .taken))
+    let s = c .before .before in
+    sym (lowest-empty (s .args .n) (holders (s .args .t1)) (omega (arith, s .pre .long)))
+
+returns-2 : tie.Need-returns-2 Inv-loop μ-loop
+returns-2 c =
+    let s = c .before .before .before in
+    sym (lowest-zero (s .args .n) (holders (s .args .t1)) (omega arith) (omega (arith, s .pre .long)))
+
+loop-holds : tie.Need-loop-holds Inv-loop μ-loop
+loop-holds c =
+    let s = c .before .before .before in
+    sought-first (s .args .n) (holders (s .args .t1)) (omega arith)
+
+element-copy-out-if3 : tie.Need-element-copy-out-if3 Inv-loop μ-loop
+element-copy-out-if3 c = omega arith
 
 add-start : tie.Need-add-start Inv-loop μ-loop
 add-start c = search needs
+
+add-i : tie.Need-add-i Inv-loop μ-loop
+add-i c = search needs
 
 loop-less : tie.Need-loop-less Inv-loop μ-loop
 loop-less c = search needs
@@ -44,17 +49,41 @@ loop-less c = search needs
 loop-again : tie.Need-loop-again Inv-loop μ-loop
 loop-again c =
     let l = c .before .before .before in
-    let s = l .before .before in (
-      l .loop .inv .0,
-      l .loop .inv .1
-          ∙ lowest-turn false (s .args .n) (l .loop .start) (holders (s .args .self)) (omega arith) (sym (c .before .run-at .ensures) ∙ c .if1 .left),
-    )
+    let s = l .before .before .before .before in
+    let t = s .args .t1 in
+    let is = getD-take (t .count) (t .holders) (l .loop .i) nobody (omega arith) in
+    sought-held (s .args .n) (holders t) (l .loop .start) (l .loop .i) (l .loop .inv) (λ e. omega arith)
 
-returns-2 : tie.Need-returns-2 Inv-loop μ-loop
-returns-2 c =
+add-i-2 : tie.Need-add-i-2 Inv-loop μ-loop
+add-i-2 c = search needs
+
+sub-if4 : tie.Need-sub-if4 Inv-loop μ-loop
+sub-if4 c = search needs
+
+returns-3 : tie.Need-returns-3 Inv-loop μ-loop
+returns-3 c =
+    let l = c .before .before .before .before in
+    let s = l .before .before .before .before in
+    let t = s .args .t1 in
+    let is = getD-take (t .count) (t .holders) (l .loop .i) nobody (omega arith) in
+    sym (sought-found (s .args .n) (holders t) (l .loop .start) (l .loop .i) (l .loop .inv) (omega arith) (omega (arith, s .pre .long)) (omega arith))
+
+loop-less-2 : tie.Need-loop-less-2 Inv-loop μ-loop
+loop-less-2 c = search needs
+
+loop-again-2 : tie.Need-loop-again-2 Inv-loop μ-loop
+loop-again-2 c =
+    let l = c .before .before .before .before in
+    let s = l .before .before .before .before in
+    let t = s .args .t1 in
+    let is = getD-take (t .count) (t .holders) (l .loop .i) nobody (omega arith) in
+    sought-free (s .args .n) (holders t) (l .loop .start) (l .loop .i) (l .loop .inv) (omega arith) (omega arith)
+
+returns-4 : tie.Need-returns-4 Inv-loop μ-loop
+returns-4 c =
     let l = c .before in
-    let s = l .before .before in
-    sym (l .loop .inv .1 ∙ lowest-past (s .args .n) (l .loop .start) (holders (s .args .self)) (omega arith))
+    let s = l .before .before .before .before in
+    sym (sought-none (s .args .n) (holders (s .args .t1)) (l .loop .start) (l .loop .i) (l .loop .inv) (omega (arith, s .pre .long)))
 
 pub lowest-run-spec : {M : Type 1} → statement M
 lowest-run-spec =
@@ -63,10 +92,17 @@ lowest-run-spec =
     Inv-loop
     μ-loop
     wide-requires
-    loop-holds
-    run-at-requires
     returns
+    returns-2
+    loop-holds
+    element-copy-out-if3
     add-start
+    add-i
     loop-less
     loop-again
-    returns-2)
+    add-i-2
+    sub-if4
+    returns-3
+    loop-less-2
+    loop-again-2
+    returns-4)
