@@ -2,7 +2,9 @@ pub mod Agree
 pub mod Releasing
 pub mod Sifting
 pub mod Bools
-pub mod Turns
-pub mod Codes
 pub mod Facts
+pub mod Turns
+pub mod Rows
+pub mod Tallies
+pub mod Codes
 pub mod Whole

@@ -1,146 +1,198 @@
--- What a turn of each loop shows: of a record and its why, of keys, of a track's holder, of a number.
+-- What a turn over the records shows: an unused record that holds zeros is sound, and a why fits where state, reason and son do.
 -- Assumes nothing.
 use Prim.Native.Nat.{ℕ, _+_, _-_, _≤_, _<_}
 use native.Mathlib.Omega.{arith}
-use native.Mathlib.Decide.{ℕ-discrete}
-use mathlib.Core.Path.{_≡_, refl, sym, ap, ap₂, _∙_}
+use mathlib.Core.Path.{_≡_, refl, sym, ap, _∙_}
+use mathlib.Core.Logic.{_≢_}
 use mathlib.Core.Bool.{Bool, true, false, cond, not, _&&_, _||_}
-use mathlib.Core.List.{List}
-use lib.ListN.{length, getD, set}
-use lib.Seq.{getD-set-same, getD-set-other}
-use lib.Dec.{leb, ltb, eqb}
-use borrow.Author.Tests.{eqb-true, le-leb}
-use Rattle.lists.proofs.Tests.{clash, both, and}
+use mathlib.Core.List.{List, [], _∷_}
+use lib.ListN.{length, getD}
+use lib.Dec.{leb, eqb}
+use borrow.Author.Tests.{eqb-true, eqb-false, ne-eqb, not-true}
+use Rattle.lists.specs.Lists.{alike, upTo}
+use Rattle.lists.proofs.Tests.{false-true, clash, both, and}
 use Rattle.records.specs.declared.Program.{Program}
-use Rattle.records.specs.declared.Resource.{Resource}
 use Rattle.records.specs.declared.Why.{Why}
 use Rattle.records.specs.declared.Why.the-variants.{Nothing, Tracks, Son, Lock, Number}
-use Rattle.records.specs.Records.{known, missing}
-use Rattle.tracks.specs.Tracks.{nobody, system}
-use Rattle.rules.specs.Book.{Book, at}
+use Rattle.records.specs.Names.{legal}
+use Rattle.records.specs.Records.{known, missing, unused}
+use Rattle.rules.specs.Book.{Book, at, stateOf}
 use Rattle.rules.specs.Sound.{suits}
-use Rattle.rules.specs.Test.{sonOf}
+use Rattle.rules.specs.Test.{nothing, sonOf, zeros}
 use Rattle.rules.proofs.Places.{known-true}
+use Rattle.rules.proofs.Agree.{yes-or-no}
 use Rattle.ledger.specs.declared.Ledger.{Ledger}
 use Rattle.ledger.specs.Ledger.{bookOf}
-use Rattle.ledger.specs.Inner.{Tells, Seat, trim, live, stateFits, reasonFits, Records, Keyed, Distinct, Apart, user, placed, counted, owned}
+use Rattle.ledger.specs.Inner.{timed, trim, stateFits, reasonFits, fits, Records, nameKey, sonKey, stateKey, Apart, Roster}
+use Rattle.ledger.proofs.Facts.{trim-is}
 
 -- the record at i
 abbrev pub held : Ledger → ℕ → Program
 held l i = getD (l .programs) i missing
 
--- a test that counts only where another passes
-where-passed : (a b u v : Bool) → (a ≡ true → u ≡ v) → (a && b && u) ≡ (a && b && v)
-where-passed true b u v h = ap (λ (x : Bool). b && x) (h refl)
-where-passed false b u v h = refl
+-- the parts of a record's test
+pub fits-parts : (c T R p : ℕ) (r : Program) → fits c T R p r ≡ true
+    → (trim c r ≡ true) × (stateFits (r .why) (r .state) ≡ true) × (reasonFits T R p (r .why) ≡ true)
+unfolding fits
+fits-parts c T R p r e =
+    let b = both (trim c r && stateFits (r .why) (r .state)) (reasonFits T R p (r .why)) e in
+    let a = both (trim c r) (stateFits (r .why) (r .state)) (b .0) in
+    (a .0, a .1, b .1)
 
-unless-failed : (a u v : Bool) → (a ≡ true → u ≡ v) → (not a || u) ≡ (not a || v)
-unless-failed true u v h = h refl
-unless-failed false u v h = refl
+pub fits-is : (c T R p : ℕ) (r : Program) → trim c r ≡ true → stateFits (r .why) (r .state) ≡ true → reasonFits T R p (r .why) ≡ true → fits c T R p r ≡ true
+unfolding fits
+fits-is c T R p r t s w = and (and t s) w
 
--- at the seat of a program stands its record
-seated : (l : Ledger) (p k : ℕ) → Seat p k → known p ≡ true → held l k ≡ at (bookOf l) p
-seated l p k K h = ap (held l) (K .own (known-true p h))
+pub trim-fails : (c T R p : ℕ) (r : Program) → trim c r ≡ false → false ≡ fits c T R p r
+unfolding fits
+trim-fails c T R p r e = sym (ap (λ (x : Bool). x && stateFits (r .why) (r .state) && reasonFits T R p (r .why)) e)
 
--- a why fits where its state and its reason do
-and-true : (b : Bool) → b ≡ (b && true)
-and-true true = refl
-and-true false = refl
-
-and-false : (b : Bool) → (b && false) ≡ false
-and-false true = refl
-and-false false = refl
-
-turned : (a b n u z : Bool) → ((((a && b) && u) && z) && n) ≡ (a && (b && n && (u && z)))
-turned true true true u z = sym (and-true (u && z))
-turned true true false u z = and-false (u && z)
-turned true false n u z = refl
-turned false b n u z = refl
-
-suits-parts : (b : Book) (p s : ℕ) (w : Why) → suits b p s w ≡ (stateFits w s && reasonFits (b .tracks) (b .numbers) p (live (at b (sonOf w))) w)
-suits-parts b p s Nothing = and-true (eqb s 0 || eqb s 1 || eqb s 6)
-suits-parts b p s (Tracks n) = refl
-suits-parts b p s (Son k) = turned (eqb s 3) (known k) (not (eqb k p)) (at b k .used) (not (eqb (at b k .state) 0))
-suits-parts b p s (Lock r) = refl
-suits-parts b p s Number = and-true (eqb s 3)
-
-reason-seat : (l : Ledger) (p k : ℕ) (w : Why) → Seat (sonOf w) k
-    → reasonFits (l .tracks .count) (l .numbers .count) p (live (held l k)) w ≡ reasonFits (l .tracks .count) (l .numbers .count) p (live (at (bookOf l) (sonOf w))) w
-reason-seat l p k Nothing K = refl
-reason-seat l p k (Tracks n) K = refl
-reason-seat l p k (Son j) K = where-passed (known j) (not (eqb j p)) (live (held l k)) (live (at (bookOf l) j)) (λ h. ap live (seated l j k K h))
-reason-seat l p k (Lock r) K = refl
-reason-seat l p k Number K = refl
-
-module _ (l : Ledger) (i : ℕ) where
-  suits-is : (p k : ℕ) (v : Bool) → p ≡ sonOf (held l i .why) → Seat p k → v ≡ live (held l k)
-      → suits (bookOf l) (i + 1) (held l i .state) (held l i .why)
-      ≡ (stateFits (held l i .why) (held l i .state) && reasonFits (l .tracks .count) (l .numbers .count) (i + 1) v (held l i .why))
-  suits-is p k v e K f =
-      suits-parts (bookOf l) (i + 1) (held l i .state) (held l i .why)
-      ∙ ap (λ (x : Bool). stateFits (held l i .why) (held l i .state) && x)
-      (sym (reason-seat l (i + 1) k (held l i .why) (rw e at K))
-      ∙ ap (λ (x : Bool). reasonFits (l .tracks .count) (l .numbers .count) (i + 1) x (held l i .why)) (sym f))
-
-  pub trim-no : i < 32 → trim (l .clock .ticks) (held l i) ≡ false → Records l → ⊥
-  trim-no h e R = clash ((both (trim (l .clock .ticks) (held l i)) (suits (bookOf l) (i + 1) (held l i .state) (held l i .why)) (R i h)) .0) e
-
-  suits-no : i < 32 → suits (bookOf l) (i + 1) (held l i .state) (held l i .why) ≡ false → Records l → ⊥
-  suits-no h e R = clash ((both (trim (l .clock .ticks) (held l i)) (suits (bookOf l) (i + 1) (held l i .state) (held l i .why)) (R i h)) .1) e
-
-  pub state-no : i < 32 → stateFits (held l i .why) (held l i .state) ≡ false → Records l → ⊥
-  state-no h e =
-      suits-no h (suits-parts (bookOf l) (i + 1) (held l i .state) (held l i .why)
-      ∙ ap (λ (x : Bool). x && reasonFits (l .tracks .count) (l .numbers .count) (i + 1) (live (at (bookOf l) (sonOf (held l i .why)))) (held l i .why)) e)
-
-  module _ (p k : ℕ) (v : Bool) (e : p ≡ sonOf (held l i .why)) (K : Seat p k) (f : v ≡ live (held l k)) (s : stateFits (held l i .why) (held l i .state) ≡ true) where
-    pub reason-no : i < 32 → reasonFits (l .tracks .count) (l .numbers .count) (i + 1) v (held l i .why) ≡ false → Records l → ⊥
-    reason-no h r = suits-no h (suits-is p k v e K f ∙ ap₂ _&&_ s r)
-
-    pub record-yes : trim (l .clock .ticks) (held l i) ≡ true → reasonFits (l .tracks .count) (l .numbers .count) (i + 1) v (held l i .why) ≡ true
-        → (trim (l .clock .ticks) (held l i) && suits (bookOf l) (i + 1) (held l i .state) (held l i .why)) ≡ true
-    record-yes t r = and t (suits-is p k v e K f ∙ and s r)
-
--- one key more
-pub keyed-more : (f : Program → ℕ) (ps : List Program) (ks : List ℕ) (i v : ℕ) → length ks ≡ 32 → i < 32 → ((k : ℕ) → k < i → getD ks k 0 ≡ f (getD ps k missing))
-    → v ≡ f (getD ps i missing) → (k : ℕ) → k < i + 1 → getD (set ks i v) k 0 ≡ f (getD ps k missing)
-keyed-more f ps ks i v l h inv e k m = go (ℕ-discrete k i)
+-- five zeros
+pub unnamed : (xs : List ℕ) → length xs ≡ 5
+    → (eqb (getD xs 0 0) 0 && eqb (getD xs 1 0) 0 && eqb (getD xs 2 0) 0 && eqb (getD xs 3 0) 0 && eqb (getD xs 4 0) 0) ≡ alike xs (unused .name)
+unnamed [] h = absurd (omega arith)
+unnamed (a ∷ []) h = absurd (omega arith)
+unnamed (a ∷ b ∷ []) h = absurd (omega arith)
+unnamed (a ∷ b ∷ c ∷ []) h = absurd (omega arith)
+unnamed (a ∷ b ∷ c ∷ d ∷ []) h = absurd (omega arith)
+unnamed (a ∷ b ∷ c ∷ d ∷ e ∷ []) h = five (eqb a 0) (eqb b 0) (eqb c 0) (eqb d 0) (eqb e 0)
   where
-    go : Dec (k ≡ i) → getD (set ks i v) k 0 ≡ f (getD ps k missing)
-    go (yes w) = rw w (getD-set-same ks i v 0 (omega arith) ∙ e)
-    go (no w) = getD-set-other ks i k v 0 w ∙ inv k (omega (arith, w))
+    five : (a b c d e : Bool) → (a && b && c && d && e) ≡ (a && (b && (c && (d && (e && true)))))
+    five false b c d e = refl
+    five true false c d e = refl
+    five true true false d e = refl
+    five true true true false e = refl
+    five true true true true false = refl
+    five true true true true true = refl
+unnamed (a ∷ b ∷ c ∷ d ∷ e ∷ f ∷ xs) h = absurd (omega arith)
 
--- keys that are distinct are those of records apart, and back
-apart-of : (f : Program → ℕ) (ps : List Program) (ks : List ℕ) → Keyed f ps ks → Distinct ks → Apart f ps
-apart-of f ps ks K D i h n j m o e = D i h (λ z. n (sym (K .each i h) ∙ z)) j m o (K .each j m ∙ e ∙ sym (K .each i h))
+-- no why
+nothing-is : (w : Why) → nothing w ≡ true → w ≡ Nothing
+nothing-is Nothing e = refl
+nothing-is (Tracks n) e = false-true e
+nothing-is (Son k) e = false-true e
+nothing-is (Lock r) e = false-true e
+nothing-is Number e = false-true e
 
-distinct-of : (f : Program → ℕ) (ps : List Program) (ks : List ℕ) → Keyed f ps ks → Apart f ps → Distinct ks
-distinct-of f ps ks K A i h n j m o e = A i h (λ z. n (K .each i h ∙ z)) j m o (sym (K .each j m) ∙ e ∙ K .each i h)
+zeros-why : (r : Program) → zeros r ≡ true → r .why ≡ Nothing
+zeros-why r e =
+    let b5 = both (alike (r .name) (unused .name) && eqb (r .priority) 0 && eqb (r .state) 0 && nothing (r .why) && eqb (r .due) 0) (eqb (r .interval) 0) e in
+    let b4 = both (alike (r .name) (unused .name) && eqb (r .priority) 0 && eqb (r .state) 0 && nothing (r .why)) (eqb (r .due) 0) (b5 .0) in
+    nothing-is (r .why) ((both (alike (r .name) (unused .name) && eqb (r .priority) 0 && eqb (r .state) 0) (nothing (r .why)) (b4 .0)) .1)
 
--- a holder, an owner, a locker, told of by the record at its seat
-user-seat : (l : Ledger) (p k : ℕ) → Seat p k → user p (held l k .used) ≡ user p (at (bookOf l) p .used)
-user-seat l p k K = unless-failed (known p) (held l k .used) (at (bookOf l) p .used) (λ h. ap (λ (r : Program). r .used) (seated l p k K h))
+-- the test of an unused record is that it holds zeros
+zeros-fit : (c T R p : ℕ) (r : Program) → r .used ≡ false → zeros r ≡ true → fits c T R p r ≡ true
+zeros-fit c T R p r u e =
+    let b5 = both (alike (r .name) (unused .name) && eqb (r .priority) 0 && eqb (r .state) 0 && nothing (r .why) && eqb (r .due) 0) (eqb (r .interval) 0) e in
+    let b4 = both (alike (r .name) (unused .name) && eqb (r .priority) 0 && eqb (r .state) 0 && nothing (r .why)) (eqb (r .due) 0) (b5 .0) in
+    let b3 = both (alike (r .name) (unused .name) && eqb (r .priority) 0 && eqb (r .state) 0) (nothing (r .why)) (b4 .0) in
+    let b2 = both (alike (r .name) (unused .name) && eqb (r .priority) 0) (eqb (r .state) 0) (b3 .0) in
+    let b1 = both (alike (r .name) (unused .name)) (eqb (r .priority) 0) (b2 .0) in
+    let w = nothing-is (r .why) (b3 .1) in
+    let d = eqb-true (r .due) 0 (b4 .1) in
+    let t = eqb-true (r .interval) 0 (b5 .1) in
+    let o = eqb-true (r .priority) 0 (b1 .1) in
+    fits-is c T R p r
+    (trim-is c r (record {
+      named = λ v. clash v u;
+      empty = λ v. e;
+      priority = omega (arith, o);
+      timed = record { timeless = λ z. t; above = λ n. absurd (n d); near = λ n. absurd (n d); steps = omega (arith, t) };
+    }))
+    (ap (λ (x : Why). stateFits x (r .state)) w ∙ ap (λ (x : Bool). x || eqb (r .state) 1 || eqb (r .state) 6) (b2 .1))
+    (ap (reasonFits T R p) w)
 
-pub placed-seat : (l : Ledger) (T S i h k : ℕ) → Seat h k → placed T S i h (held l k .used) ≡ placed T S i h (at (bookOf l) h .used)
-unfolding placed
-placed-seat l T S i h k K =
-    ap (λ (x : Bool). cond (ltb i T) (cond (ltb i S) (eqb h system) (ltb h system && x)) (eqb h nobody)) (user-seat l h k K)
+zeros-miss : (c T R p : ℕ) (r : Program) → r .used ≡ false → zeros r ≡ false → false ≡ fits c T R p r
+unfolding trim
+zeros-miss c T R p r u e =
+    trim-fails c T R p r (ap (λ (x : Bool). x && leb (r .priority) 32767 && timed c (r .due) (r .interval))
+    (ap (λ (x : Bool). cond x (legal (r .name)) (zeros r)) u ∙ e))
 
-pub counted-seats : (l : Ledger) (R i : ℕ) (x : Resource) (j k : ℕ) → Seat (x .owner) j → Seat (x .lock) k
-    → counted R i x (held l j .used) (held l k .used) ≡ counted R i x (at (bookOf l) (x .owner) .used) (at (bookOf l) (x .lock) .used)
-unfolding counted owned
-counted-seats l R i x j k J K =
-    ap₂ (λ (u v : Bool). cond (ltb i R) (leb (x .owner) 33 && leb (x .lock) 32 && (not (eqb (x .owner) 0) || eqb (x .lock) 0) && u && v)
-    (eqb (x .owner) 0 && eqb (x .lock) 0)) (user-seat l (x .owner) j J) (user-seat l (x .lock) k K)
+pub unused-fits : (c T R p : ℕ) (r : Program) → r .used ≡ false → zeros r ≡ fits c T R p r
+unused-fits c T R p r u =
+    yes-or-no (zeros r) (λ e. e ∙ sym (zeros-fit c T R p r u e)) (λ e. e ∙ zeros-miss c T R p r u e)
 
--- a free number is sound where it has no lock
-pub unowned : (o k : ℕ) (u v : Bool) → o ≡ 0 → k ≤ 32 → eqb k 0 ≡ owned o k u v
-unfolding owned
-unowned o k u v e h = rw e (go (eqb k 0) refl ∙ sym (ap (λ (x : Bool). x && eqb k 0 && true && user k v) (le-leb k 32 h)))
+-- the son of an unused record
+pub unused-son : (c T R p : ℕ) (r : Program) → r .used ≡ false → fits c T R p r ≡ true → sonKey r ≡ 0
+unfolding sonKey
+unused-son c T R p r u e = ap sonOf (zeros-why r (unused-fits c T R p r u ∙ e))
+
+-- a son is a program
+pub son-most : (T R p : ℕ) (w : Why) → reasonFits T R p w ≡ true → sonOf w ≤ 32
+son-most T R p Nothing e = omega arith
+son-most T R p (Tracks n) e = omega arith
+son-most T R p (Son k) e = (known-true k ((both (known k) (not (eqb k p)) e) .0)) .1
+son-most T R p (Lock r) e = omega arith
+son-most T R p Number e = omega arith
+
+-- a why fits where state, reason and son do, and back
+suits-of : (b : Book) (p s : ℕ) (w : Why) → stateFits w s ≡ true → reasonFits (b .tracks) (b .numbers) p w ≡ true
+    → (sonOf w ≢ 0 → (at b (sonOf w) .used ≡ true) × (stateOf b (sonOf w) ≢ 0)) → suits b p s w ≡ true
+suits-of b p s Nothing e r f = e
+suits-of b p s (Tracks n) e r f = and e r
+suits-of b p s (Son k) e r f =
+    let q = both (known k) (not (eqb k p)) r in
+    let K = known-true k (q .0) in
+    let g = f (λ z. omega (arith, K .0)) in
+    and (and (and (and e (q .0)) (g .0)) (ap not (ne-eqb (stateOf b k) 0 (g .1)))) (q .1)
+suits-of b p s (Lock n) e r f = and e r
+suits-of b p s Number e r f = e
+
+suits-fits : (b : Book) (p s : ℕ) (w : Why) → suits b p s w ≡ true → (stateFits w s ≡ true) × (reasonFits (b .tracks) (b .numbers) p w ≡ true)
+suits-fits b p s Nothing e = (e, refl)
+suits-fits b p s (Tracks n) e = both (eqb s 5) (upTo 1 (b .tracks) n) e
+suits-fits b p s (Son k) e =
+    let b4 = both (eqb s 3 && known k && at b k .used && not (eqb (stateOf b k) 0)) (not (eqb k p)) e in
+    let b3 = both (eqb s 3 && known k && at b k .used) (not (eqb (stateOf b k) 0)) (b4 .0) in
+    let b2 = both (eqb s 3 && known k) (at b k .used) (b3 .0) in
+    let b1 = both (eqb s 3) (known k) (b2 .0) in
+    (b1 .0, and (b1 .1) (b4 .1))
+suits-fits b p s (Lock n) e = both (eqb s 3) (upTo 1 (b .numbers) n) e
+suits-fits b p s Number e = (e, refl)
+
+suits-son : (b : Book) (p s : ℕ) (w : Why) → suits b p s w ≡ true → sonOf w ≢ 0 → (at b (sonOf w) .used ≡ true) × (stateOf b (sonOf w) ≢ 0)
+suits-son b p s Nothing e n = absurd (n refl)
+suits-son b p s (Tracks k) e n = absurd (n refl)
+suits-son b p s (Son k) e n =
+    let b4 = both (eqb s 3 && known k && at b k .used && not (eqb (stateOf b k) 0)) (not (eqb k p)) e in
+    let b3 = both (eqb s 3 && known k && at b k .used) (not (eqb (stateOf b k) 0)) (b4 .0) in
+    let b2 = both (eqb s 3 && known k) (at b k .used) (b3 .0) in
+    (b2 .1, eqb-false (stateOf b k) 0 (not-true (eqb (stateOf b k) 0) (b3 .1)))
+suits-son b p s (Lock k) e n = absurd (n refl)
+suits-son b p s Number e n = absurd (n refl)
+
+-- the state of a used record
+state-key : (r : Program) → stateKey r ≢ 0 → (r .used ≡ true) × (r .state ≢ 0)
+unfolding stateKey
+state-key r = go (r .used)
   where
-    go : (b : Bool) → eqb k 0 ≡ b → b ≡ (b && true && user k v)
-    go true z = rw (eqb-true k 0 z)
-    go false z = refl
+    go : (b : Bool) → cond b (r .state) 0 ≢ 0 → (b ≡ true) × (r .state ≢ 0)
+    go true n = (refl, n)
+    go false n = absurd (n refl)
 
-pub apart-tells : (f : Program → ℕ) (ps : List Program) (ks : List ℕ) (r : Bool) → Keyed f ps ks → Tells r (Distinct ks) → Tells r (Apart f ps)
-apart-tells f ps ks r K T = record { yes = λ e. apart-of f ps ks K (T .yes e); nay = λ e A. T .nay e (distinct-of f ps ks K A) }
+key-state : (r : Program) → r .used ≡ true → r .state ≢ 0 → stateKey r ≢ 0
+unfolding stateKey
+key-state r u n e = n (sym (ap (λ (b : Bool). cond b (r .state) 0) u) ∙ e)
+
+-- the roster is what is asked of the records
+pub records-of : (l : Ledger) → Roster (l .clock .ticks) (l .tracks .count) (l .numbers .count) (l .programs) → Records l
+unfolding sonKey
+records-of l S i h =
+    let f = fits-parts (l .clock .ticks) (l .tracks .count) (l .numbers .count) (i + 1) (held l i) (S .fitting i h) in
+    and (f .0) (suits-of (bookOf l) (i + 1) (held l i .state) (held l i .why) (f .1) (f .2) (λ n.
+    state-key (held l (sonOf (held l i .why) - 1)) (S .live i h n)))
+
+pub roster-of : (l : Ledger) → Records l → Apart nameKey (l .programs) → Apart sonKey (l .programs)
+    → Roster (l .clock .ticks) (l .tracks .count) (l .numbers .count) (l .programs)
+unfolding sonKey
+roster-of l A names sons = record {
+  fitting = λ i h. let f = suits-fits (bookOf l) (i + 1) (held l i .state) (held l i .why) ((parts i h) .1) in
+      fits-is (l .clock .ticks) (l .tracks .count) (l .numbers .count) (i + 1) (held l i) ((parts i h) .0) (f .0) (f .1);
+  names = names;
+  live = λ i h n. let s = suits-son (bookOf l) (i + 1) (held l i .state) (held l i .why) ((parts i h) .1) n in
+      key-state (held l (sonOf (held l i .why) - 1)) (s .0) (s .1);
+  sons = sons;
+}
+  where
+    parts : (i : ℕ) → i < 32 → (trim (l .clock .ticks) (held l i) ≡ true) × (suits (bookOf l) (i + 1) (held l i .state) (held l i .why) ≡ true)
+    parts i h = both (trim (l .clock .ticks) (held l i)) (suits (bookOf l) (i + 1) (held l i .state) (held l i .why)) (A i h)

@@ -1,6 +1,6 @@
 -- What inner functions ask and promise; nothing here need be believed for the calls.
 -- Assumes nothing.
-use Prim.Native.Nat.{ℕ, _-_, _≤_, _+_, _*_, _<_}
+use Prim.Native.Nat.{ℕ, _-_, _≤_, _+_, _*_, _<_, _%_}
 use mathlib.Core.Path.{_≡_}
 use mathlib.Core.Bool.{Bool, false, _&&_, true, cond, not, _||_}
 use mathlib.Core.List.{List}
@@ -59,11 +59,6 @@ pub record Tells (r : Bool) (A : Type 0) : Type 0 where
   pub yes : r ≡ true → A
   pub nay : r ≡ false → A → ⊥
 
--- a place among the records for any number; a program's is its own
-pub record Seat (p i : ℕ) : Type 0 where
-  pub within : i < 32
-  pub own : Known p → i ≡ p - 1
-
 -- T, S, R and the clock
 unfoldable pub sized : ℕ → ℕ → ℕ → ℕ → Bool
 sized T S R c = upTo 1 256 T && leb S T && leb R 16 && leb c ceiling
@@ -76,10 +71,6 @@ timed c d i = cond (eqb d 0) (eqb i 0) (ltb c d && leb (d - c) farthest && leb i
 unfoldable pub trim : ℕ → Program → Bool
 trim c r = cond (r .used) (legal (r .name)) (zeros r) && leb (r .priority) 32767 && timed c (r .due) (r .interval)
 
--- a program that can be awaited
-abbrev pub live : Program → Bool
-live r = r .used && not (eqb (r .state) 0)
-
 -- the state that a why is for
 abbrev pub stateFits : Why → ℕ → Bool
 stateFits Nothing s = eqb s 0 || eqb s 1 || eqb s 6
@@ -88,13 +79,17 @@ stateFits (Son k) s = eqb s 3
 stateFits (Lock r) s = eqb s 3
 stateFits Number s = eqb s 3
 
--- what program p waits for, among T tracks and R numbers; v tells whether the son is live
-abbrev pub reasonFits : ℕ → ℕ → ℕ → Bool → Why → Bool
-reasonFits T R p v Nothing = true
-reasonFits T R p v (Tracks n) = upTo 1 T n
-reasonFits T R p v (Son k) = known k && not (eqb k p) && v
-reasonFits T R p v (Lock r) = upTo 1 R r
-reasonFits T R p v Number = true
+-- what program p waits for, among T tracks and R numbers, but for the son's own record
+abbrev pub reasonFits : ℕ → ℕ → ℕ → Why → Bool
+reasonFits T R p Nothing = true
+reasonFits T R p (Tracks n) = upTo 1 T n
+reasonFits T R p (Son k) = known k && not (eqb k p)
+reasonFits T R p (Lock r) = upTo 1 R r
+reasonFits T R p Number = true
+
+-- a record by itself
+unfoldable pub fits : ℕ → ℕ → ℕ → ℕ → Program → Bool
+fits c T R p r = trim c r && stateFits (r .why) (r .state) && reasonFits T R p (r .why)
 
 -- every record
 abbrev pub Records : Ledger → Type 0
@@ -115,19 +110,120 @@ nameKey r = cond (r .used) (nameCode (r .name)) 0
 unfoldable pub sonKey : Program → ℕ
 sonKey r = sonOf (r .why)
 
+-- the state of a used record, and the mark of one
+unfoldable pub stateKey : Program → ℕ
+stateKey r = cond (r .used) (r .state) 0
+
+unfoldable pub usedKey : Program → ℕ
+usedKey r = cond (r .used) 1 0
+
 -- keys, one of each record
 pub record Keyed (f : Program → ℕ) (ps : List Program) (ks : List ℕ) : Type 0 where
   pub each : (i : ℕ) → i < 32 → getD ks i 0 ≡ f (getD ps i missing)
 
--- the key at i is 0 or stands nowhere behind it; so for every i; and so for the keys of records
-abbrev pub Once : List ℕ → ℕ → Type 0
-Once ks i = getD ks i 0 ≢ 0 → (j : ℕ) → j < 32 → i < j → getD ks j 0 ≢ getD ks i 0
+-- where a key leaves its mark
+unfoldable pub slotOf : ℕ → ℕ
+slotOf k = k % 251
 
+-- the key at i is 0 or stands nowhere before it; what a mark 0 at its place tells of it; and the keys from `high` on are 0
+abbrev pub Fresh : List ℕ → ℕ → Type 0
+Fresh ks i = getD ks i 0 ≢ 0 → (j : ℕ) → j < i → getD ks j 0 ≢ getD ks i 0
+
+pub record Marked (ks : List ℕ) (i mark : ℕ) : Type 0 where
+  pub within : i < 32
+  pub unmarked : mark ≡ 0 → Fresh ks i
+
+pub record Ended (ks : List ℕ) (high : ℕ) : Type 0 where
+  pub most : high ≤ 32
+  pub rest : (k : ℕ) → high ≤ k → getD ks k 0 ≡ 0
+
+-- no two keys are the same, but zeros; and so for the keys of records
 abbrev pub Distinct : List ℕ → Type 0
-Distinct ks = (i : ℕ) → i < 32 → Once ks i
+Distinct ks = (i : ℕ) → i < 32 → getD ks i 0 ≢ 0 → (j : ℕ) → j < 32 → i < j → getD ks j 0 ≢ getD ks i 0
 
 abbrev pub Apart : (Program → ℕ) → List Program → Type 0
 Apart f ps = (i : ℕ) → i < 32 → f (getD ps i missing) ≢ 0 → (j : ℕ) → j < 32 → i < j → f (getD ps j missing) ≢ f (getD ps i missing)
+
+-- sons: the numbers of programs, none from `high` on; each that is awaited has a state that is not 0, and is awaited once
+pub record Sons (ks : List ℕ) (high : ℕ) : Type 0 where
+  pub ended : Ended ks high
+  pub known : (k : ℕ) → getD ks k 0 ≤ 32
+
+pub record Awaited (ks states : List ℕ) : Type 0 where
+  pub live : (i : ℕ) → i < 32 → getD ks i 0 ≢ 0 → getD states (getD ks i 0 - 1) 0 ≢ 0
+  pub once : Distinct ks
+
+-- all records, by themselves and by one another
+pub record Roster (c T R : ℕ) (ps : List Program) : Type 0 where
+  pub fitting : (i : ℕ) → i < 32 → fits c T R (i + 1) (getD ps i missing) ≡ true
+  pub names : Apart nameKey ps
+  pub live : (i : ℕ) → i < 32 → sonKey (getD ps i missing) ≢ 0 → stateKey (getD ps (sonKey (getD ps i missing) - 1) missing) ≢ 0
+  pub sons : Apart sonKey ps
+
+pub record Enrolled (c T R : ℕ) (ps : List Program) (ok : Bool) (used : List ℕ) : Type 0 where
+  pub told : Tells ok (Roster c T R ps)
+  pub marked : ok ≡ true → Keyed usedKey ps used
+
+-- who may hold no track: a mark for every number but 0, those of used programs, and GLOBAL
+unfoldable pub strange : ℕ → ℕ
+strange u = cond (eqb u 0) 1 0
+
+pub record Strangers (used marks : List ℕ) : Type 0 where
+  pub nobody : getD marks 0 0 ≡ 0
+  pub global : getD marks 33 0 ≡ 0
+  pub program : (k : ℕ) → k < 32 → getD marks (k + 1) 0 ≡ strange (getD used k 0)
+  pub other : (h : ℕ) → 33 < h → h < 256 → getD marks h 0 ≡ 1
+
+-- r is the byte x
+pub record Byte (x r : ℕ) : Type 0 where
+  pub same : r ≡ x
+  pub small : r < 256
+
+-- r is no less than a and b, and 0 where they are
+pub record Larger (a b r : ℕ) : Type 0 where
+  pub left : a ≤ r
+  pub right : b ≤ r
+  pub none : a ≡ 0 → b ≡ 0 → r ≡ 0
+
+-- the tracks: T in all, the first S the system's
+pub record Limits (T S : ℕ) : Type 0 where
+  pub most : T ≤ 256
+  pub first : S ≤ T
+
+abbrev pub SystemHolds : ℕ → List ℕ → Type 0
+SystemHolds S hs = (i : ℕ) → i < S → getD hs i 0 ≡ 34
+
+pub record Serves (marks : List ℕ) (h : ℕ) : Type 0 where
+  pub small : h < 256
+  pub unmarked : getD marks h 0 ≡ 0
+
+abbrev pub OthersHold : ℕ → ℕ → List ℕ → List ℕ → Type 0
+OthersHold S T hs marks = (i : ℕ) → i < T → S ≤ i → Serves marks (getD hs i 0)
+
+abbrev pub NoneHolds : ℕ → List ℕ → Type 0
+NoneHolds T hs = (i : ℕ) → i < 256 → T ≤ i → getD hs i 0 ≡ 0
+
+pub record Held (T S : ℕ) (hs marks : List ℕ) : Type 0 where
+  pub own : SystemHolds S hs
+  pub others : OthersHold S T hs marks
+  pub blank : NoneHolds T hs
+
+-- a number of ours; all of them; those behind; and both
+pub record Sits (marks : List ℕ) (x : Resource) : Type 0 where
+  pub owner : Serves marks (x .owner)
+  pub locker : Serves marks (x .lock)
+  pub program : x .lock ≢ 33
+  pub clear : x .owner ≡ 0 → x .lock ≡ 0
+
+abbrev pub Seated : ℕ → List Resource → List ℕ → Type 0
+Seated R rs marks = (i : ℕ) → i < R → Sits marks (getD rs i free)
+
+abbrev pub Unowned : ℕ → List Resource → Type 0
+Unowned R rs = (i : ℕ) → i < 16 → R ≤ i → (getD rs i free .owner ≡ 0) × (getD rs i free .lock ≡ 0)
+
+pub record Numbered (R : ℕ) (rs : List Resource) (marks : List ℕ) : Type 0 where
+  pub ours : Seated R rs marks
+  pub rest : Unowned R rs
 
 -- who is no program, or is used
 abbrev pub user : ℕ → Bool → Bool

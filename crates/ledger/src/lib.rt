@@ -1,5 +1,8 @@
 // The book as the code keeps it: records, the clock, the tracks and the resource numbers, in arrays of one size.
+mod entries;
 mod freeing;
+mod places;
+mod roll;
 mod sound;
 
 use clock::Clock;

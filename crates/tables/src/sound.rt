@@ -2,7 +2,7 @@
 ghost use mathlib.Core.Path.{_≡_};
 ghost use Prim.Native.Nat.{_<_};
 ghost use Rattle.tables.specs.Sound.{sound};
-ghost use Rattle.tables.specs.Walks.{testChained, Walk, Walks, settled, Rests};
+ghost use Rattle.tables.specs.Walks.{testChained, Walks, settled, Rests};
 use super::Tables;
 use ledger::book_sound;
 use records::Program;
@@ -19,46 +19,33 @@ fn wide(x: u8) -> usize
     x as usize
 }
 
-// Walks along the chain of a state and marks its programs. It ends, since it meets none twice.
-fn walk_chain(programs: [Program; 32], links: [u8; 40], state: u8, mut met: [u8; 32]) -> Walked
-    requires { ⌜ state < 7 ⌝ }
-    ensures { λ r. ⌜ Walk programs links state met (r .ok) (r .met) ⌝ }
-{
-    let mut least: u16 = 0;
-    let mut n = wide(links[wide(state)]);
-    while n != 0 {
-        if 32 < n {
-            return Walked { ok: false, met };
-        }
-        if met[n - 1] != 0 {
-            return Walked { ok: false, met };
-        }
-        let r = programs[n - 1];
-        if r.state != state {
-            return Walked { ok: false, met };
-        }
-        if r.priority < least {
-            return Walked { ok: false, met };
-        }
-        met[n - 1] = 1;
-        least = r.priority;
-        n = wide(links[7 + n]);
-    }
-    Walked { ok: true, met }
-}
-
-// Walks along the chains of states 1 to 6.
+// Walks along the chains of states 1 to 6 and marks their programs. Each walk ends, since it meets none twice.
 fn walk_chains(programs: [Program; 32], links: [u8; 40]) -> Walked
     ensures { λ r. ⌜ Walks programs links (r .ok) (r .met) ⌝ }
 {
     let mut met: [u8; 32] = [0; 32];
     let mut state: u8 = 1;
     while state <= 6 {
-        let w = walk_chain(programs, links, state, met);
-        if !w.ok {
-            return w;
+        let mut least: u16 = 0;
+        let mut n = wide(links[wide(state)]);
+        while n != 0 {
+            if 32 < n {
+                return Walked { ok: false, met };
+            }
+            if met[n - 1] != 0 {
+                return Walked { ok: false, met };
+            }
+            let r = programs[n - 1];
+            if r.state != state {
+                return Walked { ok: false, met };
+            }
+            if r.priority < least {
+                return Walked { ok: false, met };
+            }
+            met[n - 1] = 1;
+            least = r.priority;
+            n = wide(links[7 + n]);
         }
-        met = w.met;
         state += 1;
     }
     Walked { ok: true, met }

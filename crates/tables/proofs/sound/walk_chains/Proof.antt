@@ -1,51 +1,172 @@
--- `tables::sound::walk_chains` meets its contract. The loop's invariant is `Sofar`: the chains of the states below are in order and marked. The measure is the states left.
+-- `tables::sound::walk_chains` meets its contract. The invariant of the loop over the states is `Sofar`: the chains of the states below are in order and marked; its measure is the
+-- states left. That of a walk is `Going`: what was passed and marked; its measure is how many are not marked.
 -- Assumes nothing.
-use Prim.Native.Nat.{_-_}
+use Prim.Native.Nat.{ℕ, _-_}
 use native.Mathlib.Omega.{arith}
+use mathlib.Core.Path.{_≡_, refl, ap, _∙_}
+use mathlib.Core.Bool.{false}
+use lib.ListN.{length, getD}
 use borrow.Author.Needs.{needs}
+use Rattle.lists.specs.Lists.{count}
+use Rattle.tables.specs.Walks.{Walks}
 use Rattle.tables.proofs.Chained.{Sofar, sofar-start, sofar-more, sofar-refused, sofar-end}
+use Rattle.tables.proofs.Walking.{Next, Going, going-start, going-refused, going-on, going-less, going-end}
 use Rattle.tables.proofs.sound.walk_chains.Statement.{statement}
 use Rattle.tables.proofs.sound.walk_chains.Tie as tie
 
+abbrev Inv-loop2 : tie.InvT-loop2
+Inv-loop2 programs links met₀ state least₀ n₀ met least n = Going programs links state met₀ met least n
+
+abbrev μ-loop2 : tie.MeasureT-loop2
+μ-loop2 programs links met₀ state least₀ n₀ met least n = count 0 met
+
 abbrev Inv-loop : tie.InvT-loop
-Inv-loop programs links met₀ state₀ met state = Sofar programs links state met
+Inv-loop programs links met₀ state₀ met state = (length met ≡ 32) × Sofar programs links state met
 
 abbrev μ-loop : tie.MeasureT-loop
 μ-loop programs links met₀ state₀ met state = 7 - state
 
-loop-holds : tie.Need-loop-holds Inv-loop μ-loop
-loop-holds c = sofar-start (c .args .programs) (c .args .links)
+loop-holds : tie.Need-loop-holds Inv-loop2 μ-loop2 Inv-loop μ-loop
+loop-holds c = (refl, sofar-start (c .args .t1) (c .args .t2))
 
-walk-chain-requires : tie.Need-walk-chain-requires Inv-loop μ-loop
-walk-chain-requires c κs = search needs
+wide-requires : tie.Need-wide-requires Inv-loop2 μ-loop2 Inv-loop μ-loop
+wide-requires c κs = search needs
 
-returns : tie.Need-returns Inv-loop μ-loop
-returns c = let w = c .before .before in sofar-refused (w .before .before .loop .inv) (w .before .loop-test .taken) (w .walk-chain .ensures) (c .if1 .taken)
+array-read-wide : tie.Need-array-read-wide Inv-loop2 μ-loop2 Inv-loop μ-loop
+array-read-wide c = omega arith
 
-add-state : tie.Need-add-state Inv-loop μ-loop
+wide-requires-2 : tie.Need-wide-requires-2 Inv-loop2 μ-loop2 Inv-loop μ-loop
+wide-requires-2 c κs = search needs
+
+loop2-holds : tie.Need-loop2-holds Inv-loop2 μ-loop2 Inv-loop μ-loop
+loop2-holds c =
+    let o = c .before .before .before in
+    let a = o .before .args in
+    going-start (a .t1) (a .t2) (o .loop .state) (o .loop .met) _ (o .loop .inv .0) (c .wide2 .ensures ∙ ap (λ (x : ℕ). getD (a .t2) x 0) (c .before .wide .ensures))
+
+-- the outer loop of a turn, and that a walk which is refused refuses all
+abbrev outer : tie.At-loop2 Inv-loop2 μ-loop2 Inv-loop μ-loop → tie.In-loop Inv-loop2 μ-loop2 Inv-loop μ-loop
+outer b = b .before .before .before
+
+refused : (h : tie.In-loop2 Inv-loop2 μ-loop2 Inv-loop μ-loop) →
+    let b = h .before in
+    let o = outer b .before in
+    let a = o .before .args in
+    (Next (a .t1) (o .loop .state) (b .loop2 .met) (b .loop2 .least) (b .loop2 .n) → ⊥) → Walks (a .t1) (a .t2) false (b .loop2 .met)
+refused h f =
+    let b = h .before in
+    sofar-refused (outer b .before .loop .inv .1) (outer b .loop-test .taken) (going-refused (b .loop2 .inv) (h .loop2-test .taken) f) refl
+
+returns : tie.Need-returns Inv-loop2 μ-loop2 Inv-loop μ-loop
+returns c = refused (c .before) (λ N. omega (arith, N .known .1))
+
+sub-if2 : tie.Need-sub-if2 Inv-loop2 μ-loop2 Inv-loop μ-loop
+sub-if2 c = omega arith
+
+array-read-if2 : tie.Need-array-read-if2 Inv-loop2 μ-loop2 Inv-loop μ-loop
+array-read-if2 c = omega (arith, c .before .before .loop2 .inv .long)
+
+returns-2 : tie.Need-returns-2 Inv-loop2 μ-loop2 Inv-loop μ-loop
+returns-2 c = refused (c .before .before) (λ N. omega (arith, N .unmet))
+
+sub-r : tie.Need-sub-r Inv-loop2 μ-loop2 Inv-loop μ-loop
+sub-r c = omega arith
+
+mul-r : tie.Need-mul-r Inv-loop2 μ-loop2 Inv-loop μ-loop
+mul-r c = omega arith
+
+array-copy-out-r : tie.Need-array-copy-out-r Inv-loop2 μ-loop2 Inv-loop μ-loop
+array-copy-out-r c = omega arith
+
+returns-3 : tie.Need-returns-3 Inv-loop2 μ-loop2 Inv-loop μ-loop
+returns-3 c = refused (c .before .before .before .before .before) (λ N. omega (arith, N .state))
+
+returns-4 : tie.Need-returns-4 Inv-loop2 μ-loop2 Inv-loop μ-loop
+returns-4 c = refused (c .before .before .before .before .before .before .before) (λ N. omega (arith, N .after))
+
+sub-met : tie.Need-sub-met Inv-loop2 μ-loop2 Inv-loop μ-loop
+sub-met c = omega arith
+
+-- the walk's start, and what the tests have shown of the next program
+abbrev turn : tie.Else4 Inv-loop2 μ-loop2 Inv-loop μ-loop → tie.At-loop2 Inv-loop2 μ-loop2 Inv-loop μ-loop
+turn b = b .before .before .before .before .before .before .before .before
+
+next : (b : tie.Else4 Inv-loop2 μ-loop2 Inv-loop μ-loop) →
+    let i = turn b .loop2 in
+    let o = outer (turn b) .before in
+    Next (o .before .args .t1) (o .loop .state) (i .met) (i .least) (i .n)
+next b = record {
+  known = (omega arith, omega arith);
+  state = omega (arith, b .before .before .if3 .left);
+  unmet = omega (arith, b .before .before .before .before .before .if2 .left);
+  after = omega (arith, b .if4 .left);
+}
+
+array-write-met : tie.Need-array-write-met Inv-loop2 μ-loop2 Inv-loop μ-loop
+array-write-met c = omega (arith, turn c .loop2 .inv .long)
+
+add-wide : tie.Need-add-wide Inv-loop2 μ-loop2 Inv-loop μ-loop
+add-wide c = omega arith
+
+array-read-wide-2 : tie.Need-array-read-wide-2 Inv-loop2 μ-loop2 Inv-loop μ-loop
+array-read-wide-2 c = omega arith
+
+wide-requires-3 : tie.Need-wide-requires-3 Inv-loop2 μ-loop2 Inv-loop μ-loop
+wide-requires-3 c κs = search needs
+
+loop2-less : tie.Need-loop2-less Inv-loop2 μ-loop2 Inv-loop μ-loop
+loop2-less c = let b = c .before in going-less (turn b .loop2 .inv) (next b)
+
+loop2-again : tie.Need-loop2-again Inv-loop2 μ-loop2 Inv-loop μ-loop
+loop2-again c = let b = c .before in going-on (turn b .loop2 .inv) (next b) _ (c .wide3 .ensures)
+
+add-state : tie.Need-add-state Inv-loop2 μ-loop2 Inv-loop μ-loop
 add-state c = omega arith
 
-loop-less : tie.Need-loop-less Inv-loop μ-loop
+loop-less : tie.Need-loop-less Inv-loop2 μ-loop2 Inv-loop μ-loop
 loop-less c = omega arith
 
-loop-again : tie.Need-loop-again Inv-loop μ-loop
+loop-again : tie.Need-loop-again Inv-loop2 μ-loop2 Inv-loop μ-loop
 loop-again c =
-    let w = c .before .before .before in
-    sofar-more (w .before .before .loop .inv) (w .before .loop-test .taken) (w .walk-chain .ensures) (c .before .if1 .left)
+    let b = c .before in
+    let i = outer b in (
+      b .loop2 .inv .long,
+      sofar-more (i .before .loop .inv .1) (i .loop-test .taken) (going-end (b .loop2 .inv) (c .loop2-test .left)) refl,
+    )
 
-returns-2 : tie.Need-returns-2 Inv-loop μ-loop
-returns-2 c = sofar-end (c .before .loop .inv) (c .loop-test .left)
+returns-5 : tie.Need-returns-5 Inv-loop2 μ-loop2 Inv-loop μ-loop
+returns-5 c = sofar-end (c .before .loop .inv .1) (c .loop-test .left)
 
 pub walk-chains-spec : {M : Type 1} → statement M
 walk-chains-spec =
     tie.close
     (tie.spec
+    Inv-loop2
+    μ-loop2
     Inv-loop
     μ-loop
     loop-holds
-    walk-chain-requires
+    wide-requires
+    array-read-wide
+    wide-requires-2
+    loop2-holds
     returns
+    sub-if2
+    array-read-if2
+    returns-2
+    sub-r
+    mul-r
+    array-copy-out-r
+    returns-3
+    returns-4
+    sub-met
+    array-write-met
+    add-wide
+    array-read-wide-2
+    wide-requires-3
+    loop2-less
+    loop2-again
     add-state
     loop-less
     loop-again
-    returns-2)
+    returns-5)

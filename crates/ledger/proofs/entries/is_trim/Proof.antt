@@ -1,0 +1,35 @@
+-- `ledger::entries::is_trim` meets its contract. Assumes nothing.
+use mathlib.Core.Path.{_≡_, sym, _∙_}
+use mathlib.Core.Bool.{true, cond}
+use borrow.Author.Needs.{needs}
+use borrow.Author.Tests.{not-true, not-false, le-leb, lt-leb}
+use Rattle.records.specs.Names.{legal}
+use Rattle.rules.specs.Test.{zeros}
+use Rattle.ledger.specs.Inner.{trim}
+use Rattle.ledger.proofs.entries.is_trim.Statement.{statement}
+use Rattle.ledger.proofs.entries.is_trim.Tie as tie
+
+is-named-requires : tie.Need-is-named-requires
+is-named-requires c κs = search needs
+
+returns : tie.Need-returns
+unfolding trim
+returns c = simp (sym (c .before .is-named .ensures) ∙ not-true (c .before .is-named .result) (c .if1 .taken))
+
+-- it has a name or holds zeros
+named : (c : tie.Else1) → let r = c .before .before .args .r in cond (r .used) (legal (r .name)) (zeros r) ≡ true
+named c = sym (c .before .is-named .ensures) ∙ not-false (c .before .is-named .result) (c .if1 .left)
+
+returns-2 : tie.Need-returns-2
+unfolding trim
+returns-2 c = simp (named (c .before .before), lt-leb _ _ (c .if2 .taken))
+
+is-timed-requires : tie.Need-is-timed-requires
+is-timed-requires c κs = search needs
+
+returns-3 : tie.Need-returns-3
+unfolding trim
+returns-3 c = simp (named (c .before .before .before), le-leb _ _ (c .before .if2 .left)) (c .is-timed .ensures)
+
+pub is-trim-spec : {M : Type 1} → statement M
+is-trim-spec = tie.close (tie.spec is-named-requires returns returns-2 is-timed-requires returns-3)

@@ -1,0 +1,181 @@
+// One record by itself: its name, its times, its state, and what it waits for.
+use clock::Clock;
+use records::Program;
+use records::Why;
+use records::is_legal;
+ghost use mathlib.Core.Path.{_≡_};
+ghost use mathlib.Core.Bool.{cond, not, _&&_, _||_};
+ghost use lib.Dec.{eqb};
+ghost use Rattle.lists.specs.Lists.{upTo, alike};
+ghost use Rattle.records.specs.Names.{legal};
+ghost use Rattle.records.specs.Records.{known, unused};
+ghost use Rattle.rules.specs.Test.{nothing, sonOf, zeros};
+ghost use Rattle.ledger.specs.Inner.{timed, trim, stateFits, reasonFits, fits};
+
+fn wide(x: u8) -> usize
+    ensures { λ r. ⌜ r ≡ x ⌝ }
+{
+    x as usize
+}
+
+fn broad(x: u16) -> usize
+    ensures { λ r. ⌜ r ≡ x ⌝ }
+{
+    x as usize
+}
+
+fn one_to(high: usize, n: usize) -> bool
+    ensures { λ r. ⌜ r ≡ upTo 1 high n ⌝ }
+{
+    if n == 0 {
+        return false;
+    }
+    n <= high
+}
+
+fn is_nothing(w: Why) -> bool
+    ensures { λ r. ⌜ r ≡ nothing w ⌝ }
+{
+    match w {
+        Why::Nothing => true,
+        Why::Tracks(_) => false,
+        Why::Son(_) => false,
+        Why::Lock(_) => false,
+        Why::Number => false,
+    }
+}
+
+// The son that is awaited, or 0.
+pub fn son_of(w: Why) -> u8
+    ensures { λ r. ⌜ r ≡ sonOf w ⌝ }
+{
+    match w {
+        Why::Nothing => 0,
+        Why::Tracks(_) => 0,
+        Why::Son(k) => k,
+        Why::Lock(_) => 0,
+        Why::Number => 0,
+    }
+}
+
+fn is_unnamed(name: [u8; 5]) -> bool
+    ensures { λ r. ⌜ r ≡ alike name (unused .name) ⌝ }
+{
+    (name[0] == 0) & (name[1] == 0) & (name[2] == 0) & (name[3] == 0) & (name[4] == 0)
+}
+
+// Zeros all over. Every part is looked at, so that no branch is taken.
+fn holds_zeros(r: Program) -> bool
+    ensures { λ b. ⌜ b ≡ zeros r ⌝ }
+{
+    let name = r.name;
+    let w = r.why;
+    let idle = is_unnamed(name) & (r.priority == 0) & (r.state == 0);
+    idle & is_nothing(w) & (r.due == 0) & (r.interval == 0)
+}
+
+// A legal name, or zeros where the record is unused.
+fn is_named(r: Program) -> bool
+    ensures { λ b. ⌜ b ≡ cond (r .used) (legal (r .name)) (zeros r) ⌝ }
+{
+    if r.used {
+        let name = r.name;
+        return is_legal(name);
+    }
+    holds_zeros(r)
+}
+
+fn is_timed(ticks: u64, due: u64, interval: u64) -> bool
+    ensures { λ r. ⌜ r ≡ timed ticks due interval ⌝ }
+{
+    if due == 0 {
+        return interval == 0;
+    }
+    if due < ticks {
+        return false;
+    }
+    let ahead = due - ticks;
+    if ahead == 0 {
+        return false;
+    }
+    if Clock::FARTHEST < ahead {
+        return false;
+    }
+    interval <= Clock::FARTHEST
+}
+
+// A record but its why.
+fn is_trim(ticks: u64, r: Program) -> bool
+    ensures { λ b. ⌜ b ≡ trim ticks r ⌝ }
+{
+    if !is_named(r) {
+        return false;
+    }
+    if 32767 < r.priority {
+        return false;
+    }
+    is_timed(ticks, r.due, r.interval)
+}
+
+fn is_at_rest(state: u8) -> bool
+    ensures { λ r. ⌜ r ≡ (eqb state 0 || eqb state 1 || eqb state 6) ⌝ }
+{
+    if state == 0 {
+        return true;
+    }
+    if state == 1 {
+        return true;
+    }
+    state == 6
+}
+
+fn state_fits(w: Why, state: u8) -> bool
+    ensures { λ r. ⌜ r ≡ stateFits w state ⌝ }
+{
+    match w {
+        Why::Nothing => is_at_rest(state),
+        Why::Tracks(_) => state == 5,
+        Why::Son(_) => state == 3,
+        Why::Lock(_) => state == 3,
+        Why::Number => state == 3,
+    }
+}
+
+// Whether p may await its son k, as far as the numbers go.
+fn son_fits(p: usize, k: u8) -> bool
+    ensures { λ r. ⌜ r ≡ (known k && not (eqb k p)) ⌝ }
+{
+    if !one_to(32, wide(k)) {
+        return false;
+    }
+    wide(k) != p
+}
+
+fn reason_fits(all: u16, numbers: u8, p: usize, w: Why) -> bool
+    ensures { λ r. ⌜ r ≡ reasonFits all numbers p w ⌝ }
+{
+    match w {
+        Why::Nothing => true,
+        Why::Tracks(n) => one_to(broad(all), broad(n)),
+        Why::Son(k) => son_fits(p, k),
+        Why::Lock(r) => one_to(wide(numbers), wide(r)),
+        Why::Number => true,
+    }
+}
+
+// A record and its why; an unused one is sound where it holds zeros.
+pub fn record_fits(ticks: u64, all: u16, numbers: u8, p: usize, r: Program) -> bool
+    ensures { λ b. ⌜ b ≡ fits ticks all numbers p r ⌝ }
+{
+    if !r.used {
+        return holds_zeros(r);
+    }
+    if !is_trim(ticks, r) {
+        return false;
+    }
+    let w = r.why;
+    if !state_fits(w, r.state) {
+        return false;
+    }
+    reason_fits(all, numbers, p, w)
+}
