@@ -6,8 +6,8 @@ use Rattle.text.specs.Text.{digits, decimal, numberOf, parts, entry}
 use Rattle.clock.specs.Clock.{timeOf}
 use Rattle.records.specs.Names.{nameOf}
 use Rattle.records.specs.Records.{all, find, lowestUnused}
-use Rattle.rules.specs.Plans.{need, either, found}
-use Rattle.rules.specs.Rules.{named, inside, waits, woken, frees, clears, ends, order, dueAt, takes, gives, allocated, call, asCaller, plan}
+use Rattle.rules.specs.Plans.{need, either, found, woken}
+use Rattle.rules.specs.Rules.{named, inside, waits, frees, clears, ends, order, dueAt, takes, gives, allocated, call, asCaller, plan}
 use Rattle.rules.specs.Keeper.{act, step}
 use Rattle.rules.specs.Test.{testNames, testZeros, testChains, testWhys, testSystem, testUsers, testUnlocked, testLimits, testDues}
 use Rattle.chains.specs.Links.{walk, read, testLinks, linksOf}

@@ -63,10 +63,13 @@ abbrev pub join : {A : Type 0} → List (List A) → List A
 join [] = []
 join (x ∷ xs) = x ++ join xs
 
--- p goes behind all that come no later than it: those of a lower number and its equals
+-- p goes behind all those that a test puts before it; and behind those of a lower number and its equals
+abbrev pub insertBy : (ℕ → ℕ → Bool) → ℕ → List ℕ → List ℕ
+insertBy t p [] = p ∷ []
+insertBy t p (q ∷ qs) = cond (t q p) (q ∷ insertBy t p qs) (p ∷ q ∷ qs)
+
 abbrev pub insert : (ℕ → ℕ) → ℕ → List ℕ → List ℕ
-insert pr p [] = p ∷ []
-insert pr p (q ∷ qs) = cond (leb (pr q) (pr p)) (q ∷ insert pr p qs) (p ∷ q ∷ qs)
+insert pr p c = insertBy (λ q r. leb (pr q) (pr r)) p c
 
 abbrev pub remove : ℕ → List ℕ → List ℕ
 remove p [] = []

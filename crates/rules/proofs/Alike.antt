@@ -372,7 +372,9 @@ asks-alike a t A q =
 
 pub after-alike : (a : State lists) (t : State entries) → Alike a t → (q : Request) → Alike (after lists a q) (after entries t q)
 after-alike a t A q =
-    subst (λ (x : Plan). Alike (after lists a q) (play entries (eventsOf x) t)) (asks-alike a t A q) (play-alike (eventsOf (asks lists a q)) a t A)
+    let v : view lists a ≡ view entries t = view-alike a t A in
+    let e : eventsOf (view lists a) (asks lists a q) ≡ eventsOf (view entries t) (asks entries t q) = λ i. eventsOf (v i) (asks-alike a t A q i) in
+    subst (λ (es : List Event). Alike (after lists a q) (play entries es t)) e (play-alike (eventsOf (view lists a) (asks lists a q)) a t A)
 
 pub runs-alike : (qs : List Request) (a : State lists) (t : State entries) → Alike a t → Alike (runs lists a qs) (runs entries t qs)
 runs-alike [] a t A = A

@@ -88,7 +88,7 @@ module _ (K : Keeper) (t : State K) (n w : ℕ) (some : 1 ≤ head (scheduled K 
       above = λ k l. filled-out i n h xs k (λ m. l);
     });
     rest = λ i r. rw (here i r) refl;
-    same = λ f z. ap (λ (x : Plan). play K (eventsOf x) t) (C .told f z);
+    same = λ f z. ap (λ (x : Plan). play K (eventsOf (view K t) x) t) (C .told f z);
   }
     where
       xs : List ℕ

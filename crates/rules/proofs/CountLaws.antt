@@ -8,25 +8,26 @@ use native.Mathlib.Decide.{ℕ-discrete}
 use mathlib.Core.Path.{_≡_, refl, sym, ap, _∙_}
 use mathlib.Core.Logic.{_≢_}
 use mathlib.Core.Bool.{Bool, true, false, cond, _&&_, _||_}
-use mathlib.Core.List.{List, [], _∷_}
+use mathlib.Core.List.{List, [], _∷_, map}
 use lib.ListN.{length}
 use lib.Dec.{eqb}
 use borrow.Author.Tests.{eqb-true, eqb-false, eq-eqb, le-ltb}
-use Rattle.lists.specs.Lists.{hit, count, keep, remove}
+use Rattle.lists.specs.Lists.{hit, count, keep, remove, join}
 use Rattle.lists.proofs.Laws.{same-refl, same-ne, same-le, same-eq, count-remove, count-remove-le, count-keep, keep-in, keep-le}
 use Rattle.records.specs.declared.Resource.{Resource}
 use Rattle.records.specs.declared.Why.the-variants.{Nothing}
 use Rattle.records.specs.Records.{Known, known, all}
-use Rattle.rules.specs.Book.{Book, stateOf, whyOf}
+use Rattle.rules.specs.Book.{Book, at, stateOf, whyOf}
 use Rattle.rules.specs.Requests.{OF, EXEC5, EXEC16, EXEC5ALL, EXEC6, CLEAR, FREE, Request, operator, TICK, running}
-use Rattle.rules.specs.Plans.{becomes, Event, on, clocked, numbered, Plan, done, View, numberOf, valuesOf, eventsOf}
-use Rattle.rules.specs.Rules.{Release, awaits, woken, wake, clears, ends, settle, dueAt, ticked, each, call, head, plan}
+use Rattle.rules.specs.Plans.{becomes, Event, on, clocked, numbered, Plan, done, releasing, View, numberOf, valuesOf, eventsOf, Release, awaits, woken, wake}
+use Rattle.rules.specs.Rules.{clears, endsIn, ends, dueAt, ticked, call, head, plan}
 use Rattle.rules.specs.Keeper.{lists, State, step, play, view, scheduled, asks, after}
 use Rattle.rules.specs.Sound.{Sound}
 use Rattle.rules.specs.Counts.{awoken, roused, Freed, Done, TellsFreed, TellsAwoken, TellsRoused, Counts}
 use Rattle.rules.proofs.Places.{known-true, known-is, all-one, all-in}
 use Rattle.rules.proofs.Rising.{Rise, clocks, numbers, wake-rises, tick-rises, rise-in, rise-out, becomes-same, becomes-other, becomes-long}
 use Rattle.rules.proofs.IfDone.{IfDone, if-need, if-either, if-called, if-allocated}
+use Rattle.rules.proofs.Settling.{settle}
 use Rattle.rules.proofs.Freed.{off-frees, own-frees, global-frees, each-frees}
 
 -- LISTS: two that hold each number as often are as long; so is a list of those that pass a test, each once
@@ -131,7 +132,7 @@ module _ (a : State lists) (S : Sound a) where
           (same-eq (stateOf (a .book) x) 3 (omega (arith, woken-few R e x))) (rise-in lists x X r t L (omega arith))))
 
   abbrev Wakes : Plan → Type 0
-  Wakes x = valuesOf x ≡ awoken (a .book) (play lists (eventsOf x) a .book) ∷ []
+  Wakes x = valuesOf x ≡ awoken (a .book) (play lists (eventsOf v x) a .book) ∷ []
 
   -- none wakes where nothing happens
   none-awoken : 0 ≡ awoken (a .book) (a .book)
@@ -141,13 +142,13 @@ module _ (a : State lists) (S : Sound a) where
       (λ x h. absurd (omega arith)) (λ x X. sym (ap hit (waited-false (stateOf (a .book) x) (stateOf (a .book) x) (λ e. e))))
 
   -- numbers are altered, and the woken wake
-  numbers-wake : (m : List Resource) (R : Release) → R .tracks ≡ 0 → Wakes (done (length (woken v R) ∷ []) (numbered m ∷ wake (woken v R)))
+  numbers-wake : (m : List Resource) (R : Release) → R .tracks ≡ 0 → Wakes (releasing (length (woken v R) ∷ []) (numbered m ∷ []) R)
   numbers-wake m R e =
       ap (λ (n : ℕ). n ∷ [])
       (woken-awoken R e a (numbered m ∷ wake (woken v R)) (numbers (wake-rises (woken v R) (woken-known R e))) (S .shape .programs) (λ x X k. k))
 
   ending-wakes : IfDone Wakes (asks lists a (running EXEC6))
-  unfolding plan call ends
+  unfolding plan call endsIn
   ending-wakes = if-called _ _ _ (λ h.
       let c = head (scheduled lists a) in
       let C = S .chains .within 1 c (omega arith) (omega arith) (head-in (scheduled lists a) h) in
@@ -181,7 +182,7 @@ module _ (a : State lists) (S : Sound a) where
   sleeps p = eqb (stateOf b p) 0
 
   abbrev ticking : List Event
-  ticking = clocked (b .clock + 1) ∷ each (ticked b) (keep (dueAt b) all)
+  ticking = clocked (b .clock + 1) ∷ join (map (λ p. ticked p (at b p)) (keep (dueAt b) all))
 
   due-known : (x : ℕ) → 1 ≤ count x (keep (dueAt b) all) → Known x
   due-known x h = all-in x (keep-in (dueAt b) x all h .1)
@@ -223,7 +224,7 @@ module _ (a : State lists) (S : Sound a) where
   unfolding roused
   tick-roused = risers-roused
 
-  ticking-rouses : IfDone (λ x. valuesOf x ≡ roused b (play lists (eventsOf x) a .book) ∷ []) (asks lists a TICK)
+  ticking-rouses : IfDone (λ x. valuesOf x ≡ roused b (play lists (eventsOf v x) a .book) ∷ []) (asks lists a TICK)
   unfolding plan
   ticking-rouses = if-need _ _ _ _ _ (omega arith) (λ e. record { so = λ z. ap (λ (n : ℕ). n ∷ []) tick-roused })
 

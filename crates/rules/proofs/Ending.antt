@@ -19,14 +19,15 @@ use Rattle.records.specs.Records.{Known}
 use Rattle.records.specs.Numbers.{without}
 use Rattle.tracks.specs.Tracks.{nobody, replaced}
 use Rattle.rules.specs.Book.{at, whyOf}
-use Rattle.rules.specs.Plans.{Deed, becomes, unloaded, timed, on, held, numbered}
-use Rattle.rules.specs.Rules.{Release, woken, wake, settle, dismissed}
+use Rattle.rules.specs.Plans.{Deed, becomes, unloaded, timed, on, held, numbered, Release, woken, wake}
+use Rattle.rules.specs.Rules.{dismissed}
 use Rattle.rules.specs.Keeper.{lists, State, step, play, view}
 use Rattle.rules.proofs.Deeds.{made, step-turned}
 use Rattle.rules.proofs.Fine.{Slack, exact, right-slack, Uses, Tracked, Numbered, Fine}
 use Rattle.rules.proofs.Apt.{tracked-map, numbered-map, step-over, fine-on, fine-held, fine-numbered}
 use Rattle.rules.proofs.Making.{Timer, nothing-childless, apt-plain, apt-timed, apt-unused}
 use Rattle.rules.proofs.Passing.{tracked-replaced, numbered-without}
+use Rattle.rules.proofs.Settling.{settle}
 use Rattle.rules.proofs.Waking.{Callable, fine-wake, woke, woken-callable, woken-other, son-woken}
 
 -- p is excused as a son, and u as a user

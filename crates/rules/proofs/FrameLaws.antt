@@ -16,12 +16,11 @@ use Rattle.records.specs.declared.Why.the-variants.{Nothing}
 use Rattle.records.specs.Records.{Known, known, missing, unused, inState, withPriority, withTimer, newcomer}
 use Rattle.rules.specs.Book.{Book, at, stateOf, whyOf, put}
 use Rattle.rules.specs.Requests.{Request, FRESH}
-use Rattle.rules.specs.Plans.{Deed, becomes, priced, loaded, unloaded, timed, Event, on, clocked, held, numbered, renewed, eventsOf}
-use Rattle.rules.specs.Rules.{dueAt}
+use Rattle.rules.specs.Plans.{Deed, becomes, priced, loaded, unloaded, timed, Event, on, clocked, held, numbered, renewed, releaseOf, eventsOf}
 use Rattle.rules.specs.Keeper.{Keeper, State, leave, amend, act, step, play, view, scheduled, asks, after}
-use Rattle.rules.specs.Frame.{callerOf, namedIn, ticks, Concerned, caller, named, due, woken, Stirred, stays, wakes}
+use Rattle.rules.specs.Frame.{Party, Concerned, party, anew, woken, Stirred, stays, wakes}
 use Rattle.rules.proofs.Places.{known-true, at-other}
-use Rattle.rules.proofs.Parts.{Upon, About, plan-of}
+use Rattle.rules.proofs.Parts.{Upon, upon-map, By, as-party, as-woken, plan-of}
 
 stirred-on : (r s u : Program) → Stirred r s → Stirred s u → Stirred r u
 stirred-on r s u (stays e) (stays f) = stays (f ∙ e)
@@ -110,37 +109,48 @@ module _ (K : Keeper) (x : ℕ) (X : Known x) where
   play-stirred (numbered r ∷ es) u t = play-stirred es u (step K (numbered r) t)
   play-stirred (renewed T S R ∷ es) u t = absurd (u .0)
 
-module _ (K : Keeper) (t : State K) (q : Request) (old : (T S R : ℕ) → q ≢ FRESH T S R) (x : ℕ) (X : Known x) where
+-- a list that has a first is not empty
+some-happen : (e : Event) (es : List Event) → (e ∷ es) ≢ []
+some-happen e es i = let z = ap length i in omega (arith, z)
+
+module _ (K : Keeper) (t : State K) (q : Request) (x : ℕ) (X : Known x) where
+  abbrev Has : ℕ → Type 0
+  Has p = Party (t .book) (scheduled K t) p q
+
+  abbrev Whom : ℕ → Type 0
+  Whom p = Concerned (view K t) (scheduled K t) q p
+
+  abbrev Renews : Type 0
+  Renews = (T : ℕ) × (S : ℕ) × (R : ℕ) × (q ≡ FRESH T S R)
+
+  -- whom the events of the plan are about
+  walked : Upon (By (view K t) (λ p d. Has p) (releaseOf (asks K t q))) Renews (eventsOf (view K t) (asks K t q))
+  walked = plan-of (λ p d. Has p) Renews (view K t) (scheduled K t) q (record { fresh = λ T S R e. (T, S, R, e); party = λ p l h d. h }) .events
+
   -- THE FRAME
-  pub frame : (Concerned (view K t) (scheduled K t) q x → ⊥) → at (after K t q .book) x ≡ at (t .book) x
-  frame n = play-frame K x X (Concerned (view K t) (scheduled K t) q) n (eventsOf (asks K t q)) (plan-of _ _ (view K t) (scheduled K t) q concerned .events) t
+  pub frame : (Whom x → ⊥) → at (after K t q .book) x ≡ at (t .book) x
+  frame n = go (eventsOf (view K t) (asks K t q)) refl walked
     where
-      concerned : About (view K t) (scheduled K t) q (λ p d. Concerned (view K t) (scheduled K t) q p) ⊥
-      concerned = record {
-        fresh = old;
-        caller = λ h d. caller refl;
-        named = λ h d. named refl;
-        due = λ e y k h d. due e k h;
-        woken = λ y h. woken h;
-      }
+      go : (es : List Event) → eventsOf (view K t) (asks K t q) ≡ es → Upon (By (view K t) (λ p d. Has p) (releaseOf (asks K t q))) Renews es
+          → at (play K es t .book) x ≡ at (t .book) x
+      go [] i u = refl
+      go (e ∷ es) i u =
+          let some : eventsOf (view K t) (asks K t q) ≢ [] = λ j. some-happen e es (sym i ∙ j) in
+          play-frame K x X Whom n (e ∷ es)
+          (upon-map (By (view K t) (λ p d. Has p) (releaseOf (asks K t q))) (λ p d. Whom p) Renews ⊥ (concerned some) (λ f. n (anew some (f .0) (f .1) (f .2) (f .3))) (e ∷ es) u) t
+        where
+          concerned : eventsOf (view K t) (asks K t q) ≢ [] → (p : ℕ) (d : Deed) → By (view K t) (λ p d. Has p) (releaseOf (asks K t q)) p d → Whom p
+          concerned some p d (as-party h) = party some h
+          concerned some p d (as-woken e w) = woken w
 
-  -- of one that is neither the caller nor named nor due, and so may only be woken
-  module _ (not-caller : callerOf (scheduled K t) q ≢ x) (not-named : namedIn (t .book) q ≢ x) (not-due : ticks q ≡ true → dueAt (t .book) x ≡ true → ⊥) where
+  -- of one that has nothing to do with the request, and so may only be woken
+  module _ (old : (T S R : ℕ) → q ≢ FRESH T S R) (apart : Has x → ⊥) where
     pub stirred : Stirred (at (t .book) x) (at (after K t q .book) x)
-    stirred = play-stirred K x X (eventsOf (asks K t q)) (plan-of _ _ (view K t) (scheduled K t) q others .events) t
+    stirred =
+        play-stirred K x X (eventsOf (view K t) (asks K t q))
+        (upon-map (By (view K t) (λ p d. Has p) (releaseOf (asks K t q))) (λ p d. p ≡ x → d ≡ becomes 1 Nothing) Renews ⊥ others (λ f. old (f .0) (f .1) (f .2) (f .3))
+        (eventsOf (view K t) (asks K t q)) walked) t
       where
-        others : About (view K t) (scheduled K t) q (λ p d. p ≡ x → d ≡ becomes 1 Nothing) ⊥
-        others = record {
-          fresh = old;
-          caller = λ h d e. absurd (not-caller e);
-          named = λ h d e. absurd (not-named e);
-          due = λ e y k h d i. absurd (not-due e (subst (λ (z : ℕ). dueAt (t .book) z ≡ true) i h));
-          woken = λ y h e. refl;
-        }
-
-    pub only-woken : (s : ℕ) × (w : Why) × (at (after K t q .book) x ≡ inState s w (at (t .book) x))
-    only-woken = go stirred
-      where
-        go : Stirred (at (t .book) x) (at (after K t q .book) x) → (s : ℕ) × (w : Why) × (at (after K t q .book) x ≡ inState s w (at (t .book) x))
-        go (stays e) = (stateOf (t .book) x, whyOf (t .book) x, e)
-        go (wakes e) = (1, Nothing, e)
+        others : (p : ℕ) (d : Deed) → By (view K t) (λ p d. Has p) (releaseOf (asks K t q)) p d → p ≡ x → d ≡ becomes 1 Nothing
+        others p d (as-party h) e = absurd (apart (subst Has e h))
+        others p d (as-woken w k) e = w

@@ -15,11 +15,12 @@ use Rattle.tracks.specs.Tracks.{nobody, everybody, filled, replaced}
 use Rattle.tracks.proofs.Runs.{run-true, count-freed, count-replaced}
 use Rattle.rules.specs.Book.{Book}
 use Rattle.rules.specs.Requests.{OF, EXEC5, EXEC16, EXEC5ALL, operator, running}
-use Rattle.rules.specs.Plans.{Deed, becomes, priced, loaded, unloaded, timed, Event, on, clocked, held, numbered, renewed, Plan, valuesOf, eventsOf}
-use Rattle.rules.specs.Rules.{woken, wake, frees, ends, settle, dismissed, order, gives, call, head, plan}
+use Rattle.rules.specs.Plans.{Deed, becomes, priced, loaded, unloaded, timed, Event, on, clocked, held, numbered, renewed, Plan, valuesOf, eventsOf, woken, wake}
+use Rattle.rules.specs.Rules.{frees, ends, dismissed, order, gives, call, head, plan}
 use Rattle.rules.specs.Keeper.{Keeper, State, act, step, play, view, scheduled, asks}
 use Rattle.rules.specs.Counts.{freeTracks, Freed}
 use Rattle.lists.proofs.Tests.{both}
+use Rattle.rules.proofs.Settling.{settle, off-events}
 use Rattle.rules.proofs.IfDone.{IfDone, if-need, if-named, if-called}
 
 -- events after which the holders are as before
@@ -70,7 +71,7 @@ module _ (K : Keeper) where
 
   module _ (t : State K) where
     abbrev pub Frees : Plan → Type 0
-    Frees x = Freed (t .book) (play K (eventsOf x) t .book) (valuesOf x)
+    Frees x = Freed (t .book) (play K (eventsOf (view K t) x) t .book) (valuesOf x)
 
     gives-frees : (h n s : ℕ) → h ≢ nobody → IfDone Frees (gives (view K t) h n s)
     unfolding gives
@@ -87,8 +88,9 @@ module _ (K : Keeper) where
         let n = count p (t .book .holders) in
         record {
           so = λ z.
-              freed-by t (dismissed k p) (replaced p nobody (t .book .holders)) (settle (view K t) p (ends (view K t) p n)) n
-              (quiet-wake (woken (view K t) (ends (view K t) p n))) (count-replaced p (t .book .holders) (λ e. omega arith));
+              rw (off-events (view K t) p k (replaced p nobody (t .book .holders)) (ends (view K t) p n))
+              (freed-by t (dismissed k p) (replaced p nobody (t .book .holders)) (settle (view K t) p (ends (view K t) p n)) n
+              (quiet-wake (woken (view K t) (ends (view K t) p n))) (count-replaced p (t .book .holders) (λ e. omega arith)));
         }))
 
     pub own-frees : (n s : ℕ) → IfDone Frees (asks K t (running (EXEC5 n s)))

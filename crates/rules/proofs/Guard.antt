@@ -3,17 +3,18 @@
 -- Assumes nothing.
 use Prim.Native.Nat.{ℕ, _≤_}
 use native.Mathlib.Omega.{arith}
-use mathlib.Core.List.{List, [], _∷_}
+use mathlib.Core.Path.{_≡_, subst}
+use mathlib.Core.List.{List}
 use Rattle.lists.specs.Lists.{count}
-use Rattle.records.specs.Records.{Known}
-use Rattle.rules.specs.Requests.{Call, EXEC4, EXEC15, EXEC5, EXEC16, EXEC5ALL, EXEC6, EXEC7, EXEC11, EXEC9, EXEC10, EXEC12, ALLOC, LOCK, CLEAR, FREE, Request, FRESH, LOAD, operator, TICK, running}
-use Rattle.rules.specs.Plans.{View, eventsOf}
-use Rattle.rules.specs.Rules.{Release, head, plan}
+use Rattle.records.specs.Records.{Known, find}
+use Rattle.rules.specs.Requests.{Request}
+use Rattle.rules.specs.Plans.{Deed, View, Release, releaseOf, eventsOf}
+use Rattle.rules.specs.Rules.{head, plan}
 use Rattle.rules.specs.Keeper.{lists, State, view, scheduled, asks}
 use Rattle.rules.specs.Sound.{Chains}
-use Rattle.rules.specs.Frame.{callerOf, namedBy, namedIn, Woken, tracks-freed, reason-gone}
+use Rattle.rules.specs.Frame.{Party, calls, takes-name, ordered, son, started, timed, due, Woken, tracks-freed, reason-gone}
 use Rattle.rules.proofs.Finding.{find-bears, unused-known, head-in}
-use Rattle.rules.proofs.Parts.{Upon, plan-of}
+use Rattle.rules.proofs.Parts.{Upon, upon-map, By, as-party, as-woken, About, plan-of}
 
 -- the chains that a rule sees hold known programs only
 pub record Seen (v : View) (c : List ℕ) : Type 0 where
@@ -22,50 +23,32 @@ pub record Seen (v : View) (c : List ℕ) : Type 0 where
   pub disc : (x : ℕ) → 1 ≤ count x (v .disc) → Known x
 
 module _ (v : View) (c : List ℕ) (S : Seen v c) where
-  caller-known : (q : Request) → 1 ≤ callerOf c q → Known (callerOf c q)
-  caller-known (FRESH T S R) h = absurd (omega arith)
-  caller-known (LOAD nm n) h = absurd (omega arith)
-  caller-known (operator o nm) h = absurd (omega arith)
-  caller-known TICK h = absurd (omega arith)
-  caller-known (running r) h = S .scheduled (head c) (head-in c h)
+  found : (nm : List ℕ) (x : ℕ) → 1 ≤ x → find (v .book .programs) nm ≡ x → Known x
+  found nm x l e = subst Known e (find-bears (v .book .programs) nm (omega (arith, e)) .known)
 
-  call-known : (r : Call) → 1 ≤ namedBy (v .book) r → Known (namedBy (v .book) r)
-  call-known (EXEC4 n w) h = absurd (omega arith)
-  call-known (EXEC15 n w) h = absurd (omega arith)
-  call-known (EXEC5 n s) h = absurd (omega arith)
-  call-known (EXEC16 n s) h = absurd (omega arith)
-  call-known EXEC5ALL h = absurd (omega arith)
-  call-known EXEC6 h = absurd (omega arith)
-  call-known EXEC7 h = absurd (omega arith)
-  call-known EXEC11 h = absurd (omega arith)
-  call-known (EXEC9 nm) h = find-bears (v .book .programs) nm h .known
-  call-known (EXEC10 nm) h = find-bears (v .book .programs) nm h .known
-  call-known (EXEC12 nm r m o) h = find-bears (v .book .programs) nm h .known
-  call-known (ALLOC g w) h = absurd (omega arith)
-  call-known (LOCK r w) h = absurd (omega arith)
-  call-known (CLEAR r) h = absurd (omega arith)
-  call-known (FREE r) h = absurd (omega arith)
-
-  named-known : (q : Request) → 1 ≤ namedIn (v .book) q → Known (namedIn (v .book) q)
-  named-known (FRESH T S R) h = absurd (omega arith)
-  named-known (LOAD nm n) h = unused-known (v .book .programs) h
-  named-known (operator o nm) h = find-bears (v .book .programs) nm h .known
-  named-known TICK h = absurd (omega arith)
-  named-known (running r) h = call-known r h
+  party-known : (q : Request) (x : ℕ) → 1 ≤ x → Party (v .book) c x q → Known x
+  party-known q x l (calls r e) = subst Known e (S .scheduled (head c) (head-in c (omega (arith, e))))
+  party-known q x l (takes-name nm n e) = subst Known e (unused-known (v .book .programs) (omega (arith, e)))
+  party-known q x l (ordered o nm e) = found nm x l e
+  party-known q x l (son nm e) = found nm x l e
+  party-known q x l (started nm e) = found nm x l e
+  party-known q x l (timed nm r m o e) = found nm x l e
+  party-known q x l (due X e) = X
 
   woken-known : (R : Release) (x : ℕ) → Woken v R x → Known x
   woken-known R x (tracks-freed h k) = S .disc x k
   woken-known R x (reason-gone h k) = S .general x k
 
+  deed-known : (R : Release) (x : ℕ) (d : Deed) → By v (λ p d. Known p) R x d → Known x
+  deed-known R x d (as-party k) = k
+  deed-known R x d (as-woken e w) = woken-known R x w
+
   -- each event of a plan that is about a program is about one of 1 to 32
-  pub plan-known : (q : Request) → Upon (λ p d. Known p) (Unit {0}) (eventsOf (plan v c q))
-  plan-known q = plan-of (λ p d. Known p) (Unit {0}) v c q (record {
-    fresh = λ T S R e. tt;
-    caller = λ h d. caller-known q h;
-    named = λ h d. named-known q h;
-    due = λ e x X h d. X;
-    woken = woken-known _;
-  }) .events
+  pub plan-known : (q : Request) → Upon (λ p d. Known p) (Unit {0}) (eventsOf v (plan v c q))
+  plan-known q =
+      let about : About v c q (λ p d. Known p) (Unit {0}) = record { fresh = λ T S R e. tt; party = λ x l y d. party-known q x l y } in
+      upon-map (By v (λ p d. Known p) (releaseOf (plan v c q))) (λ p d. Known p) (Unit {0}) (Unit {0}) (deed-known (releaseOf (plan v c q))) (λ f. f)
+      (eventsOf v (plan v c q)) (plan-of (λ p d. Known p) (Unit {0}) v c q about .events)
 
 -- chains in order are such chains
 pub chained-seen : (a : State lists) → Chains (a .book) (a .kept) → Seen (view lists a) (scheduled lists a)
@@ -75,5 +58,5 @@ chained-seen a C = record {
   disc = λ x. C .within 5 x (omega arith) (omega arith);
 }
 
-pub asks-known : (a : State lists) → Chains (a .book) (a .kept) → (q : Request) → Upon (λ p d. Known p) (Unit {0}) (eventsOf (asks lists a q))
+pub asks-known : (a : State lists) → Chains (a .book) (a .kept) → (q : Request) → Upon (λ p d. Known p) (Unit {0}) (eventsOf (view lists a) (asks lists a q))
 asks-known a C = plan-known (view lists a) (scheduled lists a) (chained-seen a C)

@@ -6,7 +6,7 @@ use native.Mathlib.Omega.{arith}
 use mathlib.Core.Path.{_≡_, refl}
 use mathlib.Core.Logic.{_≢_}
 use mathlib.Core.Bool.{Bool, true, false}
-use mathlib.Core.List.{List, _∷_}
+use mathlib.Core.List.{List, _∷_, _++_}
 use mathlib.Core.Option.{Option, none, some}
 use lib.Dec.{ltb, eqb}
 use borrow.Author.Tests.{ltb-true, eqb-true}
@@ -18,8 +18,8 @@ use Rattle.records.specs.Names.{legal}
 use Rattle.records.specs.Records.{Known, find}
 use Rattle.records.specs.Numbers.{numberAt}
 use Rattle.rules.specs.Book.{at, stateOf}
-use Rattle.rules.specs.Plans.{becomes, Event, on, held, numbered, Plan, done, waiting, eventsOf, need, either, found}
-use Rattle.rules.specs.Rules.{named, inside, waits, allocated, Release, woken, wake, head, asCaller}
+use Rattle.rules.specs.Plans.{becomes, Event, on, held, numbered, Plan, done, releasing, waiting, eventsOf, need, either, found, Release, woken, wake}
+use Rattle.rules.specs.Rules.{named, inside, waits, allocated, head, asCaller}
 use Rattle.rules.specs.Keeper.{lists, State, step, play, view, scheduled}
 use Rattle.rules.specs.Sound.{Sound}
 use Rattle.rules.proofs.Finding.{find-bears, head-in}
@@ -30,7 +30,7 @@ use Rattle.rules.proofs.Waking.{Callable, fine-wake, chained, woken-cal
 
 -- a plan leaves the state sound
 pub record Keeps (a : State lists) (x : Plan) : Type 0 where
-  pub sound : Sound (play lists (eventsOf x) a)
+  pub sound : Sound (play lists (eventsOf (view lists a) x) a)
 
 -- the running program
 pub record Caller (a : State lists) (p : ℕ) : Type 0 where
@@ -52,6 +52,9 @@ module _ (a : State lists) (S : Sound a) where
 
   pub keeps-done : (vs : List ℕ) (es : List Event) → Fine (strict a) (play lists es a) → Keeps a (done vs es)
   keeps-done vs es F = record { sound = fine-sound (a .book .clock) (play lists es a) F }
+
+  pub keeps-releasing : (vs : List ℕ) (es : List Event) (R : Release) → Fine (strict a) (play lists (es ++ wake (woken (view lists a) R)) a) → Keeps a (releasing vs es R)
+  keeps-releasing vs es R F = record { sound = fine-sound (a .book .clock) (play lists (es ++ wake (woken (view lists a) R)) a) F }
 
   pub keeps-waiting : (s : ℕ) (es : List Event) → Fine (strict a) (play lists es a) → Keeps a (waiting s es)
   keeps-waiting s es F = record { sound = fine-sound (a .book .clock) (play lists es a) F }

@@ -32,3 +32,4 @@ pub mod SoundFresh
 pub mod Keeping
 pub mod SoundCalls
 pub mod SoundRuns
+pub mod Settling

@@ -6,8 +6,7 @@ use mathlib.Core.List.{List, _++_}
 use lib.Dec.{ltb}
 use borrow.Author.Tests.{lt-ltb, le-ltb}
 use Rattle.lists.specs.Lists.{remove}
-use Rattle.rules.specs.Plans.{View}
-use Rattle.rules.specs.Rules.{Release, fromGeneral, woken}
+use Rattle.rules.specs.Plans.{View, Release, fromGeneral, woken}
 
 pub disc-first : (v : View) (R : Release) → 1 ≤ R .tracks → woken v R ≡ remove (R .ended) (v .disc) ++ fromGeneral v R
 unfolding woken

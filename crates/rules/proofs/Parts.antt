@@ -5,22 +5,24 @@ use Prim.Native.Nat.{ℕ, zero, suc, _≤_}
 use native.Mathlib.Omega.{arith}
 use mathlib.Core.Path.{_≡_, refl}
 use mathlib.Core.Bool.{Bool, true, false, cond}
-use mathlib.Core.List.{List, [], _∷_, _++_}
+use mathlib.Core.List.{List, [], _∷_, _++_, map}
 use mathlib.Core.Option.{Option, none, some}
 use lib.Dec.{ltb, eqb}
 use borrow.Author.Tests.{ltb-true}
-use Rattle.lists.specs.Lists.{count, keep, upTo, remove}
+use Rattle.lists.specs.Lists.{count, keep, upTo, join, remove}
 use Rattle.lists.proofs.Laws.{same-refl, keep-in, count-remove-le, count-append}
+use Rattle.records.specs.declared.Program.{Program}
 use Rattle.records.specs.declared.Resource.{Resource}
 use Rattle.records.specs.declared.Why.{Why}
 use Rattle.records.specs.declared.Why.the-variants.{Nothing}
 use Rattle.records.specs.Records.{Known, all, find, lowestUnused}
 use Rattle.records.specs.Numbers.{numberAt}
-use Rattle.rules.specs.Book.{Book, stateOf, whyOf}
+use Rattle.rules.specs.Book.{at, whyOf}
 use Rattle.rules.specs.Requests.{Order, RU, SS, GO, PR, OF, Call, EXEC4, EXEC15, EXEC5, EXEC16, EXEC5ALL, EXEC6, EXEC7, EXEC11, EXEC9, EXEC10, EXEC12, ALLOC, LOCK, CLEAR, FREE, Request, FRESH, LOAD, operator, TICK, running}
-use Rattle.rules.specs.Plans.{Deed, becomes, timed, unloaded, Event, on, clocked, held, numbered, renewed, Plan, refused, done, waiting, View, eventsOf, need, either, found}
-use Rattle.rules.specs.Rules.{named, inside, waits, Release, awaits, woken, wake, frees, dismissed, order, dueAt, ticked, each, takes, gives, allocated, call, head, asCaller, plan}
-use Rattle.rules.specs.Frame.{callerOf, namedBy, namedIn, released, releasedBy, releases, ticks, Woken, tracks-freed, reason-gone}
+use Rattle.rules.specs.Plans.{Deed, becomes, timed, unloaded, Event, on, clocked, held, numbered, renewed, Plan, refused, done, releasing, waiting, nothing, releaseOf, View, eventsOf, need, either, found, Release, awaits, woken, wake}
+use Rattle.rules.specs.Rules.{named, inside, waits, frees, dismissed, order, dueAt, ticked, takes, gives, allocated, call, head, asCaller, plan}
+use Rattle.rules.specs.Frame.{Party, calls, takes-name, ordered, son, started, due, Woken, tracks-freed, reason-gone}
+use Rattle.rules.specs.Frame as party
 use Rattle.rules.proofs.Places.{all-in}
 
 -- what each event does is of a kind: P of a deed of a program, F of fresh tables
@@ -32,23 +34,34 @@ Upon P F (held h ∷ es) = Upon P F es
 Upon P F (numbered r ∷ es) = Upon P F es
 Upon P F (renewed T S R ∷ es) = F × Upon P F es
 
--- a refusal's number is one of 2 to 14
+pub upon-map : (P Q : ℕ → Deed → Type 0) (F G : Type 0) → ((p : ℕ) (d : Deed) → P p d → Q p d) → (F → G) → (es : List Event) → Upon P F es → Upon Q G es
+upon-map P Q F G f g [] u = tt
+upon-map P Q F G f g (on p d ∷ es) u = (f p d (u .0), upon-map P Q F G f g es (u .1))
+upon-map P Q F G f g (clocked c ∷ es) u = upon-map P Q F G f g es u
+upon-map P Q F G f g (held h ∷ es) u = upon-map P Q F G f g es u
+upon-map P Q F G f g (numbered r ∷ es) u = upon-map P Q F G f g es u
+upon-map P Q F G f g (renewed T S R ∷ es) u = (g (u .0), upon-map P Q F G f g es (u .1))
+
+-- a deed of a program is of the kind P, or it is a waking by what was set free
+pub data By (v : View) (P : ℕ → Deed → Type 0) (R : Release) (p : ℕ) (d : Deed) : Type 0 where
+  as-party : P p d → By v P R p d
+  as-woken : d ≡ becomes 1 Nothing → Woken v R p → By v P R p d
+
+-- a refusal's number is one of 2 to 11
 abbrev pub Listed : Plan → Type 0
 Listed (refused a v) = upTo 2 11 a ≡ true
 Listed (done vs es) = Unit {0}
+Listed (releasing vs es R) = Unit {0}
 Listed (waiting s es) = Unit {0}
 
-pub record Of (P : ℕ → Deed → Type 0) (F : Type 0) (x : Plan) : Type 0 where
-  pub events : Upon P F (eventsOf x)
+pub record Of (P : ℕ → Deed → Type 0) (F : Type 0) (v : View) (x : Plan) : Type 0 where
+  pub events : Upon (By v P (releaseOf x)) F (eventsOf v x)
   pub number : Listed x
 
--- what is asked holds of those whom the request concerns
+-- what is asked holds of those who have to do with the request
 pub record About (v : View) (scheduled : List ℕ) (q : Request) (P : ℕ → Deed → Type 0) (F : Type 0) : Type 0 where
   pub fresh : (T S R : ℕ) → q ≡ FRESH T S R → F
-  pub caller : 1 ≤ callerOf scheduled q → (d : Deed) → P (callerOf scheduled q) d
-  pub named : 1 ≤ namedIn (v .book) q → (d : Deed) → P (namedIn (v .book) q) d
-  pub due : ticks q ≡ true → (x : ℕ) → Known x → dueAt (v .book) x ≡ true → (d : Deed) → P x d
-  pub woken : (x : ℕ) → Woken v (releases v scheduled q) x → P x (becomes 1 Nothing)
+  pub party : (x : ℕ) → 1 ≤ x → Party (v .book) scheduled x q → (d : Deed) → P x d
 
 -- those that a request wakes waited, and their reason is gone
 pub woken-waits : (v : View) (R : Release) (x : ℕ) → 1 ≤ count x (woken v R) → Woken v R x
@@ -67,29 +80,25 @@ woken-waits v R x h = go (ltb 0 (R .tracks)) refl (count x rest) refl h
         (omega (arith, count-append x (remove (R .ended) (v .disc)) rest, count-remove-le x (R .ended) (v .disc)))
     go false e zero i k = absurd (omega arith)
 
-module _ (P : ℕ → Deed → Type 0) (F : Type 0) where
-  -- lists of events
-  upon-append : (es fs : List Event) → Upon P F es → Upon P F fs → Upon P F (es ++ fs)
-  upon-append [] fs u w = w
-  upon-append (on p d ∷ es) fs u w = (u .0, upon-append es fs (u .1) w)
-  upon-append (clocked c ∷ es) fs u w = upon-append es fs u w
-  upon-append (held c ∷ es) fs u w = upon-append es fs u w
-  upon-append (numbered c ∷ es) fs u w = upon-append es fs u w
-  upon-append (renewed T S R ∷ es) fs u w = (u .0, upon-append es fs (u .1) w)
+upon-append : (P : ℕ → Deed → Type 0) (F : Type 0) (es fs : List Event) → Upon P F es → Upon P F fs → Upon P F (es ++ fs)
+upon-append P F [] fs u w = w
+upon-append P F (on p d ∷ es) fs u w = (u .0, upon-append P F es fs (u .1) w)
+upon-append P F (clocked c ∷ es) fs u w = upon-append P F es fs u w
+upon-append P F (held c ∷ es) fs u w = upon-append P F es fs u w
+upon-append P F (numbered c ∷ es) fs u w = upon-append P F es fs u w
+upon-append P F (renewed T S R ∷ es) fs u w = (u .0, upon-append P F es fs (u .1) w)
 
-  upon-wake : (c : List ℕ) → ((x : ℕ) → 1 ≤ count x c → P x (becomes 1 Nothing)) → Upon P F (wake c)
-  upon-wake [] f = tt
-  upon-wake (q ∷ qs) f = (f q (omega (arith, same-refl q)), upon-wake qs (λ x h. f x (omega arith)))
+module _ (P : ℕ → Deed → Type 0) (F : Type 0) (v : View) where
+  upon-wake : (R : Release) (c : List ℕ) → ((x : ℕ) → 1 ≤ count x c → Woken v R x) → Upon (By v P R) F (wake c)
+  upon-wake R [] f = tt
+  upon-wake R (q ∷ qs) f = (as-woken refl (f q (omega (arith, same-refl q))), upon-wake R qs (λ x h. f x (omega arith)))
 
-  upon-woken : (v : View) (R : Release) → ((x : ℕ) → Woken v R x → P x (becomes 1 Nothing)) → Upon P F (wake (woken v R))
-  upon-woken v R f = upon-wake (woken v R) (λ x h. f x (woken-waits v R x h))
-
-  upon-each : (f : ℕ → List Event) (c : List ℕ) → ((x : ℕ) → 1 ≤ count x c → Upon P F (f x)) → Upon P F (each f c)
+  upon-each : (f : ℕ → List Event) (c : List ℕ) → ((x : ℕ) → 1 ≤ count x c → Upon P F (f x)) → Upon P F (join (map f c))
   upon-each f [] g = tt
-  upon-each f (q ∷ qs) g = upon-append (f q) (each f qs) (g q (omega (arith, same-refl q))) (upon-each f qs (λ x h. g x (omega arith)))
+  upon-each f (q ∷ qs) g = upon-append P F (f q) (join (map f qs)) (g q (omega (arith, same-refl q))) (upon-each f qs (λ x h. g x (omega arith)))
 
-  upon-ticked : (b : Book) (p : ℕ) → ((d : Deed) → P p d) → Upon P F (ticked b p)
-  upon-ticked b p h = (h _, go (eqb (stateOf b p) 0))
+  upon-ticked : (p : ℕ) (r : Program) → ((d : Deed) → P p d) → Upon P F (ticked p r)
+  upon-ticked p r h = (h _, go (eqb (r .state) 0))
     where
       go : (x : Bool) → Upon P F (cond x (on p (becomes 1 Nothing) ∷ []) [])
       go true = (h _, tt)
@@ -103,93 +112,103 @@ module _ (P : ℕ → Deed → Type 0) (F : Type 0) where
       go false = (h _, (h _, tt))
 
   -- the parts of rules
-  of-done : (vs : List ℕ) (es : List Event) → Upon P F es → Of P F (done vs es)
-  of-done vs es u = record { events = u; number = tt }
+  of-party : (R : Release) (es : List Event) → Upon P F es → Upon (By v P R) F es
+  of-party R = upon-map P (By v P R) F F (λ p d. as-party) (λ f. f)
 
-  of-waiting : (s : ℕ) (es : List Event) → Upon P F es → Of P F (waiting s es)
-  of-waiting s es u = record { events = u; number = tt }
+  of-done : (vs : List ℕ) (es : List Event) → Upon P F es → Of P F v (done vs es)
+  of-done vs es u = record { events = of-party nothing es u; number = tt }
 
-  of-test : (b : Bool) (a n : ℕ) (x : Plan) → upTo 2 11 a ≡ true → (b ≡ true → Of P F x) → Of P F (need b a n x)
+  of-waiting : (s : ℕ) (es : List Event) → Upon P F es → Of P F v (waiting s es)
+  of-waiting s es u = record { events = of-party nothing es u; number = tt }
+
+  of-releasing : (vs : List ℕ) (es : List Event) (R : Release) → Upon P F es → Of P F v (releasing vs es R)
+  of-releasing vs es R u = record {
+    events = upon-append (By v P R) F es (wake (woken v R)) (of-party R es u) (upon-wake R (woken v R) (woken-waits v R));
+    number = tt;
+  }
+
+  of-test : (b : Bool) (a n : ℕ) (x : Plan) → upTo 2 11 a ≡ true → (b ≡ true → Of P F v x) → Of P F v (need b a n x)
   unfolding need
   of-test true a n x l u = u refl
   of-test false a n x l u = record { events = tt; number = l }
 
-  of-need : (b : Bool) (a n : ℕ) (x : Plan) → upTo 2 11 a ≡ true → Of P F x → Of P F (need b a n x)
+  of-need : (b : Bool) (a n : ℕ) (x : Plan) → upTo 2 11 a ≡ true → Of P F v x → Of P F v (need b a n x)
   of-need b a n x l u = of-test b a n x l (λ e. u)
 
-  of-either : (b : Bool) (x y : Plan) → Of P F x → Of P F y → Of P F (either b x y)
+  of-either : (b : Bool) (x y : Plan) → Of P F v x → Of P F v y → Of P F v (either b x y)
   unfolding either
   of-either true x y u w = u
   of-either false x y u w = w
 
-  of-found : (o : Option ℕ) (f : ℕ → Plan) (x : Plan) → ((i : ℕ) → Of P F (f i)) → Of P F x → Of P F (found o f x)
+  of-found : (o : Option ℕ) (f : ℕ → Plan) (x : Plan) → ((i : ℕ) → Of P F v (f i)) → Of P F v x → Of P F v (found o f x)
   unfolding found
   of-found none f x u w = w
   of-found (some i) f x u w = u i
 
-  of-named : (v : View) (nm : List ℕ) (f : ℕ → Plan) → (1 ≤ find (v .book .programs) nm → Of P F (f (find (v .book .programs) nm))) → Of P F (named v nm f)
+  of-named : (nm : List ℕ) (f : ℕ → Plan) → (1 ≤ find (v .book .programs) nm → Of P F v (f (find (v .book .programs) nm))) → Of P F v (named v nm f)
   unfolding named
-  of-named v nm f u = of-need _ _ _ _ refl (of-test _ _ _ _ refl (λ e. u (ltb-true 0 (find (v .book .programs) nm) e)))
+  of-named nm f u = of-need _ _ _ _ refl (of-test _ _ _ _ refl (λ e. u (ltb-true 0 (find (v .book .programs) nm) e)))
 
-  of-inside : (v : View) (p s : ℕ) (x : Plan) → Of P F x → Of P F (inside v p s x)
+  of-inside : (p s : ℕ) (x : Plan) → Of P F v x → Of P F v (inside v p s x)
   unfolding inside
-  of-inside v p s x u = of-need _ _ _ _ refl u
+  of-inside p s x u = of-need _ _ _ _ refl u
 
-  of-allocated : (v : View) (r : ℕ) (f : Resource → Plan) → Of P F (f (numberAt (v .book .resources) r)) → Of P F (allocated v r f)
+  of-allocated : (r : ℕ) (f : Resource → Plan) → Of P F v (f (numberAt (v .book .resources) r)) → Of P F v (allocated v r f)
   unfolding allocated
-  of-allocated v r f u = of-need _ _ _ _ refl (of-need _ _ _ _ refl u)
+  of-allocated r f u = of-need _ _ _ _ refl (of-need _ _ _ _ refl u)
 
-  of-waits : (c w s : ℕ) (y : Why) → ((d : Deed) → P c d) → Of P F (waits c w s y)
+  of-waits : (c w s : ℕ) (y : Why) → ((d : Deed) → P c d) → Of P F v (waits c w s y)
   unfolding waits
   of-waits c w s y h = of-either _ _ _ (of-waiting _ _ (h _, tt)) (record { events = tt; number = refl })
 
-  of-takes : (v : View) (c h n w : ℕ) → ((d : Deed) → P c d) → Of P F (takes v c h n w)
+  of-takes : (c h n w : ℕ) → ((d : Deed) → P c d) → Of P F v (takes v c h n w)
   unfolding takes
-  of-takes v c h n w k = of-need _ _ _ _ refl (of-found _ _ _ (λ i. of-done _ _ tt) (of-waits _ _ _ _ k))
+  of-takes c h n w k = of-need _ _ _ _ refl (of-found _ _ _ (λ i. of-done _ _ tt) (of-waits _ _ _ _ k))
 
-  of-gives : (v : View) (h n start : ℕ) → Upon P F (wake (woken v (frees n))) → Of P F (gives v h n start)
+  of-gives : (h n start : ℕ) → Of P F v (gives v h n start)
   unfolding gives
-  of-gives v h n start u = of-need _ _ _ _ refl (of-need _ _ _ _ refl (of-done _ _ u))
+  of-gives h n start = of-need _ _ _ _ refl (of-need _ _ _ _ refl (of-releasing _ _ _ tt))
 
   -- the rules
-  order-of : (v : View) (o : Order) (p : ℕ) → ((d : Deed) → P p d) → ((x : ℕ) → Woken v (releasedBy v p o) x → P x (becomes 1 Nothing)) → Of P F (order v o p)
+  order-of : (o : Order) (p : ℕ) → ((d : Deed) → P p d) → Of P F v (order v o p)
   unfolding order
-  order-of v RU p h w = of-inside _ _ _ _ (of-done _ _ (h _, tt))
-  order-of v SS p h w = of-inside _ _ _ _ (of-done _ _ (h _, tt))
-  order-of v GO p h w = of-inside _ _ _ _ (of-done _ _ (h _, tt))
-  order-of v (PR n) p h w = of-done _ _ (h _, tt)
-  order-of v (OF k) p h w = of-done _ _ (upon-append (dismissed k p) _ (upon-dismissed k p h) (upon-woken v (releasedBy v p (OF k)) w))
+  order-of RU p h = of-inside _ _ _ (of-done _ _ (h _, tt))
+  order-of SS p h = of-inside _ _ _ (of-done _ _ (h _, tt))
+  order-of GO p h = of-inside _ _ _ (of-done _ _ (h _, tt))
+  order-of (PR n) p h = of-done _ _ (h _, tt)
+  order-of (OF k) p h = of-releasing _ _ _ (upon-append P F (dismissed k p) _ (upon-dismissed k p h) tt)
 
-  call-of : (v : View) (p : ℕ) (c : Call) → ((d : Deed) → P p d) → (1 ≤ namedBy (v .book) c → (d : Deed) → P (namedBy (v .book) c) d)
-      → ((x : ℕ) → Woken v (released v p c) x → P x (becomes 1 Nothing)) → Of P F (call v p c)
+  call-of : (c : List ℕ) (q : Call) → 1 ≤ head c → ((x : ℕ) → 1 ≤ x → Party (v .book) c x (running q) → (d : Deed) → P x d) → Of P F v (call v (head c) q)
   unfolding call
-  call-of v p (EXEC4 n w) h k u = of-takes _ _ _ _ _ h
-  call-of v p (EXEC15 n w) h k u = of-takes _ _ _ _ _ h
-  call-of v p (EXEC5 n s) h k u = of-gives _ _ _ _ (upon-woken v (frees n) u)
-  call-of v p (EXEC16 n s) h k u = of-gives _ _ _ _ (upon-woken v (frees n) u)
-  call-of v p EXEC5ALL h k u = of-done _ _ (upon-woken v (released v p EXEC5ALL) u)
-  call-of v p EXEC6 h k u = of-done _ _ (h _, upon-woken v (released v p EXEC6) u)
-  call-of v p EXEC7 h k u = of-done _ _ (h _, tt)
-  call-of v p EXEC11 h k u = of-done _ _ tt
-  call-of v p (EXEC9 nm) h k u = of-named _ _ _ (λ i. of-inside _ _ _ _ (of-waiting _ _ (k i _, (h _, tt))))
-  call-of v p (EXEC10 nm) h k u = of-named _ _ _ (λ i. of-inside _ _ _ _ (of-done _ _ (k i _, tt)))
-  call-of v p (EXEC12 nm r m o) h k u = of-need _ _ _ _ refl (of-named _ _ _ (λ i. of-done _ _ (k i _, tt)))
-  call-of v p (ALLOC g w) h k u = of-need _ _ _ _ refl (of-either _ _ _ (of-done _ _ tt) (of-waits _ _ _ _ h))
-  call-of v p (LOCK r w) h k u =
-      of-need _ _ _ _ refl (of-allocated _ _ _ (of-either _ _ _ (of-done _ _ tt) (of-either _ _ _ (of-done _ _ tt) (of-waits _ _ _ _ h))))
-  call-of v p (CLEAR r) h k u =
-      of-allocated _ _ _ (of-either _ _ _ (of-done _ _ tt) (of-need _ _ _ _ refl (of-done _ _ (upon-woken v (released v p (CLEAR r)) u))))
-  call-of v p (FREE r) h k u = of-allocated _ _ _ (of-need _ _ _ _ refl (of-done _ _ (upon-woken v (released v p (FREE r)) u)))
+  call-of c (EXEC4 n w) l f = of-takes _ _ _ _ (f (head c) l (calls _ refl))
+  call-of c (EXEC15 n w) l f = of-takes _ _ _ _ (f (head c) l (calls _ refl))
+  call-of c (EXEC5 n s) l f = of-gives _ _ _
+  call-of c (EXEC16 n s) l f = of-gives _ _ _
+  call-of c EXEC5ALL l f = of-releasing _ _ _ tt
+  call-of c EXEC6 l f = of-releasing _ _ _ (f (head c) l (calls _ refl) _, tt)
+  call-of c EXEC7 l f = of-done _ _ (f (head c) l (calls _ refl) _, tt)
+  call-of c EXEC11 l f = of-done _ _ tt
+  call-of c (EXEC9 nm) l f = of-named _ _ (λ i. of-inside _ _ _ (of-waiting _ _ (f _ i (son nm refl) _, (f (head c) l (calls _ refl) _, tt))))
+  call-of c (EXEC10 nm) l f = of-named _ _ (λ i. of-inside _ _ _ (of-done _ _ (f _ i (started nm refl) _, tt)))
+  call-of c (EXEC12 nm r m o) l f = of-need _ _ _ _ refl (of-named _ _ (λ i. of-done _ _ (f _ i (party.timed nm r m o refl) _, tt)))
+  call-of c (ALLOC g w) l f = of-need _ _ _ _ refl (of-either _ _ _ (of-done _ _ tt) (of-waits _ _ _ _ (f (head c) l (calls _ refl))))
+  call-of c (LOCK r w) l f =
+      of-need _ _ _ _ refl (of-allocated _ _ (of-either _ _ _ (of-done _ _ tt) (of-either _ _ _ (of-done _ _ tt) (of-waits _ _ _ _ (f (head c) l (calls _ refl))))))
+  call-of c (CLEAR r) l f = of-allocated _ _ (of-either _ _ _ (of-done _ _ tt) (of-need _ _ _ _ refl (of-releasing _ _ _ tt)))
+  call-of c (FREE r) l f = of-allocated _ _ (of-need _ _ _ _ refl (of-releasing _ _ _ tt))
 
-  pub plan-of : (v : View) (scheduled : List ℕ) (q : Request) → About v scheduled q P F → Of P F (plan v scheduled q)
-  unfolding plan asCaller
-  plan-of v c (FRESH T S R) A = of-need _ _ _ _ refl (of-done _ _ (A .fresh T S R refl, tt))
-  plan-of v c (LOAD nm n) A =
-      of-need _ _ _ _ refl (of-need _ _ _ _ refl (of-test _ _ _ _ refl
-      (λ e. of-done _ _ (A .named (ltb-true 0 (lowestUnused (v .book .programs)) e) _, tt))))
-  plan-of v c (operator o nm) A =
-      of-need _ _ _ _ refl (of-named _ _ _ (λ i. order-of v o (find (v .book .programs) nm) (A .named i) (A .woken)))
-  plan-of v c TICK A =
-      of-need _ _ _ _ refl (of-done _ _ (upon-each (ticked (v .book)) (keep (dueAt (v .book)) all)
-      (λ x h. let k = keep-in (dueAt (v .book)) x all h in upon-ticked (v .book) x (A .due refl x (all-in x (k .1)) (k .0)))))
-  plan-of v c (running r) A = of-test _ _ _ _ refl (λ e. call-of v (head c) r (A .caller (ltb-true 0 (head c) e)) (A .named) (A .woken))
+pub plan-of : (P : ℕ → Deed → Type 0) (F : Type 0) (v : View) (scheduled : List ℕ) (q : Request) → About v scheduled q P F → Of P F v (plan v scheduled q)
+unfolding plan asCaller
+plan-of P F v c (FRESH T S R) A = of-need P F v _ _ _ _ refl (of-done P F v _ _ (A .fresh T S R refl, tt))
+plan-of P F v c (LOAD nm n) A =
+    of-need P F v _ _ _ _ refl (of-need P F v _ _ _ _ refl (of-test P F v _ _ _ _ refl
+    (λ e. of-done P F v _ _ (A .party _ (ltb-true 0 (lowestUnused (v .book .programs)) e) (takes-name nm n refl) _, tt))))
+plan-of P F v c (operator o nm) A =
+    of-need P F v _ _ _ _ refl (of-named P F v _ _ (λ i. order-of P F v o (find (v .book .programs) nm) (A .party _ i (ordered o nm refl))))
+plan-of P F v c TICK A =
+    of-need P F v _ _ _ _ refl (of-done P F v _ _ (upon-each P F v (λ p. ticked p (at (v .book) p)) (keep (dueAt (v .book)) all)
+    (λ x h.
+    let k = keep-in (dueAt (v .book)) x all h in
+    let X : Known x = all-in x (k .1) in
+    upon-ticked P F v x (at (v .book) x) (A .party x (X .0) (due X (k .0))))))
+plan-of P F v c (running r) A = of-test P F v _ _ _ _ refl (λ e. call-of P F v c r (ltb-true 0 (head c) e) (A .party))

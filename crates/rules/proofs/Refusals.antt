@@ -7,7 +7,7 @@ use mathlib.Core.Path.{_≡_, refl, ap, subst}
 use mathlib.Core.List.{List, [], _∷_}
 use Rattle.lists.proofs.Tests.{upTo-true}
 use Rattle.rules.specs.Requests.{Request}
-use Rattle.rules.specs.Plans.{Plan, refused, done, waiting, View, numberOf, eventsOf}
+use Rattle.rules.specs.Plans.{Plan, refused, done, releasing, waiting, View, numberOf, eventsOf}
 use Rattle.rules.specs.Rules.{plan}
 use Rattle.rules.specs.Refusals.{Answered}
 use Rattle.rules.specs.Keeper.{Keeper, State, play, view, scheduled, asks, after, runs}
@@ -15,23 +15,19 @@ use Rattle.rules.proofs.Parts.{Listed, plan-of}
 
 plan-listed : (v : View) (c : List ℕ) (q : Request) → Listed (plan v c q)
 plan-listed v c q =
-    plan-of (λ p d. Unit {0}) (Unit {0}) v c q (record {
-      fresh = λ T S R e. tt;
-      caller = λ h d. tt;
-      named = λ h d. tt;
-      due = λ e x k h d. tt;
-      woken = λ x h. tt;
-    }) .number
+    plan-of (λ p d. Unit {0}) (Unit {0}) v c q (record { fresh = λ T S R e. tt; party = λ x h y d. tt }) .number
 
 listed-highest : (x : Plan) → Listed x → numberOf x ≤ 11
 listed-highest (refused a v) h = upTo-true 2 11 a h .1
 listed-highest (done vs es) h = omega arith
+listed-highest (releasing vs es R) h = omega arith
 listed-highest (waiting s es) h = omega arith
 
-refusal-nothing : (x : Plan) → 2 ≤ numberOf x → eventsOf x ≡ []
-refusal-nothing (refused a v) h = refl
-refusal-nothing (done vs es) h = absurd (omega arith)
-refusal-nothing (waiting s es) h = absurd (omega arith)
+refusal-nothing : (v : View) (x : Plan) → 2 ≤ numberOf x → eventsOf v x ≡ []
+refusal-nothing v (refused a n) h = refl
+refusal-nothing v (done vs es) h = absurd (omega arith)
+refusal-nothing v (releasing vs es R) h = absurd (omega arith)
+refusal-nothing v (waiting s es) h = absurd (omega arith)
 
 pub answered : (K : Keeper) (t : State K) (q : Request) → Answered K t q
 answered K t q =
@@ -39,8 +35,8 @@ answered K t q =
     record {
       highest = listed-highest (asks K t q) listed;
       lowest = λ a v e. upTo-true 2 11 a (subst Listed e listed) .0;
-      nothing = refusal-nothing (asks K t q);
-      stays = λ h. ap (λ (es : List _). play K es t) (refusal-nothing (asks K t q) h);
+      nothing = refusal-nothing (view K t) (asks K t q);
+      stays = λ h. ap (λ (es : List _). play K es t) (refusal-nothing (view K t) (asks K t q) h);
     }
 
 -- a run goes on after a refusal as if it had not been asked

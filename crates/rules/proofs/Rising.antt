@@ -7,18 +7,18 @@ use native.Mathlib.Decide.{ℕ-discrete}
 use mathlib.Core.Path.{_≡_, refl, ap, _∙_}
 use mathlib.Core.Logic.{_≢_}
 use mathlib.Core.Bool.{Bool, true, false, cond}
-use mathlib.Core.List.{List, [], _∷_, _++_}
+use mathlib.Core.List.{List, [], _∷_, _++_, map}
 use lib.ListN.{length}
 use lib.Dec.{eqb}
-use Rattle.lists.specs.Lists.{same, count, keep}
+use Rattle.lists.specs.Lists.{same, count, keep, join}
 use Rattle.lists.proofs.Laws.{same-refl, same-eq}
 use Rattle.records.specs.declared.Resource.{Resource}
 use Rattle.records.specs.declared.Why.{Why}
 use Rattle.records.specs.declared.Why.the-variants.{Nothing}
 use Rattle.records.specs.Records.{Known}
-use Rattle.rules.specs.Book.{Book, stateOf}
-use Rattle.rules.specs.Plans.{becomes, timed, Event, on, clocked, held, numbered}
-use Rattle.rules.specs.Rules.{wake, ticked, each}
+use Rattle.rules.specs.Book.{Book, at, stateOf}
+use Rattle.rules.specs.Plans.{becomes, timed, Event, on, clocked, held, numbered, wake}
+use Rattle.rules.specs.Rules.{ticked}
 use Rattle.rules.specs.Keeper.{Keeper, State, step, play}
 use Rattle.rules.proofs.Deeds.{step-turned}
 
@@ -58,15 +58,15 @@ pub wake-rises : (c : List ℕ) → ((x : ℕ) → 1 ≤ count x c → Known x) 
 wake-rises [] f = none
 wake-rises (q ∷ qs) f = rises (f q (omega (arith, same-refl q))) (wake-rises qs (λ x h. f x (omega arith)))
 
-pub tick-rises : (b : Book) (c : List ℕ) → ((x : ℕ) → 1 ≤ count x c → Known x) → Rise (each (ticked b) c) (keep (λ p. eqb (stateOf b p) 0) c)
+pub tick-rises : (b : Book) (c : List ℕ) → ((x : ℕ) → 1 ≤ count x c → Known x) → Rise (join (map (λ p. ticked p (at b p)) c)) (keep (λ p. eqb (stateOf b p) 0) c)
 tick-rises b [] f = none
 tick-rises b (q ∷ qs) f = times Q (go (eqb (stateOf b q) 0) (tick-rises b qs (λ x h. f x (omega arith))))
   where
     Q : Known q
     Q = f q (omega (arith, same-refl q))
 
-    go : (t : Bool) → Rise (each (ticked b) qs) (keep (λ p. eqb (stateOf b p) 0) qs)
-        → Rise (cond t (on q (becomes 1 Nothing) ∷ []) [] ++ each (ticked b) qs) (cond t (q ∷ keep (λ p. eqb (stateOf b p) 0) qs) (keep (λ p. eqb (stateOf b p) 0) qs))
+    go : (t : Bool) → Rise (join (map (λ p. ticked p (at b p)) qs)) (keep (λ p. eqb (stateOf b p) 0) qs)
+        → Rise (cond t (on q (becomes 1 Nothing) ∷ []) [] ++ join (map (λ p. ticked p (at b p)) qs)) (cond t (q ∷ keep (λ p. eqb (stateOf b p) 0) qs) (keep (λ p. eqb (stateOf b p) 0) qs))
     go true r = rises Q r
     go false r = r
 

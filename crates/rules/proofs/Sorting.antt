@@ -9,9 +9,9 @@ use mathlib.Core.Bool.{Bool, true, false, cond}
 use mathlib.Core.List.{List, [], _∷_}
 use lib.Dec.{leb, eqb}
 use borrow.Author.Tests.{eqb-true, eqb-false, leb-true, leb-false}
-use Rattle.lists.specs.Lists.{same, count, insert, Ascending}
+use Rattle.lists.specs.Lists.{same, count, insertBy, insert, Ascending}
 use Rattle.lists.proofs.Laws.{same-refl, count-cond, count-insert, among}
-use Rattle.rules.specs.Keeper.{earlier, sortIn, sort}
+use Rattle.rules.specs.Keeper.{earlier, sort}
 use Rattle.rules.specs.Replay.{Before}
 
 pub before-asym : (pr en : ℕ → ℕ) (x y : ℕ) → Before pr en x y → Before pr en y x → ⊥
@@ -37,14 +37,14 @@ module _ (pr en : ℕ → ℕ) (p : ℕ) where
       enter-step (leb (pr q) (pr p)) q qs refl (last q (omega (arith, same-refl q))) S (insert-ascending qs (λ r h. last r (omega arith)) (S .1))
 
 -- sorting
-pub count-sortIn : (t : ℕ → ℕ → Bool) (x p : ℕ) (c : List ℕ) → count x (sortIn t p c) ≡ same x p + count x c
-count-sortIn t x p [] = refl
-count-sortIn t x p (q ∷ qs) =
-    count-cond (t q p) x (same x p + count x (q ∷ qs)) (q ∷ sortIn t p qs) (p ∷ q ∷ qs) (omega (arith, count-sortIn t x p qs)) refl
+pub count-insertBy : (t : ℕ → ℕ → Bool) (x p : ℕ) (c : List ℕ) → count x (insertBy t p c) ≡ same x p + count x c
+count-insertBy t x p [] = refl
+count-insertBy t x p (q ∷ qs) =
+    count-cond (t q p) x (same x p + count x (q ∷ qs)) (q ∷ insertBy t p qs) (p ∷ q ∷ qs) (omega (arith, count-insertBy t x p qs)) refl
 
 pub count-sort : (t : ℕ → ℕ → Bool) (z : ℕ) (c : List ℕ) → count z (sort t c) ≡ count z c
 count-sort t z [] = refl
-count-sort t z (q ∷ qs) = count-sortIn t z q (sort t qs) ∙ ap (λ (n : ℕ). same z q + n) (count-sort t z qs)
+count-sort t z (q ∷ qs) = count-insertBy t z q (sort t qs) ∙ ap (λ (n : ℕ). same z q + n) (count-sort t z qs)
 
 module _ (pr en : ℕ → ℕ) where
   earlier-true : (q p : ℕ) → en q ≢ en p → earlier pr en q p ≡ true → Before pr en q p
@@ -62,24 +62,24 @@ module _ (pr en : ℕ → ℕ) where
       go false e t = let l : pr p < pr q = leb-false (pr q) (pr p) t in (omega arith, λ k. absurd (omega arith))
 
   sort-step : (b : Bool) (p q : ℕ) (qs : List ℕ) → earlier pr en q p ≡ b → en q ≢ en p → Ascending (Before pr en) (q ∷ qs)
-      → Ascending (Before pr en) (sortIn (earlier pr en) p qs) → Ascending (Before pr en) (cond b (q ∷ sortIn (earlier pr en) p qs) (p ∷ q ∷ qs))
+      → Ascending (Before pr en) (insertBy (earlier pr en) p qs) → Ascending (Before pr en) (cond b (q ∷ insertBy (earlier pr en) p qs) (p ∷ q ∷ qs))
   sort-step true p q qs t n S ih =
-      (λ r h. among (Before pr en q) p r qs (earlier-true q p n t) (S .0 r) (omega (arith, count-sortIn (earlier pr en) r p qs)), ih)
+      (λ r h. among (Before pr en q) p r qs (earlier-true q p n t) (S .0 r) (omega (arith, count-insertBy (earlier pr en) r p qs)), ih)
   sort-step false p q qs t n S ih =
       let f : Before pr en p q = earlier-false q p t in
       (λ r. among (Before pr en p) q r qs f (λ h. before-trans pr en p q r f (S .0 r h)), S)
 
-  sortIn-ascending : (p : ℕ) (c : List ℕ) → ((r : ℕ) → 1 ≤ count r c → en r ≢ en p) → Ascending (Before pr en) c → Ascending (Before pr en) (sortIn (earlier pr en) p c)
-  sortIn-ascending p [] n S = (λ r h. absurd (omega arith), tt)
-  sortIn-ascending p (q ∷ qs) n S =
-      sort-step (earlier pr en q p) p q qs refl (n q (omega (arith, same-refl q))) S (sortIn-ascending p qs (λ r h. n r (omega arith)) (S .1))
+  insertBy-ascending : (p : ℕ) (c : List ℕ) → ((r : ℕ) → 1 ≤ count r c → en r ≢ en p) → Ascending (Before pr en) c → Ascending (Before pr en) (insertBy (earlier pr en) p c)
+  insertBy-ascending p [] n S = (λ r h. absurd (omega arith), tt)
+  insertBy-ascending p (q ∷ qs) n S =
+      sort-step (earlier pr en q p) p q qs refl (n q (omega (arith, same-refl q))) S (insertBy-ascending p qs (λ r h. n r (omega arith)) (S .1))
 
   -- programs that stand once each, with entries that differ, are sorted
   pub sort-ascending : (c : List ℕ) → ((x : ℕ) → count x c ≤ 1) → ((x y : ℕ) → 1 ≤ count x c → 1 ≤ count y c → en x ≡ en y → x ≡ y)
       → Ascending (Before pr en) (sort (earlier pr en) c)
   sort-ascending [] o n = tt
   sort-ascending (q ∷ qs) o n =
-      sortIn-ascending q (sort (earlier pr en) qs)
+      insertBy-ascending q (sort (earlier pr en) qs)
       (λ r h e. omega (
         arith,
         count-sort (earlier pr en) r qs,

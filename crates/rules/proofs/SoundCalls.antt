@@ -25,7 +25,7 @@ use Rattle.tracks.proofs.Holders.{Runs, runs-drop, lowest-runs}
 use Rattle.rules.specs.Book.{at, stateOf, whyOf}
 use Rattle.rules.specs.Requests.{Call, EXEC4, EXEC15, EXEC5, EXEC16, EXEC5ALL, EXEC6, EXEC7, EXEC11, EXEC9, EXEC10, EXEC12, ALLOC, LOCK, CLEAR, FREE}
 use Rattle.rules.specs.Plans.{becomes, timed, on, held, numbered}
-use Rattle.rules.specs.Rules.{takes, gives, call, frees, clears, ends}
+use Rattle.rules.specs.Rules.{takes, gives, call, frees, clears, endsIn, ends}
 use Rattle.rules.specs.Keeper.{lists, State, step, play, view}
 use Rattle.rules.specs.Sound.{Sound}
 use Rattle.rules.proofs.Deeds.{Turned, step-turned}
@@ -35,7 +35,7 @@ use Rattle.rules.proofs.Making.{Childless, nothing-childless, apt-state
 use Rattle.rules.proofs.Passing.{Passes, nobody-passes, tracked-filled, tracked-replaced, owned-free, numbered-with}
 use Rattle.rules.proofs.Waking.{Callable}
 use Rattle.rules.proofs.Ending.{end-fine}
-use Rattle.rules.proofs.Keeping.{Keeps, Caller, strict, InUse, before, keeps-done, keeps-waiting, keeps-need, keeps-either, keeps-found, keeps-named, keeps-inside, keeps-allocated, become-fine, keeps-waits, held-wake, numbered-wake}
+use Rattle.rules.proofs.Keeping.{Keeps, Caller, strict, InUse, before, keeps-done, keeps-releasing, keeps-waiting, keeps-need, keeps-either, keeps-found, keeps-named, keeps-inside, keeps-allocated, become-fine, keeps-waits, held-wake, numbered-wake}
 
 -- whys other than a son
 tracks-childless : (n : ℕ) → Childless (Tracks n)
@@ -95,7 +95,7 @@ module _ (a : State lists) (S : Sound a) where
       keeps-need a S (leb 1 n && leb (start + n) (a .book .tracks)) 3 0 _ λ e.
       keeps-need a S (run h n (drop start (a .book .holders))) 9 0 _ λ f.
       let l = leb-true 1 n (both (leb 1 n) (leb (start + n) (a .book .tracks)) e .0) in
-      keeps-done a S (n ∷ []) _ (held-wake a S (filled start n nobody (a .book .holders)) (frees n)
+      keeps-releasing a S (n ∷ []) _ _ (held-wake a S (filled start n nobody (a .book .holders)) (frees n)
       (tracked-filled (InUse a) (a .book .tracks) (a .book .system) (a .book .holders) h start n nobody (before a S .tracked)
       (runs-drop h start n (a .book .holders) l f) d (nobody-passes (InUse a))))
 
@@ -192,13 +192,13 @@ module _ (a : State lists) (S : Sound a) where
         record { owner = O .owner; locker = λ v. absurd (omega (arith, v .0)); clear = λ e. refl; high = O .high; most = omega arith }
 
   pub keeps-call : (p : ℕ) → Caller a p → (q : Call) → Keeps a (call (view lists a) p q)
-  unfolding call step ends
+  unfolding call step endsIn
   keeps-call p C (EXEC4 n w) = keeps-takes p C p n w (passes p C)
   keeps-call p C (EXEC15 n w) = keeps-takes p C everybody n w all-passes
   keeps-call p C (EXEC5 n start) = keeps-gives p n start (λ e. omega (arith, e, C .known .1))
   keeps-call p C (EXEC16 n start) = keeps-gives everybody n start (λ e. omega arith)
-  keeps-call p C EXEC5ALL = keeps-done a S _ _ (held-wake a S (replaced p nobody (a .book .holders)) (frees (count p (a .book .holders))) (all-given p C))
-  keeps-call p C EXEC6 = keeps-done a S _ _ (end-fine (a .book .clock) a (before a S) (ends (view lists a) p 0) (C .known) (C .used))
+  keeps-call p C EXEC5ALL = keeps-releasing a S _ _ _ (held-wake a S (replaced p nobody (a .book .holders)) (frees (count p (a .book .holders))) (all-given p C))
+  keeps-call p C EXEC6 = keeps-releasing a S _ _ _ (end-fine (a .book .clock) a (before a S) (ends (view lists a) p 0) (C .known) (C .used))
   keeps-call p C EXEC7 = keeps-done a S _ _ (become-fine a S p (C .known, C .used) 6 Nothing refl nothing-childless (λ e. omega arith))
   keeps-call p C EXEC11 = keeps-done a S _ _ (before a S)
   keeps-call p C (EXEC9 nm) = keeps-named a S nm _ λ q Q. keeps-inside a S q 0 _ λ z. keeps-waiting a S 3 _ (father-fine p q C Q z)
@@ -231,9 +231,9 @@ module _ (a : State lists) (S : Sound a) where
       let x : Resource = numberAt (a .book .resources) r in
       keeps-either a S (eqb (x .lock) 0) _ _ (λ v. keeps-done a S _ _ (before a S))
       (keeps-need a S (eqb (x .lock) p) 9 0 _ λ v.
-      keeps-done a S _ _ (numbered-wake a S (withNumber r (x .owner) 0 (a .book .resources)) (clears r false) (number-fine r (x .owner) 0 h k (owned-cleared r h k))))
+      keeps-releasing a S _ _ _ (numbered-wake a S (withNumber r (x .owner) 0 (a .book .resources)) (clears r false) (number-fine r (x .owner) 0 h k (owned-cleared r h k))))
   keeps-call p C (FREE r) =
       keeps-allocated a S r _ λ h k l.
       let x : Resource = numberAt (a .book .resources) r in
       keeps-need a S ((eqb (x .owner) p || eqb (x .owner) globally) && (eqb (x .lock) p || eqb (x .lock) 0)) 9 0 _ λ v.
-      keeps-done a S _ _ (numbered-wake a S (withNumber r 0 0 (a .book .resources)) (clears r true) (number-fine r 0 0 h k (owned-free (InUse a))))
+      keeps-releasing a S _ _ _ (numbered-wake a S (withNumber r 0 0 (a .book .resources)) (clears r true) (number-fine r 0 0 h k (owned-free (InUse a))))

@@ -13,9 +13,10 @@ use Rattle.clock.specs.Clock.{ceiling}
 use Rattle.records.specs.declared.Why.the-variants.{Nothing}
 use Rattle.records.specs.Names.{legal}
 use Rattle.records.specs.Records.{Known, find, lowestUnused}
+use Rattle.tracks.specs.Tracks.{nobody, replaced}
 use Rattle.rules.specs.Requests.{Order, RU, SS, GO, PR, OF, Request, FRESH, LOAD, operator, TICK, running}
-use Rattle.rules.specs.Plans.{priced, loaded, on}
-use Rattle.rules.specs.Rules.{allowed, order, call, ends, sizes, plan}
+use Rattle.rules.specs.Plans.{priced, loaded, on, Release}
+use Rattle.rules.specs.Rules.{allowed, order, call, endsIn, ends, sizes, plan}
 use Rattle.rules.specs.Keeper.{lists, State, step, view, scheduled, after, runs}
 use Rattle.rules.specs.Sound.{Sound}
 use Rattle.rules.proofs.Finding.{find-none, unused-known, unused-is}
@@ -24,21 +25,23 @@ use Rattle.rules.proofs.Apt.{fine-on}
 use Rattle.rules.proofs.Making.{nothing-childless, apt-priced, apt-loaded}
 use Rattle.rules.proofs.Waking.{Callable}
 use Rattle.rules.proofs.Ending.{off-fine}
+use Rattle.rules.proofs.Settling.{off-events}
 use Rattle.rules.proofs.Ticking.{tick-fine}
 use Rattle.rules.proofs.SoundFresh.{sound-fresh}
-use Rattle.rules.proofs.Keeping.{Keeps, strict, before, keeps-done, keeps-need, keeps-named, keeps-inside, keeps-caller, become-fine}
+use Rattle.rules.proofs.Keeping.{Keeps, strict, before, keeps-done, keeps-releasing, keeps-need, keeps-named, keeps-inside, keeps-caller, become-fine}
 use Rattle.rules.proofs.SoundCalls.{keeps-call}
 
 module _ (a : State lists) (S : Sound a) where
   keeps-order : (o : Order) → allowed o ≡ true → (p : ℕ) → Callable (a .book .programs) p → Keeps a (order (view lists a) o p)
-  unfolding order ends
+  unfolding order endsIn
   keeps-order RU e p P = keeps-inside a S p 0 _ λ z. keeps-done a S _ _ (become-fine a S p P 1 Nothing refl nothing-childless (λ i. omega arith))
   keeps-order SS e p P = keeps-inside a S p 1 _ λ z. keeps-done a S _ _ (become-fine a S p P 6 Nothing refl nothing-childless (λ i. omega arith))
   keeps-order GO e p P = keeps-inside a S p 6 _ λ z. keeps-done a S _ _ (become-fine a S p P 1 Nothing refl nothing-childless (λ i. omega arith))
   keeps-order (PR n) e p P =
       keeps-done a S _ _ (fine-on (strict a) p (P .0) (priced n) a (before a S) (apt-priced (strict a) a (before a S) p (P .0) (P .1) n (upTo-true 1 32767 n e .1)))
   keeps-order (OF k) e p P =
-      keeps-done a S _ _ (off-fine (a .book .clock) a (before a S) (ends (view lists a) p (count p (a .book .holders))) (P .0) (P .1) k)
+      let R : Release = ends (view lists a) p (count p (a .book .holders)) in
+      keeps-releasing a S _ _ R (rw (off-events (view lists a) p k (replaced p nobody (a .book .holders)) R) (off-fine (a .book .clock) a (before a S) R (P .0) (P .1) k))
 
   keeps-load : (nm : List ℕ) (n : ℕ) → legal nm ≡ true → n ≤ 32767 → find (a .book .programs) nm ≡ 0 → 1 ≤ lowestUnused (a .book .programs)
       → Fine (strict a) (step lists (on (lowestUnused (a .book .programs)) (loaded nm n)) a)

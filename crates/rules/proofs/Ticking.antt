@@ -7,10 +7,10 @@ use native.Mathlib.Decide.{ℕ-discrete}
 use mathlib.Core.Path.{_≡_, refl, sym, ap, _∙_}
 use mathlib.Core.Logic.{_≢_}
 use mathlib.Core.Bool.{Bool, true, false, cond}
-use mathlib.Core.List.{List, [], _∷_, _++_}
+use mathlib.Core.List.{List, [], _∷_, _++_, map}
 use lib.Dec.{eqb}
 use borrow.Author.Tests.{eqb-true, eqb-false}
-use Rattle.lists.specs.Lists.{same, count, keep}
+use Rattle.lists.specs.Lists.{same, count, keep, join}
 use Rattle.lists.proofs.Laws.{same-refl, same-ne, count-keep, keep-in, keep-le}
 use Rattle.clock.specs.Clock.{ceiling, farthest}
 use Rattle.records.specs.declared.Program.{Program}
@@ -18,7 +18,7 @@ use Rattle.records.specs.declared.Why.the-variants.{Nothing}
 use Rattle.records.specs.Records.{Known, all, inState, withTimer}
 use Rattle.rules.specs.Book.{Book, at, stateOf}
 use Rattle.rules.specs.Plans.{becomes, timed, on, clocked}
-use Rattle.rules.specs.Rules.{dueAt, ticked, each}
+use Rattle.rules.specs.Rules.{dueAt, ticked}
 use Rattle.rules.specs.Keeper.{lists, State, step, play}
 use Rattle.rules.proofs.Places.{all-one, all-once, all-in}
 use Rattle.rules.proofs.Deeds.{Turned, step-turned}
@@ -127,7 +127,7 @@ module _ (c : ℕ) (b : Book) where
       go true i = refl
       go false i = absurd (n (ap (λ (r : Program). r .due) (F .right p P .empty i)))
 
-  tick-all : (l : List ℕ) (t : State lists) → Midway c b l t → Midway c b [] (play lists (each (ticked b) l) t)
+  tick-all : (l : List ℕ) (t : State lists) → Midway c b l t → Midway c b [] (play lists (join (map (λ p. ticked p (at b p)) l)) t)
   unfolding next
   tick-all [] t M = M
   tick-all (p ∷ l) t M = go (eqb (stateOf b p) 0) (tick-all l)
@@ -171,8 +171,8 @@ module _ (c : ℕ) (b : Book) where
       here₁ : at (t₁ .book) p .due ≢ c + 1
       here₁ i = next-moved p d (ap (λ (r : Program). r .due) (sym (T₁ .here)) ∙ i)
 
-      go : (x : Bool) → ((u : State lists) → Midway c b l u → Midway c b [] (play lists (each (ticked b) l) u))
-          → Midway c b [] (play lists (cond x (on p (becomes 1 Nothing) ∷ []) [] ++ each (ticked b) l) t₁)
+      go : (x : Bool) → ((u : State lists) → Midway c b l u → Midway c b [] (play lists (join (map (λ p. ticked p (at b p)) l)) u))
+          → Midway c b [] (play lists (cond x (on p (becomes 1 Nothing) ∷ []) [] ++ join (map (λ p. ticked p (at b p)) l)) t₁)
       go true ih =
           ih t₂ (midway-next p l t t₂ M F₂ (λ i. here₁ (ap (λ (r : Program). r .due) (sym (T₂ .here)) ∙ i)) (λ z Z n. T₂ .rest z Z n ∙ T₁ .rest z Z n))
       go false ih = ih t₁ (midway-next p l t t₁ M F₁ here₁ (T₁ .rest))
@@ -195,7 +195,7 @@ tick-begin a F l = record {
     go z Z h false e = eqb-false (at (a .book) z .due) (a .book .clock + 1) e
 
 pub tick-fine : (a : State lists) → Fine (exact (a .book .clock)) a → a .book .clock < ceiling
-    → Fine (exact (a .book .clock + 1)) (play lists (clocked (a .book .clock + 1) ∷ each (ticked (a .book)) (keep (dueAt (a .book)) all)) a)
+    → Fine (exact (a .book .clock + 1)) (play lists (clocked (a .book .clock + 1) ∷ join (map (λ p. ticked p (at (a .book) p)) (keep (dueAt (a .book)) all))) a)
 tick-fine a F l =
     let M = tick-all (a .book .clock) (a .book) (keep (dueAt (a .book)) all) (step lists (clocked (a .book .clock + 1)) a) (tick-begin a F l) in
     tick-end (a .book .clock) _ (M .fine) (λ z Z. M .moved z Z refl)

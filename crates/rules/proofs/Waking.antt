@@ -18,8 +18,7 @@ use Rattle.records.specs.declared.Why.{Why}
 use Rattle.records.specs.declared.Why.the-variants.{Nothing, Son}
 use Rattle.records.specs.Records.{Known, recordAt, inState}
 use Rattle.rules.specs.Book.{at, stateOf, whyOf}
-use Rattle.rules.specs.Plans.{becomes, on, View}
-use Rattle.rules.specs.Rules.{Release, awaits, woken, wake}
+use Rattle.rules.specs.Plans.{becomes, on, View, Release, awaits, woken, wake}
 use Rattle.rules.specs.Keeper.{lists, State, step, play, view}
 use Rattle.rules.proofs.Deeds.{Turned, step-turned}
 use Rattle.rules.proofs.Chaining.{chain-state}

@@ -5,7 +5,7 @@ use mathlib.Core.Bool.{Bool, true, false, cond}
 use mathlib.Core.List.{List, [], _∷_, _++_}
 use lib.ListN.{getD, set, replicate}
 use lib.Dec.{leb, ltb, eqb}
-use Rattle.lists.specs.Lists.{keep, insert, remove}
+use Rattle.lists.specs.Lists.{keep, insertBy, insert, remove}
 use Rattle.records.specs.declared.Program.{Program}
 use Rattle.records.specs.declared.Why.{Why}
 use Rattle.records.specs.declared.Why.the-variants.{Nothing}
@@ -42,13 +42,9 @@ pub record Entries : Type 0 where
 abbrev pub earlier : (ℕ → ℕ) → (ℕ → ℕ) → ℕ → ℕ → Bool
 earlier pr en q p = cond (eqb (pr q) (pr p)) (leb (en q) (en p)) (leb (pr q) (pr p))
 
-abbrev pub sortIn : (ℕ → ℕ → Bool) → ℕ → List ℕ → List ℕ
-sortIn t p [] = p ∷ []
-sortIn t p (q ∷ qs) = cond (t q p) (q ∷ sortIn t p qs) (p ∷ q ∷ qs)
-
 abbrev pub sort : (ℕ → ℕ → Bool) → List ℕ → List ℕ
 sort t [] = []
-sort t (q ∷ qs) = sortIn t q (sort t qs)
+sort t (q ∷ qs) = insertBy t q (sort t qs)
 
 -- the programs in state s, sorted
 unfoldable pub sorted : Book → Entries → ℕ → List ℕ
@@ -123,7 +119,7 @@ module _ (K : Keeper) where
   asks t q = plan (view t) (scheduled t) q
 
   abbrev pub after : State → Request → State
-  after t q = play (eventsOf (asks t q)) t
+  after t q = play (eventsOf (view t) (asks t q)) t
 
   -- a run of requests, its numbers and values
   abbrev pub runs : State → List Request → State

@@ -5,8 +5,9 @@ use mathlib.Core.Bool.{Bool, true, false, cond, not, _&&_, _||_}
 use mathlib.Core.List.{List, [], _∷_, _++_, map}
 use lib.ListN.{length, drop}
 use lib.Dec.{leb, ltb, eqb}
-use Rattle.lists.specs.Lists.{count, keep, first, any, from, upTo, remove}
+use Rattle.lists.specs.Lists.{count, keep, first, any, from, upTo, join}
 use Rattle.clock.specs.Clock.{ceiling, unit, timeOf}
+use Rattle.records.specs.declared.Program.{Program}
 use Rattle.records.specs.declared.Resource.{Resource}
 use Rattle.records.specs.declared.Why.{Why}
 use Rattle.records.specs.declared.Why.the-variants.{Nothing, Tracks, Son, Lock, Number}
@@ -16,7 +17,7 @@ use Rattle.records.specs.Numbers.{globally, numberAt, withNumber, concerns, wit
 use Rattle.tracks.specs.Tracks.{nobody, everybody, run, lowest, filled, replaced}
 use Rattle.rules.specs.Book.{Book, at, stateOf, prioOf, whyOf}
 use Rattle.rules.specs.Requests.{Order, RU, SS, GO, PR, OF, Call, EXEC4, EXEC15, EXEC5, EXEC16, EXEC5ALL, EXEC6, EXEC7, EXEC11, EXEC9, EXEC10, EXEC12, ALLOC, LOCK, CLEAR, FREE, Request, FRESH, LOAD, operator, TICK, running}
-use Rattle.rules.specs.Plans.{Deed, becomes, priced, loaded, unloaded, timed, Event, on, clocked, held, numbered, renewed, Plan, refused, done, waiting, View, need, either, found}
+use Rattle.rules.specs.Plans.{Deed, becomes, priced, loaded, unloaded, timed, Event, on, clocked, held, numbered, renewed, Release, Plan, refused, done, releasing, waiting, View, woken, need, either, found}
 
 -- the program of that name: 3 where the name is not legal, 4 where there is none
 unfoldable pub named : View → List ℕ → (ℕ → Plan) → Plan
@@ -30,38 +31,6 @@ inside v p s x = need (eqb (stateOf (v .book) p) s) 5 (stateOf (v .book) p) x
 unfoldable pub waits : ℕ → ℕ → ℕ → Why → Plan
 waits c w s y = either (eqb w 0) (waiting s (on c (becomes s y) ∷ [])) (refused 8 0)
 
--- What a call sets free (01, "Ending and waking"): the program that ended, or 0; how many tracks; which numbers were cleared or deallocated; whether one was deallocated.
-pub record Release : Type 0 where
-  pub ended : ℕ
-  pub tracks : ℕ
-  pub cleared : ℕ → Bool
-  pub dealt : Bool
-
--- the reason to wait in chain 3 is gone
-abbrev pub awaits : Release → Why → Bool
-awaits R Nothing = false
-awaits R (Tracks n) = false
-awaits R (Son k) = ltb 0 k && eqb k (R .ended)
-awaits R (Lock r) = ltb 0 r && R .cleared r
-awaits R Number = R .dealt
-
--- all of chain 5 if a track was freed, in chain order; the one that ended has left its chain
-abbrev pub fromDisc : View → Release → List ℕ
-fromDisc v R = cond (ltb 0 (R .tracks)) (remove (R .ended) (v .disc)) []
-
--- chain 3 is walked once: those whose reason is gone
-abbrev pub fromGeneral : View → Release → List ℕ
-fromGeneral v R = keep (λ q. awaits R (whyOf (v .book) q)) (remove (R .ended) (v .general))
-
--- chain 5, then chain 3
-unfoldable pub woken : View → Release → List ℕ
-woken v R = fromDisc v R ++ fromGeneral v R
-
--- the woken enter the scheduled chain one by one
-abbrev pub wake : List ℕ → List Event
-wake [] = []
-wake (q ∷ qs) = on q (becomes 1 Nothing) ∷ wake qs
-
 -- what tracks given back, a number cleared or deallocated, and the ending of p set free
 unfoldable pub frees : ℕ → Release
 frees n = record { ended = 0; tracks = n; cleared = λ r. false; dealt = false }
@@ -69,17 +38,20 @@ frees n = record { ended = 0; tracks = n; cleared = λ r. false; dealt = false }
 unfoldable pub clears : ℕ → Bool → Release
 clears r d = record { ended = 0; tracks = 0; cleared = eqb r; dealt = d }
 
-unfoldable pub ends : View → ℕ → ℕ → Release
-ends v p n = record {
+unfoldable pub endsIn : List Resource → ℕ → ℕ → ℕ → Release
+endsIn rs R p n = record {
   ended = p;
   tracks = n;
-  cleared = λ r. concerns p (numberAt (v .book .resources) r);
-  dealt = any (λ r. eqb (numberAt (v .book .resources) r .owner) p) (from 1 (v .book .numbers));
+  cleared = λ r. concerns p (numberAt rs r);
+  dealt = any (λ r. eqb (numberAt rs r .owner) p) (from 1 R);
 }
 
--- the rest of an ending: p's numbers are deallocated and its locks cleared, and the woken wake
-abbrev pub settle : View → ℕ → Release → List Event
-settle v p R = numbered (map (without p) (v .book .resources)) ∷ wake (woken v R)
+abbrev pub ends : View → ℕ → ℕ → Release
+ends v p n = endsIn (v .book .resources) (v .book .numbers) p n
+
+-- p's numbers are deallocated and its locks cleared
+abbrev pub quit : View → ℕ → Event
+quit v p = numbered (map (without p) (v .book .resources))
 
 -- OF 8 makes the record unused; OF 1 makes the program dormant without a timer
 abbrev pub dismissed : ℕ → ℕ → List Event
@@ -101,20 +73,15 @@ order v GO p = inside v p 6 (done (0 ∷ []) (on p (becomes 1 Nothing) ∷ []))
 order v (PR n) p = done (prioOf (v .book) p ∷ []) (on p (priced n) ∷ [])
 order v (OF k) p =
     let n = count p (v .book .holders) in
-    done (n ∷ []) (dismissed k p ++ (held (replaced p nobody (v .book .holders)) ∷ settle v p (ends v p n)))
+    releasing (n ∷ []) (dismissed k p ++ (held (replaced p nobody (v .book .holders)) ∷ quit v p ∷ [])) (ends v p n)
 
 -- a timer is due at the tick that follows; it moves on by its interval, or goes; a dormant program is scheduled
 unfoldable pub dueAt : Book → ℕ → Bool
 dueAt b p = eqb (at b p .due) (b .clock + 1)
 
-abbrev pub ticked : Book → ℕ → List Event
-ticked b p =
-    on p (timed (cond (eqb (at b p .interval) 0) 0 (at b p .due + at b p .interval)) (at b p .interval))
-    ∷ cond (eqb (stateOf b p) 0) (on p (becomes 1 Nothing) ∷ []) []
-
-abbrev pub each : (ℕ → List Event) → List ℕ → List Event
-each f [] = []
-each f (p ∷ ps) = f p ++ each f ps
+abbrev pub ticked : ℕ → Program → List Event
+ticked p r =
+    on p (timed (cond (eqb (r .interval) 0) 0 (r .due + r .interval)) (r .interval)) ∷ cond (eqb (r .state) 0) (on p (becomes 1 Nothing) ∷ []) []
 
 -- EXEC 4 and 15: the lowest run of n free tracks becomes h's
 unfoldable pub takes : View → ℕ → ℕ → ℕ → ℕ → Plan
@@ -129,7 +96,7 @@ unfoldable pub gives : View → ℕ → ℕ → ℕ → Plan
 gives v h n start =
     need (leb 1 n && leb (start + n) (v .book .tracks)) 3 0
     (need (run h n (drop start (v .book .holders))) 9 0
-    (done (n ∷ []) (held (filled start n nobody (v .book .holders)) ∷ wake (woken v (frees n)))))
+    (releasing (n ∷ []) (held (filled start n nobody (v .book .holders)) ∷ []) (frees n)))
 
 -- number r: 3 where it is none of ours, 10 where it is not allocated
 unfoldable pub allocated : View → ℕ → (Resource → Plan) → Plan
@@ -148,8 +115,8 @@ call v c (EXEC5 n start) = gives v c n start
 call v c (EXEC16 n start) = gives v everybody n start
 call v c EXEC5ALL =
     let n = count c (v .book .holders) in
-    done (n ∷ []) (held (replaced c nobody (v .book .holders)) ∷ wake (woken v (frees n)))
-call v c EXEC6 = done (length (woken v (ends v c 0)) ∷ []) (on c (becomes 0 Nothing) ∷ settle v c (ends v c 0))
+    releasing (n ∷ []) (held (replaced c nobody (v .book .holders)) ∷ []) (frees n)
+call v c EXEC6 = releasing (length (woken v (ends v c 0)) ∷ []) (on c (becomes 0 Nothing) ∷ quit v c ∷ []) (ends v c 0)
 call v c EXEC7 = done (0 ∷ []) (on c (becomes 6 Nothing) ∷ [])
 call v c EXEC11 = done (timeOf (v .book .clock)) []
 call v c (EXEC9 nm) = named v nm λ p. inside v p 0 (waiting 3 (on p (becomes 1 Nothing) ∷ on c (becomes 3 (Son p)) ∷ []))
@@ -170,11 +137,11 @@ call v c (CLEAR r) =
     allocated v r λ x.
     either (eqb (x .lock) 0) (done (0 ∷ []) [])
     (need (eqb (x .lock) c) 9 0
-    (done (length (woken v (clears r false)) ∷ []) (number v r (x .owner) 0 ∷ wake (woken v (clears r false)))))
+    (releasing (length (woken v (clears r false)) ∷ []) (number v r (x .owner) 0 ∷ []) (clears r false)))
 call v c (FREE r) =
     allocated v r λ x.
     need ((eqb (x .owner) c || eqb (x .owner) globally) && (eqb (x .lock) c || eqb (x .lock) 0)) 9 0
-    (done (length (woken v (clears r true)) ∷ []) (number v r 0 0 ∷ wake (woken v (clears r true))))
+    (releasing (length (woken v (clears r true)) ∷ []) (number v r 0 0 ∷ []) (clears r true))
 
 -- the caller is the head of the scheduled chain: 2 where that is empty
 abbrev pub head : List ℕ → ℕ
@@ -200,5 +167,5 @@ plan v scheduled (operator o nm) = need (allowed o) 3 0 (named v nm (order v o))
 plan v scheduled TICK =
     need (ltb (v .book .clock) ceiling) 11 0
     (done (length (keep (λ p. dueAt (v .book) p && eqb (stateOf (v .book) p) 0) all) ∷ [])
-    (clocked (v .book .clock + 1) ∷ each (ticked (v .book)) (keep (dueAt (v .book)) all)))
+    (clocked (v .book .clock + 1) ∷ join (map (λ p. ticked p (at (v .book) p)) (keep (dueAt (v .book)) all))))
 plan v scheduled (running c) = asCaller scheduled (λ p. call v p c)

@@ -24,8 +24,8 @@ use Rattle.tracks.specs.Tracks.{nobody, holders, replaced}
 use Rattle.tracks.specs.Tracks as tracks
 use Rattle.tracks.proofs.Fits.{Holds, replaced-holds}
 use Rattle.rules.specs.Book.{Book}
-use Rattle.rules.specs.Plans.{Deed, becomes, priced, loaded, unloaded, timed, Event, on, held, numbered}
-use Rattle.rules.specs.Rules.{wake, woken, fromDisc, fromGeneral, ends, settle, dismissed}
+use Rattle.rules.specs.Plans.{Deed, becomes, priced, loaded, unloaded, timed, Event, on, held, numbered, wake, woken, fromDisc, fromGeneral}
+use Rattle.rules.specs.Rules.{ends, settle, dismissed}
 use Rattle.rules.specs.Rules as rules
 use Rattle.rules.specs.Keeper.{lists, State, act, step, play, view}
 use Rattle.chains.specs.declared.Listing.{Listing}

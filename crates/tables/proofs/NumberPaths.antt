@@ -23,8 +23,8 @@ use Rattle.records.specs.Inner as numbers
 use Rattle.records.proofs.Table.{resources-with, fit-with}
 use Rattle.rules.specs.declared.Answer.the-variants.{Done, Waits, NoRoom, NotAllowed, NotHolder, NotAllocated}
 use Rattle.rules.specs.Book.{whyOf}
-use Rattle.rules.specs.Plans.{Plan, done, waiting, on, becomes, numbered, need, either}
-use Rattle.rules.specs.Rules.{allocated, number, waits, awaits, fromGeneral, woken, clears, wake}
+use Rattle.rules.specs.Plans.{Plan, done, waiting, on, becomes, numbered, need, either, awaits, fromGeneral, woken, wake}
+use Rattle.rules.specs.Rules.{allocated, number, waits, clears}
 use Rattle.rules.specs.Rules as rules
 use Rattle.rules.specs.Keeper.{lists, view}
 use Rattle.rules.proofs.Paths.{need-met, need-failed, either-so, either-not, waits-so, waits-told, allocated-not-ours, allocated-free, allocated-is}

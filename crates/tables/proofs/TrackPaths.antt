@@ -29,8 +29,8 @@ use Rattle.rules.specs.declared.Answer.the-variants.{Done, Waits, NotAllowed, N
 use Rattle.rules.specs.Answers.{number, values}
 use Rattle.rules.specs.Book.{whyOf}
 use Rattle.rules.specs.Requests.{EXEC5ALL, EXEC6, EXEC7}
-use Rattle.rules.specs.Plans.{Plan, Event, View, refused, done, waiting, on, becomes, held}
-use Rattle.rules.specs.Rules.{waits, awaits, fromDisc, woken, wake, frees, ends, settle, takes, gives, call}
+use Rattle.rules.specs.Plans.{Plan, Event, View, refused, done, waiting, on, becomes, held, awaits, fromDisc, woken, wake}
+use Rattle.rules.specs.Rules.{waits, frees, ends, settle, takes, gives, call}
 use Rattle.rules.specs.Keeper.{lists, view}
 use Rattle.rules.proofs.Paths.{need-met, need-failed, found-at, found-none, waits-so, waits-told}
 use Rattle.chains.specs.declared.Listing.{Listing}

@@ -10,8 +10,7 @@ use lib.Seq.{length-take-le, drop-cons, getD-take}
 use Rattle.lists.specs.Lists.{count}
 use Rattle.lists.proofs.Laws.{same-refl}
 use Rattle.records.specs.declared.Why.the-variants.{Nothing}
-use Rattle.rules.specs.Plans.{becomes, on}
-use Rattle.rules.specs.Rules.{wake}
+use Rattle.rules.specs.Plans.{becomes, on, wake}
 use Rattle.rules.specs.Keeper.{lists, State, play}
 use Rattle.tables.specs.declared.Tables.{Tables}
 use Rattle.tables.specs.Tables.{plain}

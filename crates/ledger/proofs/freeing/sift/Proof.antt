@@ -7,7 +7,7 @@ use mathlib.Core.Logic.{⊎-elim}
 use lib.ListN.{getD, take}
 use borrow.Author.Needs.{needs}
 use Rattle.records.specs.Records.{Known, recordAt}
-use Rattle.rules.specs.Rules.{awaits}
+use Rattle.rules.specs.Plans.{awaits}
 use Rattle.ledger.proofs.Releasing.{shown, shown-is, awaits-same}
 use Rattle.ledger.proofs.Sifting.{Sifted, sifted-start, sifted-in, sifted-out, sifted-end, listed-known, keep-alike}
 use Rattle.ledger.proofs.freeing.sift.Statement.{statement}
