@@ -21,8 +21,8 @@ use Rattle.tables.specs.declared.Tables.{Tables}
 use Rattle.tables.specs.declared.Outcome.{Outcome}
 use Rattle.tables.specs.Tables.{lay, smallest}
 use Rattle.tables.specs.Sound.{sound}
-use Rattle.tables.specs.Calls.{Result, told, notSound, asked, made}
-use Rattle.tables.specs.Inner.{Ready, planned}
+use Rattle.tables.specs.Calls.{Result, told, notSound, asked, made, planned}
+use Rattle.tables.specs.Inner.{Ready}
 use Rattle.tables.proofs.Orderly.{orderly-lay}
 use Rattle.tables.proofs.Serving.{asked-sound, asked-unsound, served-planned}
 use Rattle.page.specs.Paging.{Written, beside, paged}

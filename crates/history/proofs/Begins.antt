@@ -11,8 +11,7 @@ use Rattle.rules.specs.Keeper.{lists, step, fresh}
 use Rattle.tables.specs.declared.Tables.{Tables}
 use Rattle.tables.specs.Tables.{plain, lay, smallest}
 use Rattle.tables.specs.Sound.{sound}
-use Rattle.tables.specs.Calls.{asked, made}
-use Rattle.tables.specs.Inner.{planned}
+use Rattle.tables.specs.Calls.{asked, made, planned}
 use Rattle.history.specs.Runs.{begun, requested}
 use Rattle.history.proofs.Steps.{asked-planned}
 

@@ -32,8 +32,7 @@ use Rattle.tables.specs.declared.Tables.{Tables}
 use Rattle.tables.specs.Tables.{plain, lay}
 use Rattle.tables.specs.Sound.{sound}
 use Rattle.tables.specs.Walks.{Arrays}
-use Rattle.tables.specs.Calls.{asked, made}
-use Rattle.tables.specs.Inner.{planned}
+use Rattle.tables.specs.Calls.{asked, made, planned}
 use Rattle.tables.proofs.Agree.{sound-clauses, sound-test}
 use Rattle.tables.proofs.Plain.{plain-lay, lay-sound, sound-plain}
 use Rattle.tables.proofs.Orderly.{orderly-lay, sound-orderly}

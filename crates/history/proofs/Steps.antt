@@ -13,8 +13,7 @@ use Rattle.rules.proofs.SoundRuns.{sound-after}
 use Rattle.tables.specs.declared.Tables.{Tables}
 use Rattle.tables.specs.Tables.{plain}
 use Rattle.tables.specs.Sound.{sound}
-use Rattle.tables.specs.Calls.{Result, asked}
-use Rattle.tables.specs.Inner.{planned}
+use Rattle.tables.specs.Calls.{Result, asked, planned}
 use Rattle.tables.proofs.Plain.{plain-lay}
 use Rattle.tables.proofs.Serving.{asked-sound, served-planned}
 use Rattle.page.specs.Page.{page}

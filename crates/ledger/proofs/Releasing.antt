@@ -18,7 +18,7 @@ use Rattle.records.specs.declared.Why.the-variants.{Nothing, Tracks, Son, Lock,
 use Rattle.records.specs.Numbers.{free, resources, numberAt, concerns}
 use Rattle.records.proofs.Table.{number-at, number-past, concerns-free}
 use Rattle.rules.specs.Plans.{awaits}
-use Rattle.rules.specs.Rules as rules
+use Rattle.rules.specs.Plans as rules
 use Rattle.ledger.specs.declared.Release.{Release}
 use Rattle.ledger.specs.Inner.{Releases}
 

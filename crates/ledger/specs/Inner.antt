@@ -24,7 +24,8 @@ use Rattle.rules.specs.Book.{at}
 use Rattle.rules.specs.Sound.{suits}
 use Rattle.ledger.specs.declared.Ledger.{Ledger}
 use Rattle.ledger.specs.Ledger.{bookOf, testBlank}
-use Rattle.rules.specs.Rules as rules
+use Rattle.rules.specs.Plans as rules
+use Rattle.rules.specs.Rules.{endsIn}
 
 -- the tests of soundness that do not concern chains
 unfoldable pub testBook : Ledger → Bool
@@ -41,12 +42,7 @@ pub record Releases (x : Release) (y : rules.Release) : Type 0 where
 
 -- the release of p's ending with these numbers, n tracks freed
 abbrev pub endingOf : Numbers → ℕ → ℕ → rules.Release
-endingOf t p n = record {
-  ended = p;
-  tracks = n;
-  cleared = λ r. concerns p (numberAt (resources t) r);
-  dealt = any (λ r. eqb (numberAt (resources t) r .owner) p) (from 1 (t .count));
-}
+endingOf t p n = endsIn (resources t) (t .count) p n
 
 -- a list of known programs, each once
 pub record Listed (ids : List ℕ) (len : ℕ) : Type 0 where

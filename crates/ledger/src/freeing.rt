@@ -73,7 +73,7 @@ impl Release {
 
     // The reason to wait in chain 3 is gone.
     pub fn awaited(self, why: Why) -> bool
-        ensures { λ b. ⌜ ((y : Rattle.rules.specs.Rules.Release) → Releases self y → b ≡ awaits y why) ⌝ }
+        ensures { λ b. ⌜ ((y : Rattle.rules.specs.Plans.Release) → Releases self y → b ≡ awaits y why) ⌝ }
     {
         match why {
             Why::Nothing => false,
@@ -118,7 +118,7 @@ pub fn without(list: Listing, p: u8) -> Listing
 // Those of the list whose reason to wait is gone.
 pub fn sift(programs: [Program; 32], list: Listing, release: Release) -> Listing
     requires { ⌜ Listed (list .ids) (list .len) ⌝ }
-    ensures { λ r. ⌜ ((y : Rattle.rules.specs.Rules.Release) → Releases release y → Lists (r .ids) (r .len) (keep (λ q. awaits y (recordAt programs q .why)) (take (list .len) (list .ids)))) ⌝ }
+    ensures { λ r. ⌜ ((y : Rattle.rules.specs.Plans.Release) → Releases release y → Lists (r .ids) (r .len) (keep (λ q. awaits y (recordAt programs q .why)) (take (list .len) (list .ids)))) ⌝ }
 {
     let n = list.len;
     let mut ids: [u8; 32] = [0; 32];

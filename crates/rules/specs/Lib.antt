@@ -4,6 +4,7 @@ pub mod Requests
 pub mod Plans
 pub mod Rules
 pub mod Keeper
+pub mod Engine
 pub mod Sound
 pub mod Test
 pub mod Replay

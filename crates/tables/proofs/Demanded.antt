@@ -8,8 +8,8 @@ use mathlib.Core.List.{List, [], _∷_}
 use Rattle.tracks.specs.Tracks.{everybody, LowestRun}
 use Rattle.rules.specs.Book.{Book}
 use Rattle.rules.specs.Requests.{EXEC4, EXEC15, OF, EXEC5, EXEC16, EXEC5ALL, EXEC6, CLEAR, FREE, Request, operator, TICK, running}
-use Rattle.rules.specs.Plans.{Plan, numberOf, valuesOf}
-use Rattle.rules.specs.Keeper.{lists, State, asks, after}
+use Rattle.rules.specs.Plans.{Plan, numberOf, valuesOf, refused, eventsOf}
+use Rattle.rules.specs.Keeper.{lists, State, asks, after, view}
 use Rattle.rules.specs.Claims.{Gained, Claimed}
 use Rattle.rules.specs.Counts.{Freed, Done, TellsFreed, TellsAwoken, TellsRoused, awoken, roused, Counts}
 use Rattle.rules.specs.Sound as rules
@@ -19,13 +19,13 @@ use Rattle.rules.proofs.CountLaws.{counts}
 use Rattle.tables.specs.declared.Tables.{Tables}
 use Rattle.tables.specs.Tables.{plain, lay}
 use Rattle.tables.specs.Sound.{sound}
-use Rattle.tables.specs.Calls.{Result, served, asked}
+use Rattle.tables.specs.Calls.{Result, served, asked, planned}
 use Rattle.tables.specs.Demand.{Claim, ValueFreed, ValueAwoken, ValueRoused, Counted}
 use Rattle.tables.specs.Walks.{Arrays}
 use Rattle.tables.specs.Inner.{callerOf}
 use Rattle.tables.proofs.Agree.{sound-clauses}
 use Rattle.tables.proofs.Orderly.{orderly-lay, sound-orderly}
-use Rattle.tables.proofs.Plain.{plain-lay, sound-plain}
+use Rattle.tables.proofs.Plain.{plain-lay, sound-plain, laid-is}
 use Rattle.tables.proofs.Serving.{asked-sound}
 
 module _ (t : Tables) (A : Arrays t) (e : sound t ≡ true) where
@@ -41,14 +41,14 @@ module _ (t : Tables) (A : Arrays t) (e : sound t ≡ true) where
   plainly : rules.Sound (plain t)
   plainly = sound-plain t A (sound-clauses t e)
 
-  after-is : (q : Request) → plain (asked t q .tables) ≡ after lists (plain t) q
+  pub after-is : (q : Request) → plain (asked t q .tables) ≡ after lists (plain t) q
   unfolding served
-  after-is q = ap (λ (r : Result). plain (r .tables)) (asked-sound t q e) ∙ plain-lay (after lists (plain t) q) (sound-after (plain t) plainly q)
+  after-is q = ap (λ (r : Result). plain (r .tables)) (asked-sound t q e) ∙ laid-is t (eventsOf (view lists (plain t)) (asks lists (plain t) q)) (sound-after (plain t) plainly q)
 
-  -- nothing happened to the plain state, so nothing to the tables
-  stays : (q : Request) → after lists (plain t) q ≡ plain t → asked t q .tables ≡ t
+  -- a refusal hands back the tables
+  stays : (q : Request) (a v : ℕ) → asks lists (plain t) q ≡ refused a v → asked t q .tables ≡ t
   unfolding served
-  stays q s = ap (λ (r : Result). r .tables) (asked-sound t q e) ∙ ap lay s ∙ orderly-lay t (sound-orderly t A (sound-clauses t e))
+  stays q a v r = ap (λ (x : Result). x .tables) (asked-sound t q e) ∙ ap (λ (x : Plan). planned t x .tables) r
 
   -- claims
   claim : (h n w : ℕ) (q : Request) → Claimed lists (plain t) h n w q → Claim t h n w (asked t q)
@@ -56,7 +56,7 @@ module _ (t : Tables) (A : Arrays t) (e : sound t ≡ true) where
     granted = λ i L. (number-is q ∙ ap numberOf (C .answer .granted i L), values-is q ∙ ap valuesOf (C .answer .granted i L));
     gained = λ i L. subst (λ (a : State lists). Gained (plain t .book) (a .book) h i n) (sym (after-is q)) (C .tracks i L);
     waits = λ N z. (number-is q ∙ ap numberOf (C .answer .waits N z), values-is q ∙ ap valuesOf (C .answer .waits N z));
-    told = λ N z. (number-is q ∙ ap numberOf (C .answer .told N z), stays q (C .same N z));
+    told = λ N z. (number-is q ∙ ap numberOf (C .answer .told N z), stays q 8 0 (C .answer .told N z));
     only-waits = λ z. C .answer .only-waits (sym (number-is q) ∙ z) .1;
     only-told = λ z. C .answer .only-told (sym (number-is q) ∙ z) .1;
   }

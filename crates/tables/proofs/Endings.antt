@@ -25,8 +25,9 @@ use Rattle.tracks.specs.Tracks as tracks
 use Rattle.tracks.proofs.Fits.{Holds, replaced-holds}
 use Rattle.rules.specs.Book.{Book}
 use Rattle.rules.specs.Plans.{Deed, becomes, priced, loaded, unloaded, timed, Event, on, held, numbered, wake, woken, fromDisc, fromGeneral}
-use Rattle.rules.specs.Rules.{ends, settle, dismissed}
-use Rattle.rules.specs.Rules as rules
+use Rattle.rules.specs.Rules.{ends, dismissed, endsIn}
+use Rattle.rules.proofs.Settling.{settle}
+use Rattle.rules.specs.Plans as rules
 use Rattle.rules.specs.Keeper.{lists, State, act, step, play, view}
 use Rattle.chains.specs.declared.Listing.{Listing}
 use Rattle.chains.specs.Inner.{Lists}
@@ -112,7 +113,7 @@ wake-append (q ∷ qs) b = ap (λ (es : List Event). on q (becomes 1 Nothing) �
 
 -- what an ending sets free, as the view has it
 pub ends-is : (t : Tables) (p n : ℕ) (x : Release) → Releases x (endingOf (t .ledger .numbers) p n) → Releases x (ends (view lists (plain t)) p n)
-unfolding ends
+unfolding endsIn
 ends-is t p n x R = R
 
 -- who wakes stands in two lists
@@ -176,5 +177,5 @@ module _ (t : Tables) (k p : ℕ) (O : Orderly t) (x : Tracks)
 -- where no track is freed only chain 3 wakes
 pub woken-number : (t : Tables) (p : ℕ) (g : Listing) → Lists (g .ids) (g .len) (fromGeneral (view lists (plain t)) (ends (view lists (plain t)) p 0)) → length (g .ids) ≡ 32
     → g .len ≡ length (woken (view lists (plain t)) (ends (view lists (plain t)) p 0))
-unfolding woken ends
+unfolding woken endsIn
 woken-number t p g G L = sym (length-take-le (g .len) (g .ids) (omega (arith, G .most, L))) ∙ ap length (G .some)

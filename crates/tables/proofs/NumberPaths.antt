@@ -25,7 +25,7 @@ use Rattle.rules.specs.declared.Answer.the-variants.{Done, Waits, NoRoom, NotAl
 use Rattle.rules.specs.Book.{whyOf}
 use Rattle.rules.specs.Plans.{Plan, done, waiting, on, becomes, numbered, need, either, awaits, fromGeneral, woken, wake}
 use Rattle.rules.specs.Rules.{allocated, number, waits, clears}
-use Rattle.rules.specs.Rules as rules
+use Rattle.rules.specs.Plans as rules
 use Rattle.rules.specs.Keeper.{lists, view}
 use Rattle.rules.proofs.Paths.{need-met, need-failed, either-so, either-not, waits-so, waits-told, allocated-not-ours, allocated-free, allocated-is}
 use Rattle.chains.specs.Links.{read}
@@ -34,17 +34,17 @@ use Rattle.ledger.specs.declared.Release.{Release}
 use Rattle.ledger.specs.Inner.{Releases}
 use Rattle.tables.specs.declared.Tables.{Tables}
 use Rattle.tables.specs.Tables.{plain}
-use Rattle.tables.specs.Calls.{Result, told}
-use Rattle.tables.specs.Inner.{Orderly, Played, CanNumber, CanWake, planned}
+use Rattle.tables.specs.Calls.{Result, told, planned}
+use Rattle.tables.specs.Inner.{Orderly, Played, CanNumber, CanWake}
 use Rattle.tables.specs.Releasing.{released}
 use Rattle.tables.proofs.Waiters.{general-known}
-use Rattle.tables.proofs.Serving.{keeps, refuses}
+use Rattle.tables.proofs.Serving.{keeps, refuses, rests}
 use Rattle.tables.proofs.Endings.{played-as, played-on}
 
 -- w is 0 or 1
 module _ (t : Tables) (w : ℕ) (x : Plan) where
   pub w-refused : Orderly t → 1 < w → told (record { answer = NotAllowed; tables = t }) ≡ planned t (need (leb w 1) 3 0 x)
-  w-refused O h = refuses t NotAllowed 0 O refl ∙ ap (planned t) (sym (need-failed 3 0 x (lt-leb w 1 h)))
+  w-refused O h = refuses t NotAllowed 0 refl ∙ ap (planned t) (sym (need-failed 3 0 x (lt-leb w 1 h)))
 
   pub w-passed : (r : Result) → w ≤ 1 → r ≡ planned t x → r ≡ planned t (need (leb w 1) 3 0 x)
   w-passed r h e = e ∙ ap (planned t) (sym (need-met 3 0 x (le-leb w 1 h)))
@@ -85,7 +85,7 @@ module _ (t : Tables) (O : Orderly t) (c : ℕ) (g : Bool) (w n : ℕ) (N : n �
     pub free-taken : (o q : ℕ) (u : Tables) → o ≡ cond g globally c → q ≡ n → Played t (number (view lists (plain t)) n o 0 ∷ []) u
         → told (record { answer = Done q; tables = u }) ≡ planned t (allocating t c g w)
     free-taken o q u G Q S =
-        keeps t u (Done q) (done (n ∷ []) (number (view lists (plain t)) n o 0 ∷ [])) refl (ap (λ (k : ℕ). k ∷ []) Q) S
+        keeps t u (Done q) (done (n ∷ []) (number (view lists (plain t)) n o 0 ∷ [])) refl (ap (λ (k : ℕ). k ∷ []) Q) tt S
         ∙ ap (λ (k : ℕ). planned t (done (k ∷ []) (number (view lists (plain t)) k o 0 ∷ []))) N
         ∙ ap (λ (k : ℕ). planned t (done (lowestFree t ∷ []) (number (view lists (plain t)) (lowestFree t) k 0 ∷ []))) G
         ∙ ap (planned t) (sym (either-so (taking t c g) (waits c w 3 Number) (lt-ltb 0 (lowestFree t) (omega (arith, N, h)))))
@@ -97,7 +97,7 @@ ofNumber t r f = allocated (view lists (plain t)) r f
 module _ (t : Tables) (O : Orderly t) (r : ℕ) (b : Bool) (B : b ≡ upTo 1 (t .ledger .numbers .count) r) where
   pub number-strange : (f : Resource → Plan) → not b ≡ true → told (record { answer = NotAllowed; tables = t }) ≡ planned t (ofNumber t r f)
   number-strange f e =
-      refuses t NotAllowed 0 O refl ∙ ap (planned t) (sym (allocated-not-ours (view lists (plain t)) r f (sym B ∙ not-true b e)))
+      refuses t NotAllowed 0 refl ∙ ap (planned t) (sym (allocated-not-ours (view lists (plain t)) r f (sym B ∙ not-true b e)))
 
   module _ (h : not b ≡ false) where
     ours : upTo 1 (t .ledger .numbers .count) r ≡ true
@@ -118,7 +118,7 @@ module _ (t : Tables) (O : Orderly t) (r : ℕ) (b : Bool) (B : b ≡ upTo 1 (t 
 
         pub number-free : (f : Resource → Plan) → x .owner ≡ 0 → told (record { answer = NotAllocated; tables = t }) ≡ planned t (ofNumber t r f)
         number-free f e =
-            refuses t NotAllocated 0 O refl
+            refuses t NotAllocated 0 refl
             ∙ ap (planned t) (sym (allocated-free (view lists (plain t)) r f ours (ap (λ (y : Resource). y .owner) here ∙ e)))
 
         pub number-owned : (f : Resource → Plan) (z : Result) → x .owner ≢ 0 → z ≡ planned t (f x) → z ≡ planned t (ofNumber t r f)
@@ -133,7 +133,7 @@ locked t c r w x =
 module _ (t : Tables) (c r w : ℕ) (x : Resource) where
   pub lock-own : Orderly t → x .lock ≡ c → told (record { answer = Done r; tables = t }) ≡ planned t (locked t c r w x)
   lock-own O e =
-      keeps t t (Done r) (done (r ∷ []) []) refl refl (record { orderly = O; state = refl })
+      rests t (Done r) (r ∷ []) refl refl
       ∙ ap (planned t) (sym (either-so (done (r ∷ []) []) _ (eq-eqb (x .lock) c e)))
 
   module _ (n : x .lock ≢ c) where
@@ -141,7 +141,7 @@ module _ (t : Tables) (c r w : ℕ) (x : Resource) where
         → told (record { answer = Done r; tables = u }) ≡ planned t (locked t c r w x)
     lock-clear k u K e S =
         let es = number (view lists (plain t)) r (x .owner) c ∷ [] in
-        keeps t u (Done r) (done (r ∷ []) es) refl refl
+        keeps t u (Done r) (done (r ∷ []) es) refl refl tt
         (played-as t u (number (view lists (plain t)) k (x .owner) c ∷ []) es (ap (λ (j : ℕ). number (view lists (plain t)) j (x .owner) c ∷ []) K) S)
         ∙ ap (planned t) (sym (either-not (done (r ∷ []) []) _ (ne-eqb (x .lock) c n) ∙ either-so _ (waits c w 3 (Lock r)) (eq-eqb (x .lock) 0 e)))
 
@@ -156,13 +156,13 @@ cleared t c r x = either (eqb (x .lock) 0) (done (0 ∷ []) []) (need (eqb (x .l
 module _ (t : Tables) (c r : ℕ) (x : Resource) where
   pub clear-none : Orderly t → x .lock ≡ 0 → told (record { answer = Done 0; tables = t }) ≡ planned t (cleared t c r x)
   clear-none O e =
-      keeps t t (Done 0) (done (0 ∷ []) []) refl refl (record { orderly = O; state = refl })
+      rests t (Done 0) (0 ∷ []) refl refl
       ∙ ap (planned t) (sym (either-so (done (0 ∷ []) []) _ (eq-eqb (x .lock) 0 e)))
 
   module _ (n : x .lock ≢ 0) where
     pub clear-other : Orderly t → x .lock ≢ c → told (record { answer = NotHolder; tables = t }) ≡ planned t (cleared t c r x)
     clear-other O m =
-        refuses t NotHolder 0 O refl
+        refuses t NotHolder 0 refl
         ∙ ap (planned t)
         (sym (either-not (done (0 ∷ []) []) _ (ne-eqb (x .lock) 0 n) ∙ need-failed 9 0 (released t r (x .owner) 0 false) (ne-eqb (x .lock) c m)))
 
@@ -182,7 +182,7 @@ freed t c r x = need (mayFree c (x .owner) (x .lock)) 9 0 (released t r 0 0 true
 
 module _ (t : Tables) (c r : ℕ) (x : Resource) (b : Bool) (B : b ≡ mayFree c (x .owner) (x .lock)) where
   pub free-other : Orderly t → not b ≡ true → told (record { answer = NotHolder; tables = t }) ≡ planned t (freed t c r x)
-  free-other O e = refuses t NotHolder 0 O refl ∙ ap (planned t) (sym (need-failed 9 0 (released t r 0 0 true) (sym B ∙ not-true b e)))
+  free-other O e = refuses t NotHolder 0 refl ∙ ap (planned t) (sym (need-failed 9 0 (released t r 0 0 true) (sym B ∙ not-true b e)))
 
   pub free-own : (k : ℕ) (z : Result) → k ≡ r → not b ≡ false → z ≡ planned t (released t k 0 0 true) → z ≡ planned t (freed t c r x)
   free-own k z K e E =
@@ -218,7 +218,7 @@ module _ (t : Tables) (O : Orderly t) (r : ℕ) (d : Bool) (x : Release) (X : Re
       → Played u (wake (take len ids)) v → told (record { answer = Done q; tables = v }) ≡ planned t (released t r o l d)
   was-released L o l q u v Q S R =
       let n = sym (length-take-le len ids (omega (arith, L, G (clears r d) X .most))) ∙ ap length those in
-      keeps t v (Done q) (released t r o l d) refl (ap (λ (k : ℕ). k ∷ []) (Q ∙ n))
+      keeps t v (Done q) (released t r o l d) refl (ap (λ (k : ℕ). k ∷ []) (Q ∙ n)) tt
       (played-as t v (number (view lists (plain t)) r o l ∷ wake (take len ids))
       (number (view lists (plain t)) r o l ∷ wake (woken (view lists (plain t)) (clears r d)))
       (ap (λ (c : List ℕ). number (view lists (plain t)) r o l ∷ wake c) those)

@@ -4,9 +4,9 @@ use Prim.Native.Nat.{ℕ, _≤_, _<_}
 use native.Mathlib.Omega.{arith}
 use mathlib.Core.Path.{_≡_, refl, sym, ap, _∙_}
 use mathlib.Core.Logic.{_≢_}
-use mathlib.Core.Bool.{Bool, true, false, not, _&&_}
+use mathlib.Core.Bool.{Bool, true, false, not, _&&_, cond}
 use mathlib.Core.List.{List, [], _∷_, _++_}
-use lib.Dec.{leb}
+use lib.Dec.{leb, eqb}
 use borrow.Author.Tests.{eq-eqb, ne-eqb, le-leb, lt-leb, lt-ltb, le-ltb, not-true, not-false}
 use Rattle.lists.specs.Lists.{count}
 use Rattle.lists.proofs.Tests.{and}
@@ -20,17 +20,19 @@ use Rattle.rules.specs.declared.Answer.the-variants.{Done, NotAllowed, NoProgra
 use Rattle.rules.specs.Answers.{number, values}
 use Rattle.rules.specs.Book.{at, stateOf}
 use Rattle.rules.specs.Requests.{Order, RU, SS, GO, PR, OF, Request, LOAD, operator}
-use Rattle.rules.specs.Plans.{Event, held, Plan, refused, done, on, becomes, priced, loaded, need}
-use Rattle.rules.specs.Rules.{allowed, order, plan, dismissed, settle, ends}
+use Rattle.rules.specs.Plans.{Event, held, Plan, refused, done, on, becomes, priced, loaded, need, releasing, numberOf, valuesOf, eventsOf, woken, wake, unloaded, timed}
+use Rattle.rules.specs.Rules.{allowed, order, plan, dismissed, ends, quit}
+use Rattle.rules.proofs.Settling.{settle, off-events}
 use Rattle.rules.specs.Keeper.{lists, view}
 use Rattle.rules.proofs.Finding.{find-bears, unused-known}
 use Rattle.rules.proofs.Paths.{need-met, need-failed, named-illegal, named-missing, named-found, inside-met, inside-failed}
 use Rattle.tables.specs.declared.Tables.{Tables}
 use Rattle.tables.specs.declared.Outcome.{Outcome}
 use Rattle.tables.specs.Tables.{plain}
-use Rattle.tables.specs.Calls.{told, served, asked}
-use Rattle.tables.specs.Inner.{Ready, Tested, Played, planned, shift}
-use Rattle.tables.proofs.Serving.{keeps, refuses, asked-sound, asked-unsound}
+use Rattle.tables.specs.Calls.{told, served, asked, planned}
+use Rattle.tables.specs.Inner.{Ready, Tested, Played, shift}
+use Rattle.tables.proofs.Endings.{played-as}
+use Rattle.tables.proofs.Serving.{keeps, refuses, asked-sound, asked-unsound, Happens}
 
 -- a row of two tests fails where one of them does
 pub first-fails : {a : Bool} (b : Bool) → a ≡ false → (a && b) ≡ false
@@ -50,12 +52,12 @@ lawful b nm e h = sym e ∙ not-false b h
 -- a refusal where the plan is one
 pub refusal : (t : Tables) → Ready t → (a : Answer) (v : ℕ) (x : Plan) (r : Outcome) → r ≡ record { answer = a; tables = t } → values a ≡ v ∷ []
     → x ≡ refused (number a) v → told r ≡ planned t x
-refusal t R a v x r E w p = ap told E ∙ refuses t a v (R .orderly) w ∙ ap (planned t) (sym p)
+refusal t R a v x r E w p = ap told E ∙ refuses t a v w ∙ ap (planned t) (sym p)
 
 -- what a call does where the plan is done with one value
-pub success : (t u : Tables) (a : Answer) (v : ℕ) (x : Plan) (es : List Event) → a ≡ Done v → x ≡ done (v ∷ []) es → Played t es u
-    → told (record { answer = a; tables = u }) ≡ planned t x
-success t u a v x es A p S = keeps t u a (done (v ∷ []) es) (ap number A) (ap values A) S ∙ ap (planned t) (sym p)
+pub success : (t u : Tables) (v : ℕ) (y x : Plan) → 0 ≡ numberOf y → v ∷ [] ≡ valuesOf y → Happens (eventsOf (view lists (plain t)) y) → x ≡ y
+    → Played t (eventsOf (view lists (plain t)) y) u → told (record { answer = Done v; tables = u }) ≡ planned t x
+success t u v y x n w h p S = keeps t u (Done v) y n w h S ∙ ap (planned t) (sym p)
 
 -- the test comes first
 pub tested-served : (t : Tables) (q : Request) (b : Bool) (r : Outcome) → Tested t b → b ≡ true → told r ≡ served t q → told r ≡ asked t q
@@ -101,7 +103,7 @@ module _ (t : Tables) (R : Ready t) (nm : List ℕ) (n : ℕ) where
       → Played t (on p (loaded nm n) ∷ []) u → told (record { answer = Done p; tables = u }) ≡ served t (LOAD nm n)
   unfolding served plan
   load-done p u l h e f k S =
-      success t u (Done p) p _ (on p (loaded nm n) ∷ []) refl
+      success t u p (done (p ∷ []) (on p (loaded nm n) ∷ [])) _ refl refl tt
       (need-met 3 0 _ (and l (le-leb n 32767 h))
       ∙ need-met 6 0 _ (eq-eqb (find (t .ledger .programs) nm) 0 e)
       ∙ need-met 7 0 _ (lt-ltb 0 (lowestUnused (t .ledger .programs)) (omega arith))
@@ -142,7 +144,7 @@ module _ (t : Tables) (R : Ready t) (nm : List ℕ) (s to : ℕ) where
   pub shift-done : (p : ℕ) (x : Program) (u : Tables) → legal nm ≡ true → p ≡ find (t .ledger .programs) nm → p ≢ 0 → x ≡ at (plain t .book) p → x .state ≡ s
       → Played t (on p (becomes to Nothing) ∷ []) u → told (record { answer = Done 0; tables = u }) ≡ planned t (shift t nm s to)
   shift-done p x u l e k X d S =
-      success t u (Done 0) 0 _ (on p (becomes to Nothing) ∷ []) refl
+      success t u 0 (done (0 ∷ []) (on p (becomes to Nothing) ∷ [])) _ refl refl tt
       (named-found (view lists (plain t)) nm _ p l (sym e) (omega arith)
       ∙ inside-met (view lists (plain t)) p s _ (sym (ap (λ (y : Program). y .state) X) ∙ d))
       S
@@ -163,11 +165,12 @@ module _ (t : Tables) (R : Ready t) (o : Order) (nm : List ℕ) where
     unfolding served plan
     order-missing E a l e = refusal t R NoProgram 0 _ r E refl (need-met 3 0 _ a ∙ named-missing (view lists (plain t)) nm _ l e)
 
-  pub order-done : (p v : ℕ) (es : List Event) (u : Tables) → allowed o ≡ true → legal nm ≡ true → p ≡ find (t .ledger .programs) nm → p ≢ 0
-      → order (view lists (plain t)) o p ≡ done (v ∷ []) es → Played t es u → told (record { answer = Done v; tables = u }) ≡ served t (operator o nm)
+  pub order-done : (p v : ℕ) (y : Plan) (u : Tables) → allowed o ≡ true → legal nm ≡ true → p ≡ find (t .ledger .programs) nm → p ≢ 0
+      → 0 ≡ numberOf y → v ∷ [] ≡ valuesOf y → Happens (eventsOf (view lists (plain t)) y) → order (view lists (plain t)) o p ≡ y
+      → Played t (eventsOf (view lists (plain t)) y) u → told (record { answer = Done v; tables = u }) ≡ served t (operator o nm)
   unfolding served plan
-  order-done p v es u a l e k d S =
-      success t u (Done v) v _ es refl (need-met 3 0 _ a ∙ named-found (view lists (plain t)) nm _ p l (sym e) (omega arith) ∙ d) S
+  order-done p v y u a l e k n w h d S =
+      success t u v y _ n w h (need-met 3 0 _ a ∙ named-found (view lists (plain t)) nm _ p l (sym e) (omega arith) ∙ d) S
 
 -- PR
 pub pr-low : (n : ℕ) → n < 1 → allowed (PR n) ≡ false
@@ -185,6 +188,22 @@ abbrev pub of-events : Tables → ℕ → ℕ → ℕ → List Event
 of-events t k p n =
     dismissed k p ++ (held (replaced p nobody (plain t .book .holders)) ∷ settle (view lists (plain t)) p (ends (view lists (plain t)) p n))
 
-pub of-order : (t : Tables) (k p n : ℕ) → n ≡ count p (plain t .book .holders) → order (view lists (plain t)) (OF k) p ≡ done (n ∷ []) (of-events t k p n)
+abbrev pub of-plan : Tables → ℕ → ℕ → ℕ → Plan
+of-plan t k p n =
+    releasing (n ∷ []) (dismissed k p ++ (held (replaced p nobody (plain t .book .holders)) ∷ quit (view lists (plain t)) p ∷ [])) (ends (view lists (plain t)) p n)
+
+pub of-order : (t : Tables) (k p n : ℕ) → n ≡ count p (plain t .book .holders) → order (view lists (plain t)) (OF k) p ≡ of-plan t k p n
 unfolding order
-of-order t k p n e = ap (λ (m : ℕ). done (m ∷ []) (of-events t k p m)) (sym e)
+of-order t k p n e = ap (of-plan t k p) (sym e)
+
+pub of-happens : (t : Tables) (k p n : ℕ) → Happens (eventsOf (view lists (plain t)) (of-plan t k p n))
+of-happens t k p n = go (eqb k 8)
+  where
+    go : (b : Bool) → Happens ((cond b (on p unloaded ∷ []) (on p (becomes 0 Nothing) ∷ on p (timed 0 0) ∷ [])
+        ++ (held (replaced p nobody (plain t .book .holders)) ∷ quit (view lists (plain t)) p ∷ [])) ++ wake (woken (view lists (plain t)) (ends (view lists (plain t)) p n)))
+    go true = tt
+    go false = tt
+
+pub of-played : (t : Tables) (k p n : ℕ) (u : Tables) → Played t (of-events t k p n) u → Played t (eventsOf (view lists (plain t)) (of-plan t k p n)) u
+of-played t k p n u =
+    played-as t u _ _ (sym (off-events (view lists (plain t)) p k (replaced p nobody (plain t .book .holders)) (ends (view lists (plain t)) p n)))

@@ -14,7 +14,7 @@ use Rattle.tracks.specs.Tracks.{nobody}
 use Rattle.tracks.proofs.Fits.{holders-of}
 use Rattle.rules.specs.Book.{Book}
 use Rattle.rules.specs.Requests.{Request}
-use Rattle.rules.specs.Keeper.{lists, State, after}
+use Rattle.rules.specs.Keeper.{lists, State, after, play, view, asks}
 use Rattle.rules.specs.Sound.{Names, Zeros, Chains, Whys, System, Users, Unlocked, Limits, Dues}
 use Rattle.rules.specs.Sound as rules
 use Rattle.rules.proofs.SoundRuns.{sound-after}
@@ -22,10 +22,11 @@ use Rattle.chains.specs.Links.{read, total}
 use Rattle.chains.proofs.Reading.{length-read}
 use Rattle.chains.proofs.Laying.{laid-linksOf, read-linksOf, laid-links}
 use Rattle.ledger.specs.Ledger.{bookOf, ledgerOf}
+use Rattle.rules.specs.Plans.{Event, eventsOf}
 use Rattle.tables.specs.declared.Tables.{Tables}
 use Rattle.tables.specs.Tables.{plain, lay}
 use Rattle.tables.specs.Sound.{Sound, sound}
-use Rattle.tables.specs.Calls.{served, asked}
+use Rattle.tables.specs.Calls.{served, asked, laid}
 use Rattle.tables.specs.Walks.{Arrays}
 use Rattle.tables.proofs.Agree.{sound-clauses, sound-test}
 use Rattle.tables.proofs.Members.{chained-once, chained-within}
@@ -109,8 +110,18 @@ sound-plain t A S = record {
   dues = S .dues;
 }
 
+-- what happens leaves tables that say it, and sound ones where the state is sound
+pub laid-is : (t : Tables) (es : List Event) → rules.Sound (play lists es (plain t)) → plain (laid t es) ≡ play lists es (plain t)
+laid-is t [] S = refl
+laid-is t (e ∷ es) S = plain-lay (play lists (e ∷ es) (plain t)) S
+
+laid-sound : (t : Tables) (es : List Event) → sound t ≡ true → rules.Sound (play lists es (plain t)) → sound (laid t es) ≡ true
+laid-sound t [] e S = e
+laid-sound t (v ∷ es) e S = sound-test (lay (play lists (v ∷ es) (plain t))) (lay-sound (play lists (v ∷ es) (plain t)) S)
+
 -- a request asked of sound tables leaves sound tables
 pub sound-asked : (t : Tables) → Arrays t → (q : Request) → sound t ≡ true → sound (asked t q .tables) ≡ true
 unfolding asked served
 sound-asked t A q e =
-    rw (e, asked) (sound-test (lay (after lists (plain t) q)) (lay-sound (after lists (plain t) q) (sound-after (plain t) (sound-plain t A (sound-clauses t e)) q)))
+    rw (e, asked)
+    (laid-sound t (eventsOf (view lists (plain t)) (asks lists (plain t) q)) e (sound-after (plain t) (sound-plain t A (sound-clauses t e)) q))

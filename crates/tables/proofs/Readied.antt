@@ -17,9 +17,9 @@ use Rattle.chains.specs.Links.{read, Leads}
 use Rattle.tables.specs.declared.Tables.{Tables}
 use Rattle.tables.specs.Tables.{plain}
 use Rattle.tables.specs.Sound.{sound}
-use Rattle.tables.specs.Calls.{Result, told, served, asked}
+use Rattle.tables.specs.Calls.{Result, told, served, asked, planned}
 use Rattle.tables.specs.Walks.{Arrays}
-use Rattle.tables.specs.Inner.{Orderly, Ready, Tested, planned, callerOf, callOf}
+use Rattle.tables.specs.Inner.{Orderly, Ready, Tested, callerOf, callOf}
 use Rattle.tables.proofs.Agree.{sound-clauses}
 use Rattle.tables.proofs.Orderly.{sound-orderly}
 use Rattle.tables.proofs.Serving.{refuses, asked-sound}
@@ -52,7 +52,7 @@ module _ (t : Tables) (R : Ready t) (q : Call) where
   pub no-caller : callerOf t ≡ 0 → told (record { answer = NoCaller; tables = t }) ≡ asked t (running q)
   unfolding served plan
   no-caller e =
-      refuses t NoCaller 0 (R .orderly) refl
+      refuses t NoCaller 0 refl
       ∙ ap (planned t) (sym (caller-none (scheduled lists (plain t)) (λ p. call (view lists (plain t)) p q) e))
       ∙ sym (asked-sound t (running q) (R .sound))
 

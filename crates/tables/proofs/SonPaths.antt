@@ -28,10 +28,10 @@ use Rattle.rules.proofs.Paths.{named-illegal, named-missing, named-found, insid
 use Rattle.rules.proofs.Finding.{find-bears}
 use Rattle.tables.specs.declared.Tables.{Tables}
 use Rattle.tables.specs.Tables.{plain}
-use Rattle.tables.specs.Calls.{Result, told}
-use Rattle.tables.specs.Inner.{Orderly, Ready, Says, Played, planned}
+use Rattle.tables.specs.Calls.{Result, told, planned}
+use Rattle.tables.specs.Inner.{Orderly, Ready, Says, Played}
 use Rattle.tables.proofs.Agree.{sound-clauses}
-use Rattle.tables.proofs.Serving.{keeps, refuses}
+use Rattle.tables.proofs.Serving.{keeps, refuses, Happens}
 
 -- what is asked of the program of a name, and of a dormant one
 abbrev pub byName : Tables → List ℕ → (ℕ → Plan) → Plan
@@ -43,12 +43,12 @@ dormantSon t x p = inside (view lists (plain t)) p 0 (x p)
 module _ (t : Tables) (O : Orderly t) (nm : List ℕ) (b : Bool) (B : b ≡ legal nm) where
   pub name-illegal : (f : ℕ → Plan) → not b ≡ true → told (record { answer = NotAllowed; tables = t }) ≡ planned t (byName t nm f)
   name-illegal f e =
-      refuses t NotAllowed 0 O refl ∙ ap (planned t) (sym (named-illegal (view lists (plain t)) nm f (sym B ∙ not-true b e)))
+      refuses t NotAllowed 0 refl ∙ ap (planned t) (sym (named-illegal (view lists (plain t)) nm f (sym B ∙ not-true b e)))
 
   module _ (l : not b ≡ false) (p : ℕ) (P : p ≡ find (t .ledger .programs) nm) where
     pub name-missing : (f : ℕ → Plan) → p ≡ 0 → told (record { answer = NoProgram; tables = t }) ≡ planned t (byName t nm f)
     name-missing f e =
-        refuses t NoProgram 0 O refl
+        refuses t NoProgram 0 refl
         ∙ ap (planned t) (sym (named-missing (view lists (plain t)) nm f (sym B ∙ not-false b l) (sym P ∙ e)))
 
     module _ (h : p ≢ 0) where
@@ -63,7 +63,7 @@ module _ (t : Tables) (O : Orderly t) (nm : List ℕ) (b : Bool) (B : b ≡ lega
         pub son-busy : r .state ≢ 0 → told (record { answer = WrongState (r .state); tables = t }) ≡ planned t (byName t nm (dormantSon t x))
         son-busy n =
             let s : r .state ≡ stateOf (plain t .book) p = ap (λ (y : Program). y .state) R in
-            refuses t (WrongState (r .state)) (r .state) O refl
+            refuses t (WrongState (r .state)) (r .state) refl
             ∙ ap (λ (k : ℕ). planned t (refused 5 k)) s
             ∙ ap (planned t)
             (sym (name-found (dormantSon t x) ∙ inside-failed (view lists (plain t)) p 0 (x p) (λ e. n (s ∙ e))))
@@ -74,9 +74,9 @@ module _ (t : Tables) (O : Orderly t) (nm : List ℕ) (b : Bool) (B : b ≡ lega
             ∙ inside-met (view lists (plain t)) p 0 (x p) (sym (ap (λ (y : Program). y .state) R) ∙ e)
 
         pub son-done : (u : Tables) (a : Answer) → r .state ≡ 0 → number a ≡ numberOf (x p) → values a ≡ valuesOf (x p)
-            → Says u (play lists (eventsOf (x p)) (plain t))
+            → Happens (eventsOf (view lists (plain t)) (x p)) → Says u (play lists (eventsOf (view lists (plain t)) (x p)) (plain t))
             → told (record { answer = a; tables = u }) ≡ planned t (byName t nm (dormantSon t x))
-        son-done u a e n v S = keeps t u a (x p) n v S ∙ ap (planned t) (sym (son-dormant e))
+        son-done u a e n v h S = keeps t u a (x p) n v h S ∙ ap (planned t) (sym (son-dormant e))
 
 -- EXEC 10 and EXEC 9, of a son that is dormant
 abbrev pub sent : ℕ → Plan
@@ -104,7 +104,7 @@ wound t u mult off p = done ((plain t .book .clock + off * u) ∷ []) (on p (tim
 
 module _ (t : Tables) (O : Orderly t) (res mult off : ℕ) (b : Bool) (B : b ≡ timerAllowed res mult off) where
   pub timer-refused : (x : Plan) → not b ≡ true → told (record { answer = NotAllowed; tables = t }) ≡ planned t (need (timerAllowed res mult off) 3 0 x)
-  timer-refused x e = refuses t NotAllowed 0 O refl ∙ ap (planned t) (sym (need-failed 3 0 x (sym B ∙ not-true b e)))
+  timer-refused x e = refuses t NotAllowed 0 refl ∙ ap (planned t) (sym (need-failed 3 0 x (sym B ∙ not-true b e)))
 
   module _ (h : not b ≡ false) where
     allowed : timerAllowed res mult off ≡ true
@@ -127,7 +127,7 @@ module _ (t : Tables) (O : Orderly t) (res mult off : ℕ) (b : Bool) (B : b ≡
         → Played t (on p (timed (plain t .book .clock + off * u) (mult * u)) ∷ []) r
         → told (record { answer = Done (plain t .book .clock + off * u); tables = r }) ≡ planned t (need (timerAllowed res mult off) 3 0 f)
     timer-set f u p r U F S =
-        keeps t r (Done (plain t .book .clock + off * u)) (wound t u mult off p) refl refl S
+        keeps t r (Done (plain t .book .clock + off * u)) (wound t u mult off p) refl refl tt S
         ∙ ap (λ (n : ℕ). planned t (wound t n mult off p)) U
         ∙ ap (planned t) (sym F)
         ∙ ap (planned t) (sym (need-met 3 0 f allowed))

@@ -7,11 +7,11 @@ use native.Mathlib.Numerals.{add-one}
 use mathlib.Core.Path.{_≡_, refl, sym, ap, _∙_}
 use mathlib.Core.Logic.{_≢_}
 use mathlib.Core.Bool.{Bool, true, false, cond, _&&_}
-use mathlib.Core.List.{List, [], _∷_}
+use mathlib.Core.List.{List, [], _∷_, map}
 use lib.ListN.{length}
 use lib.Dec.{eqb}
 use borrow.Author.Tests.{eq-eqb, ne-eqb, lt-ltb, le-ltb}
-use Rattle.lists.specs.Lists.{hit, keep, from}
+use Rattle.lists.specs.Lists.{hit, keep, from, join}
 use Rattle.lists.proofs.Tests.{and}
 use Rattle.clock.specs.Clock.{ceiling, farthest}
 use Rattle.records.specs.declared.Program.{Program}
@@ -21,14 +21,14 @@ use Rattle.rules.specs.declared.Answer.the-variants.{Done, AtCeiling}
 use Rattle.rules.specs.Book.{Book, at, stateOf}
 use Rattle.rules.specs.Requests.{TICK}
 use Rattle.rules.specs.Plans.{Event, on, becomes, timed, clocked, done}
-use Rattle.rules.specs.Rules.{plan, dueAt, ticked, each}
+use Rattle.rules.specs.Rules.{plan, dueAt, ticked}
 use Rattle.rules.specs.Keeper.{lists, State, step, play}
 use Rattle.rules.proofs.Paths.{need-met, need-failed}
 use Rattle.tables.specs.declared.Tables.{Tables}
 use Rattle.tables.specs.declared.Outcome.{Outcome}
 use Rattle.tables.specs.Tables.{plain}
 use Rattle.tables.specs.Calls.{told, served}
-use Rattle.tables.specs.Inner.{Orderly, Ready, Played, tickedBy}
+use Rattle.tables.specs.Inner.{Orderly, Ready, Played}
 use Rattle.tables.proofs.Agree.{sound-clauses}
 use Rattle.tables.proofs.Serving.{play-append}
 use Rattle.tables.proofs.Endings.{played-as, played-on}
@@ -36,7 +36,7 @@ use Rattle.tables.proofs.OperatorPaths.{second-fails, refusal, success}
 
 -- a program at its tick: not due; due, and not dormant; due, and dormant
 module _ (t : Tables) (p : ℕ) (r : Program) (now : ℕ) (O : Orderly t) where
-  pub not-due : r .due ≢ now → Played t (cond (eqb (r .due) now) (tickedBy p r) []) t
+  pub not-due : r .due ≢ now → Played t (cond (eqb (r .due) now) (ticked p r) []) t
   not-due n = rw (ne-eqb (r .due) now n) (record { orderly = O; state = refl })
 
   module _ (d : ℕ) (D : d ≡ cond (eqb (r .interval) 0) 0 (r .due + r .interval)) (here : r .due ≡ now) (u : Tables)
@@ -44,10 +44,10 @@ module _ (t : Tables) (p : ℕ) (r : Program) (now : ℕ) (O : Orderly t) where
     moved : Played t (on p (timed (cond (eqb (r .interval) 0) 0 (r .due + r .interval)) (r .interval)) ∷ []) u
     moved = played-as t u _ _ (ap (λ (x : ℕ). on p (timed x (r .interval)) ∷ []) D) S
 
-    pub due-only : r .state ≢ 0 → Played t (cond (eqb (r .due) now) (tickedBy p r) []) u
+    pub due-only : r .state ≢ 0 → Played t (cond (eqb (r .due) now) (ticked p r) []) u
     due-only n = rw (eq-eqb (r .due) now here, ne-eqb (r .state) 0 n) moved
 
-    pub due-starts : (w : Tables) → r .state ≡ 0 → Played u (on p (becomes 1 Nothing) ∷ []) w → Played t (cond (eqb (r .due) now) (tickedBy p r) []) w
+    pub due-starts : (w : Tables) → r .state ≡ 0 → Played u (on p (becomes 1 Nothing) ∷ []) w → Played t (cond (eqb (r .due) now) (ticked p r) []) w
     due-starts w e W =
         rw (eq-eqb (r .due) now here, eq-eqb (r .state) 0 e)
         (played-on t u w (on p (timed (cond (eqb (r .interval) 0) 0 (r .due + r .interval)) (r .interval)) ∷ []) (on p (becomes 1 Nothing) ∷ []) moved W)
@@ -72,8 +72,8 @@ zero-plus n = omega arith
 
 -- what is left of the events, and of the count
 each-step : (f : ℕ → List Event) (c : Bool) (p : ℕ) (ks : List ℕ) (a : State lists)
-    → play lists (each f (cond c (p ∷ ks) ks)) a ≡ play lists (each f ks) (play lists (cond c (f p) []) a)
-each-step f true p ks a = play-append (f p) (each f ks) a
+    → play lists (join (map f (cond c (p ∷ ks) ks))) a ≡ play lists (join (map f ks)) (play lists (cond c (f p) []) a)
+each-step f true p ks a = play-append (f p) (join (map f ks)) a
 each-step f false p ks a = refl
 
 count-step : (c : Bool) (p : ℕ) (ks : List ℕ) → length (cond c (p ∷ ks) ks) ≡ hit c + length ks
@@ -104,14 +104,18 @@ starts-now r now d e = sym (ap hit (and (eq-eqb (r .due) now d) (eq-eqb (r .stat
 abbrev pub starting : Book → ℕ → Bool
 starting b p = dueAt b p && eqb (stateOf b p) 0
 
+-- what a tick does to some programs, one after the other
+abbrev tickedAll : Book → List ℕ → List Event
+tickedAll b c = join (map (λ k. ticked k (at b k)) c)
+
 -- how far a tick has come: the programs below p are done
 pub record Ticking (s t : Tables) (n p : ℕ) : Type 0 where
   pub low : 1 ≤ p
   pub high : p ≤ 33
   pub few : n < p
   pub orderly : Orderly t
-  pub left : play lists (each (ticked (plain s .book)) (keep (dueAt (plain s .book)) (from p (33 - p)))) (plain t)
-      ≡ play lists (each (ticked (plain s .book)) (keep (dueAt (plain s .book)) all)) (step lists (clocked (plain s .book .clock + 1)) (plain s))
+  pub left : play lists (tickedAll (plain s .book) (keep (dueAt (plain s .book)) (from p (33 - p)))) (plain t)
+      ≡ play lists (tickedAll (plain s .book) (keep (dueAt (plain s .book)) all)) (step lists (clocked (plain s .book .clock + 1)) (plain s))
   pub number : n + length (keep (starting (plain s .book)) (from p (33 - p))) ≡ length (keep (starting (plain s .book)) all)
 
 module _ (s : Tables) where
@@ -122,8 +126,8 @@ module _ (s : Tables) where
     few = omega arith;
     orderly = S .orderly;
     left =
-        ap (λ (xs : List ℕ). play lists (each (ticked (plain s .book)) (keep (dueAt (plain s .book)) xs)) (plain t)) from-first
-        ∙ ap (play lists (each (ticked (plain s .book)) (keep (dueAt (plain s .book)) all))) (S .state ∙ ap (λ (x : ℕ). step lists (clocked x) (plain s)) e);
+        ap (λ (xs : List ℕ). play lists (tickedAll (plain s .book) (keep (dueAt (plain s .book)) xs)) (plain t)) from-first
+        ∙ ap (play lists (tickedAll (plain s .book) (keep (dueAt (plain s .book)) all))) (S .state ∙ ap (λ (x : ℕ). step lists (clocked x) (plain s)) e);
     number = zero-plus _ ∙ ap (λ (xs : List ℕ). length (keep (starting (plain s .book)) xs)) from-first;
   }
 
@@ -132,7 +136,7 @@ module _ (s : Tables) where
     unfolding dueAt
     due-here = ap (λ (x : Program). eqb (x .due) now) X ∙ ap (λ (m : ℕ). eqb (at (plain s .book) p .due) m) N
 
-    pub ticking-step : (k : ℕ) (u : Tables) → k ≡ hit (eqb (r .due) now && eqb (r .state) 0) → Played t (cond (eqb (r .due) now) (tickedBy p r) []) u
+    pub ticking-step : (k : ℕ) (u : Tables) → k ≡ hit (eqb (r .due) now && eqb (r .state) 0) → Played t (cond (eqb (r .due) now) (ticked p r) []) u
         → Ticking s u (n + k) (p + 1)
     ticking-step k u K S =
         let B = plain s .book in
@@ -141,10 +145,10 @@ module _ (s : Tables) where
         let ns = keep (starting B) (from (p + 1) (33 - (p + 1))) in
         let k′ : k ≡ hit (starting B p) =
         K ∙ ap (λ (c : Bool). hit (c && eqb (r .state) 0)) due-here ∙ ap (λ (x : Program). hit (q && eqb (x .state) 0)) X in
-        let S′ : plain u ≡ play lists (cond q (ticked B p) []) (plain t) =
+        let S′ : plain u ≡ play lists (cond q (ticked p (at B p)) []) (plain t) =
         S .state
-        ∙ ap (λ (c : Bool). play lists (cond c (tickedBy p r) []) (plain t)) due-here
-        ∙ ap (λ (x : Program). play lists (cond q (tickedBy p x) []) (plain t)) X in
+        ∙ ap (λ (c : Bool). play lists (cond c (ticked p r) []) (plain t)) due-here
+        ∙ ap (λ (x : Program). play lists (cond q (ticked p x) []) (plain t)) X in
         let c : length (keep (starting B) (from p (33 - p))) ≡ hit (starting B p) + length ns =
         ap (λ (xs : List ℕ). length (keep (starting B) xs)) (from-step p h) ∙ count-step (starting B p) p ns in
         record {
@@ -153,9 +157,9 @@ module _ (s : Tables) where
           few = omega (arith, starts-most (starting B p) k k′);
           orderly = S .orderly;
           left =
-              ap (play lists (each (ticked B) ks)) S′
-              ∙ sym (each-step (ticked B) q p ks (plain t))
-              ∙ sym (ap (λ (xs : List ℕ). play lists (each (ticked B) (keep (dueAt B) xs)) (plain t)) (from-step p h))
+              ap (play lists (tickedAll B ks)) S′
+              ∙ sym (each-step (λ k. ticked k (at B k)) q p ks (plain t))
+              ∙ sym (ap (λ (xs : List ℕ). play lists (tickedAll B (keep (dueAt B) xs)) (plain t)) (from-step p h))
               ∙ T .left;
           number = omega arith;
         }
@@ -172,12 +176,12 @@ module _ (s : Tables) where
       let B = plain s .book in
       let m : n ≡ length (keep (starting B) all) =
       omega (arith, ap (λ (xs : List ℕ). length (keep (starting B) xs)) none) in
-      success s t (Done n) n _ (clocked (plain s .book .clock + 1) ∷ each (ticked B) (keep (dueAt B) all)) refl
+      success s t n (done (n ∷ []) (clocked (plain s .book .clock + 1) ∷ tickedAll B (keep (dueAt B) all))) _ refl refl tt
       (need-met 11 0 _ (lt-ltb (plain s .book .clock) ceiling h)
-      ∙ ap (λ (k : ℕ). done (k ∷ []) (clocked (plain s .book .clock + 1) ∷ each (ticked B) (keep (dueAt B) all))) (sym m))
+      ∙ ap (λ (k : ℕ). done (k ∷ []) (clocked (plain s .book .clock + 1) ∷ tickedAll B (keep (dueAt B) all))) (sym m))
       (record {
         orderly = T .orderly;
-        state = sym (ap (λ (xs : List ℕ). play lists (each (ticked B) (keep (dueAt B) xs)) (plain t)) none) ∙ T .left;
+        state = sym (ap (λ (xs : List ℕ). play lists (tickedAll B (keep (dueAt B) xs)) (plain t)) none) ∙ T .left;
       })
 
 -- a due and its interval are far below the largest number

@@ -29,8 +29,9 @@ use Rattle.rules.specs.declared.Answer.the-variants.{Done, Waits, NotAllowed, N
 use Rattle.rules.specs.Answers.{number, values}
 use Rattle.rules.specs.Book.{whyOf}
 use Rattle.rules.specs.Requests.{EXEC5ALL, EXEC6, EXEC7}
-use Rattle.rules.specs.Plans.{Plan, Event, View, refused, done, waiting, on, becomes, held, awaits, fromDisc, woken, wake}
-use Rattle.rules.specs.Rules.{waits, frees, ends, settle, takes, gives, call}
+use Rattle.rules.specs.Plans.{Plan, Event, View, refused, done, waiting, on, becomes, held, awaits, fromDisc, woken, wake, releasing, numberOf, valuesOf, eventsOf}
+use Rattle.rules.specs.Rules.{waits, frees, ends, takes, gives, call, quit}
+use Rattle.rules.proofs.Settling.{settle}
 use Rattle.rules.specs.Keeper.{lists, view}
 use Rattle.rules.proofs.Paths.{need-met, need-failed, found-at, found-none, waits-so, waits-told}
 use Rattle.chains.specs.declared.Listing.{Listing}
@@ -38,9 +39,9 @@ use Rattle.chains.specs.Inner.{Lists}
 use Rattle.tables.specs.declared.Tables.{Tables}
 use Rattle.tables.specs.declared.Outcome.{Outcome}
 use Rattle.tables.specs.Tables.{plain}
-use Rattle.tables.specs.Calls.{told}
-use Rattle.tables.specs.Inner.{Orderly, Played, CanHold, CanWake, Woke, planned, callOf}
-use Rattle.tables.proofs.Serving.{keeps, refuses, as-planned}
+use Rattle.tables.specs.Calls.{told, planned}
+use Rattle.tables.specs.Inner.{Orderly, Played, CanHold, CanWake, Woke, callOf}
+use Rattle.tables.proofs.Serving.{keeps, refuses, as-planned, Happens}
 use Rattle.tables.proofs.Endings.{played-as, played-on}
 use Rattle.tables.proofs.Waiters.{disc-known}
 
@@ -60,18 +61,18 @@ seen t = view lists (plain t)
 -- a refusal with value 0, and a plan done
 pub told-refused : (t : Tables) (a : Answer) (x : Plan) → Orderly t → values a ≡ 0 ∷ [] → refused (number a) 0 ≡ x
     → (r : Outcome) → r ≡ record { answer = a; tables = t } → told r ≡ planned t x
-told-refused t a x O w e r q = ap told q ∙ as-planned t (refused (number a) 0) x (told (record { answer = a; tables = t })) (refuses t a 0 O w) e
+told-refused t a x O w e r q = ap told q ∙ as-planned t (refused (number a) 0) x (told (record { answer = a; tables = t })) (refuses t a 0 w) e
 
-pub told-done : (t : Tables) (n : ℕ) (es : List Event) (x : Plan) → done (n ∷ []) es ≡ x → (r : Tables) → Played t es r
-    → told (record { answer = Done n; tables = r }) ≡ planned t x
-told-done t n es x e r S = as-planned t (done (n ∷ []) es) x (told (record { answer = Done n; tables = r })) (keeps t r (Done n) (done (n ∷ []) es) refl refl S) e
+pub told-done : (t : Tables) (n : ℕ) (y x : Plan) → 0 ≡ numberOf y → n ∷ [] ≡ valuesOf y → Happens (eventsOf (seen t) y) → y ≡ x → (r : Tables)
+    → Played t (eventsOf (seen t) y) r → told (record { answer = Done n; tables = r }) ≡ planned t x
+told-done t n y x a v h e r S = as-planned t y x (told (record { answer = Done n; tables = r })) (keeps t r (Done n) y a v h S) e
 
 -- to wait, or to be told
 module _ (t : Tables) (c w s : ℕ) (y : Why) where
   pub waits-there : w ≡ 0 → (r : Tables) → Played t (on c (becomes s y) ∷ []) r → told (record { answer = Waits s; tables = r }) ≡ planned t (waits c w s y)
   waits-there e r S =
       as-planned t (waiting s (on c (becomes s y) ∷ [])) (waits c w s y) (told (record { answer = Waits s; tables = r }))
-      (keeps t r (Waits s) (waiting s (on c (becomes s y) ∷ [])) refl refl S) (sym (waits-so c w s y e))
+      (keeps t r (Waits s) (waiting s (on c (becomes s y) ∷ [])) refl refl tt S) (sym (waits-so c w s y e))
 
   pub waits-not : w ≢ 0 → Orderly t → (r : Outcome) → r ≡ record { answer = NoRoom; tables = t } → told r ≡ planned t (waits c w s y)
   waits-not n O = told-refused t NoRoom (waits c w s y) O refl (sym (waits-told c w s y n))
@@ -129,7 +130,7 @@ module _ (t : Tables) (O : Orderly t) (c h n w : ℕ) where
       pub takes-done : (x : table.Tracks) → x ≡ tracksOf t (filled i n h (whose t)) → (r : Tables) → Played t (held (holders x) ∷ []) r
           → told (record { answer = Done i; tables = r }) ≡ planned t (takes (seen t) c h n w)
       takes-done x X r S =
-          told-done t i (held (filled i n h (whose t)) ∷ []) (takes (seen t) c h n w) (sym done-then) r
+          told-done t i (done (i ∷ []) (held (filled i n h (whose t)) ∷ [])) (takes (seen t) c h n w) refl refl tt (sym done-then) r
           (played-as t r (held (holders x) ∷ []) (held (filled i n h (whose t)) ∷ [])
           (ap (λ (xs : List ℕ). held xs ∷ []) (filled-holds x (t .ledger .tracks) (O .tracks) i n h X .held)) S)
 
@@ -204,7 +205,7 @@ module _ (t : Tables) (O : Orderly t) (h n start : ℕ) where
     gives-stray b B e = told-refused t NotHolder (gives (seen t) h n start) O refl (sym (not-holder (sym B ∙ e)))
 
     given-back : run h n (drop start (whose t)) ≡ true
-        → gives (seen t) h n start ≡ done (n ∷ []) (held (filled start n nobody (whose t)) ∷ wake (woken (seen t) (frees n)))
+        → gives (seen t) h n start ≡ releasing (n ∷ []) (held (filled start n nobody (whose t)) ∷ []) (frees n)
     unfolding gives
     given-back e = need-met 3 0 _ inside ∙ need-met 9 0 _ e
 
@@ -213,7 +214,7 @@ module _ (t : Tables) (O : Orderly t) (h n start : ℕ) where
         → told (record { answer = Done n; tables = r }) ≡ planned t (gives (seen t) h n start)
     gives-done b B e x X r S =
         let es = wake (woken (seen t) (frees n)) in
-        told-done t n (held (filled start n nobody (whose t)) ∷ es) (gives (seen t) h n start) (sym (given-back (sym B ∙ e))) r
+        told-done t n (releasing (n ∷ []) (held (filled start n nobody (whose t)) ∷ []) (frees n)) (gives (seen t) h n start) refl refl tt (sym (given-back (sym B ∙ e))) r
         (played-as t r (held (holders x) ∷ es) (held (filled start n nobody (whose t)) ∷ es)
         (ap (λ (xs : List ℕ). held xs ∷ es) (filled-holds x (t .ledger .tracks) (O .tracks) start n nobody X .held)) S)
 
@@ -229,7 +230,7 @@ module _ (t : Tables) (c : ℕ) where
   gives-all O n N x X r S =
       let es : ℕ → List Event = λ m. wake (woken (seen t) (frees m)) in
       let xs = replaced c nobody (whose t) in
-      told-done t n (held xs ∷ es n) (callOf t c EXEC5ALL) (ap (λ (m : ℕ). done (m ∷ []) (held xs ∷ es m)) N) r
+      told-done t n (releasing (n ∷ []) (held xs ∷ []) (frees n)) (callOf t c EXEC5ALL) refl refl tt (ap (λ (m : ℕ). releasing (m ∷ []) (held xs ∷ []) (frees m)) N) r
       (played-as t r (held (holders x) ∷ es n) (held xs ∷ es n)
       (ap (λ (ys : List ℕ). held ys ∷ es n) (replaced-holds x (t .ledger .tracks) (O .tracks) c nobody X .held)) S)
 
@@ -238,9 +239,9 @@ module _ (t : Tables) (c : ℕ) where
       → told (record { answer = Done n; tables = r }) ≡ planned t (callOf t c EXEC6)
   unfolding call
   ends-done r n W =
-      let es = on c (becomes 0 why.Nothing) ∷ settle (seen t) c (ends (seen t) c 0) in
-      told-done t n es (callOf t c EXEC6) (ap (λ (m : ℕ). done (m ∷ []) es) (W .number)) r (W .played)
+      let y : ℕ → Plan = λ m. releasing (m ∷ []) (on c (becomes 0 why.Nothing) ∷ quit (seen t) c ∷ []) (ends (seen t) c 0) in
+      told-done t n (y n) (callOf t c EXEC6) refl refl tt (ap y (W .number)) r (W .played)
 
   pub suspends : (r : Tables) → Played t (on c (becomes 6 why.Nothing) ∷ []) r → told (record { answer = Done 0; tables = r }) ≡ planned t (callOf t c EXEC7)
   unfolding call
-  suspends r S = told-done t 0 (on c (becomes 6 why.Nothing) ∷ []) (callOf t c EXEC7) refl r S
+  suspends r S = told-done t 0 (done (0 ∷ []) (on c (becomes 6 why.Nothing) ∷ [])) (callOf t c EXEC7) refl refl tt refl r S

@@ -15,7 +15,7 @@ use Rattle.lists.proofs.Laws.{count-remove-le, keep-le}
 use Rattle.records.specs.Records.{Known, recordAt}
 use Rattle.rules.specs.Book.{whyOf}
 use Rattle.rules.specs.Plans.{awaits, fromDisc, fromGeneral}
-use Rattle.rules.specs.Rules as rules
+use Rattle.rules.specs.Plans as rules
 use Rattle.rules.specs.Keeper.{lists, view}
 use Rattle.chains.specs.Links.{walk, read}
 use Rattle.chains.specs.Inner.{Lists}

@@ -5,32 +5,33 @@ use mathlib.Core.Bool.{Bool, true, false, cond}
 use mathlib.Core.List.{List, [], _∷_}
 use Rattle.rules.specs.Answers.{number, values}
 use Rattle.rules.specs.Requests.{Request}
-use Rattle.rules.specs.Plans.{Plan, numberOf, valuesOf, eventsOf}
+use Rattle.rules.specs.Plans.{Event, Plan, numberOf, valuesOf, eventsOf}
 use Rattle.rules.specs.Rules.{sizes}
-use Rattle.rules.specs.Keeper.{lists, State, asks, play, fresh}
+use Rattle.rules.specs.Keeper.{lists, asks, play, view, fresh}
+use Rattle.rules.specs.Engine.{Reply, notSound}
 use Rattle.tables.specs.declared.Tables.{Tables}
 use Rattle.tables.specs.declared.Outcome.{Outcome}
 use Rattle.tables.specs.Tables.{plain, lay, smallest}
 use Rattle.tables.specs.Sound.{sound}
 
-pub record Result : Type 0 where
-  pub number : ℕ
-  pub values : List ℕ
-  pub tables : Tables
+abbrev pub Result : Type 0
+Result = Reply Tables
 
 -- what a call's outcome says
 abbrev pub told : Outcome → Result
 told r = record { number = number (r .answer); values = values (r .answer); tables = r .tables }
 
--- tables that are not sound: 14, value 0, and the tables as given
-abbrev pub notSound : Tables → Result
-notSound t = record { number = 14; values = 0 ∷ []; tables = t }
+-- What happens, played on the plain state and laid out. Where nothing happens, as in every refusal, the tables are those that were given.
+abbrev pub laid : Tables → List Event → Tables
+laid t [] = t
+laid t (e ∷ es) = lay (play lists (e ∷ es) (plain t))
 
--- on sound tables a call is what the rule makes of the plain state, laid out
+-- what a plan makes of sound tables; and a request
+abbrev pub planned : Tables → Plan → Result
+planned t x = record { number = numberOf x; values = valuesOf x; tables = laid t (eventsOf (view lists (plain t)) x) }
+
 unfoldable pub served : Tables → Request → Result
-served t q =
-    let x = asks lists (plain t) q in
-    record { number = numberOf x; values = valuesOf x; tables = lay (play lists (eventsOf x) (plain t)) }
+served t q = planned t (asks lists (plain t) q)
 
 -- a request asked of any tables
 unfoldable pub asked : Tables → Request → Result

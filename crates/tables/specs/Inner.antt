@@ -25,8 +25,7 @@ use Rattle.rules.specs.Replay.{Accounts}
 use Rattle.chains.specs.Links.{read}
 use Rattle.chains.specs.Inner.{Laid}
 use Rattle.tables.specs.declared.Tables.{Tables}
-use Rattle.tables.specs.Tables.{plain, lay}
-use Rattle.tables.specs.Calls.{Result}
+use Rattle.tables.specs.Tables.{plain}
 use Rattle.tables.specs.Sound.{sound}
 
 -- Tables in order: the links lay out chains that some entries account for, and the tables of tracks and numbers are as they are made. What a call does
@@ -113,10 +112,6 @@ pub record CanSettle (t : Tables) (ids : List ℕ) (len : ℕ) (ids′ : List �
   pub first : CanWake t ids len
   pub second : CanWake t ids′ len′
 
--- what a plan hands back
-abbrev pub planned : Tables → Plan → Result
-planned t x = record { number = numberOf x; values = valuesOf x; tables = lay (play lists (eventsOf x) (plain t)) }
-
 -- the program of a name goes from one state to another
 abbrev pub shift : Tables → List ℕ → ℕ → ℕ → Plan
 shift t nm from to = named (view lists (plain t)) nm (λ p. inside (view lists (plain t)) p from (done (0 ∷ []) (on p (becomes to Nothing) ∷ [])))
@@ -153,11 +148,7 @@ pub record Sizes (T S R : ℕ) : Type 0 where
   pub part : S ≤ T
   pub few : R ≤ 16
 
--- what a tick does to p, whose timer is due, and whose record was r before it
-abbrev pub tickedBy : ℕ → Program → List Event
-tickedBy p r =
-    on p (timed (cond (eqb (r .interval) 0) 0 (r .due + r .interval)) (r .interval)) ∷ cond (eqb (r .state) 0) (on p (becomes 1 Nothing) ∷ []) []
-
+-- the due and interval of a record r can be added up
 pub record CanTick (t : Tables) (p : ℕ) (r : Program) : Type 0 where
   pub orderly : Orderly t
   pub known : Known p

@@ -5,7 +5,7 @@ use mathlib.Core.Bool.{Bool}
 use mathlib.Core.List.{[], _∷_}
 use lib.ListN.{length}
 use Rattle.records.specs.Inner as numbers
-use Rattle.rules.specs.Plans.{Plan, done, wake, woken}
+use Rattle.rules.specs.Plans.{Plan, done, wake, woken, releasing}
 use Rattle.rules.specs.Rules.{number, clears}
 use Rattle.rules.specs.Keeper.{lists, view}
 use Rattle.tables.specs.declared.Tables.{Tables}
@@ -20,5 +20,4 @@ pub record CanRelease (t : Tables) (r : ℕ) : Type 0 where
 -- number r has another owner and lock, and those wake who waited for it to be cleared, or deallocated
 abbrev pub released : Tables → ℕ → ℕ → ℕ → Bool → Plan
 released t r o l d =
-    done (length (woken (view lists (plain t)) (clears r d)) ∷ [])
-    (number (view lists (plain t)) r o l ∷ wake (woken (view lists (plain t)) (clears r d)))
+    releasing (length (woken (view lists (plain t)) (clears r d)) ∷ []) (number (view lists (plain t)) r o l ∷ []) (clears r d)

@@ -6,7 +6,8 @@ ghost use Rattle.records.specs.Numbers.{resources, without};
 ghost use Rattle.records.specs.declared.Why.the-variants.{Nothing};
 ghost use Rattle.tracks.specs.Tracks.{nobody, replaced};
 ghost use Rattle.rules.specs.Plans.{on, becomes, held, numbered, wake, woken, fromDisc, fromGeneral};
-ghost use Rattle.rules.specs.Rules.{ends, settle, dismissed};
+ghost use Rattle.rules.specs.Rules.{ends, dismissed};
+ghost use Rattle.rules.proofs.Settling.{settle};
 ghost use Rattle.rules.specs.Keeper.{lists, view};
 ghost use Rattle.chains.specs.Inner.{Lists};
 ghost use Rattle.ledger.specs.Inner.{Releases};
@@ -23,7 +24,7 @@ impl Tables {
     // Where a track was freed, all of chain 5 but the one that ended.
     pub(crate) fn disc_waiters(self, release: Release) -> Listing
         requires { ⌜ Orderly self ⌝ }
-        ensures { λ r. ⌜ ((y : Rattle.rules.specs.Rules.Release) → Releases release y → Lists (r .ids) (r .len) (fromDisc (view lists (plain self)) y)) ⌝ }
+        ensures { λ r. ⌜ ((y : Rattle.rules.specs.Plans.Release) → Releases release y → Lists (r .ids) (r .len) (fromDisc (view lists (plain self)) y)) ⌝ }
     {
         if release.tracks == 0 {
             return Listing {
@@ -39,7 +40,7 @@ impl Tables {
     // Those of chain 3 whose reason to wait is gone, but not the one that ended.
     pub(crate) fn general_waiters(self, release: Release) -> Listing
         requires { ⌜ Orderly self ⌝ }
-        ensures { λ r. ⌜ ((y : Rattle.rules.specs.Rules.Release) → Releases release y → Lists (r .ids) (r .len) (fromGeneral (view lists (plain self)) y)) ⌝ }
+        ensures { λ r. ⌜ ((y : Rattle.rules.specs.Plans.Release) → Releases release y → Lists (r .ids) (r .len) (fromGeneral (view lists (plain self)) y)) ⌝ }
     {
         let links = self.links;
         let list = chains::chain_of(links, 3);

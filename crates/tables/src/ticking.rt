@@ -7,7 +7,8 @@ ghost use lib.Dec.{eqb};
 ghost use Rattle.lists.specs.Lists.{hit};
 ghost use Rattle.rules.specs.Requests.{TICK};
 ghost use Rattle.tables.specs.Calls.{told, served, asked};
-ghost use Rattle.tables.specs.Inner.{Ready, Played, CanTick, tickedBy};
+ghost use Rattle.rules.specs.Rules.{ticked};
+ghost use Rattle.tables.specs.Inner.{Ready, Played, CanTick};
 use super::Outcome;
 use super::Tables;
 use clock::Clock;
@@ -82,7 +83,7 @@ impl Tables {
     // The timer of p, whose record was r before the tick, moves on or goes where it is due; p is scheduled where it was dormant.
     fn ticked(self, p: u8, r: Program, now: u64) -> Tables
         requires { ⌜ CanTick self p r ⌝ }
-        ensures { λ t. ⌜ Played self (cond (eqb (r .due) now) (tickedBy p r) []) t ⌝ }
+        ensures { λ t. ⌜ Played self (cond (eqb (r .due) now) (ticked p r) []) t ⌝ }
     {
         if r.due != now {
             return self;

@@ -3,6 +3,7 @@ use Prim.Native.Nat.{_-_}
 use native.Mathlib.Omega.{arith}
 use mathlib.Core.Path.{refl}
 use borrow.Author.Needs.{needs}
+use Rattle.rules.specs.Rules.{endsIn}
 use Rattle.ledger.proofs.Releasing.{Marks, marks-start, marks-step, marks-end}
 use Rattle.ledger.proofs.Release.of_ending.Statement.{statement}
 use Rattle.ledger.proofs.Release.of_ending.Tie as tie
@@ -46,6 +47,7 @@ owns-any-requires : tie.Need-owns-any-requires Inv-loop μ-loop
 owns-any-requires c κs = search needs
 
 returns : tie.Need-returns Inv-loop μ-loop
+unfolding endsIn
 returns c =
     let b = c .before .before in
     record {

@@ -84,7 +84,7 @@ returns-4 c =
     let l = f .before .before .before in
     let b = l .before in
     son-done _ (b .before .pre .ready .orderly) _ _ (b .is-legal .ensures) (l .if1 .left) _ (f .find-program .ensures) (r .before .if2 .left) sent
-    _ (r .«record» .ensures) _ (Done (c .long .result)) (e .before .if3 .left) refl (ap (λ (k : ℕ). k ∷ []) (c .long .ensures)) (e .becomes .ensures)
+    _ (r .«record» .ensures) _ (Done (c .long .result)) (e .before .if3 .left) refl (ap (λ (k : ℕ). k ∷ []) (c .long .ensures)) tt (e .becomes .ensures)
 
 pub exec10-by-spec : {M : Type 1} → statement M
 exec10-by-spec =

@@ -1,12 +1,10 @@
 -- `tables::Tables::exec11_by` meets its contract: nothing happens.
 -- Assumes nothing.
 use mathlib.Core.Path.{refl}
-use mathlib.Core.List.{[]}
 use borrow.Author.Needs.{needs}
 use Rattle.rules.specs.declared.Answer.the-variants.{Told}
-use Rattle.rules.specs.Plans.{done}
 use Rattle.rules.specs.Rules.{call}
-use Rattle.tables.proofs.Serving.{keeps}
+use Rattle.tables.proofs.Serving.{rests}
 use Rattle.tables.proofs.Tables.exec11_by.Statement.{statement}
 use Rattle.tables.proofs.Tables.exec11_by.Tie as tie
 
@@ -15,7 +13,7 @@ time-requires c κs = search needs
 
 returns : tie.Need-returns
 unfolding call
-returns c = keeps _ _ (Told (c .time .result)) (done _ []) refl (c .time .ensures) (record { orderly = c .before .before .before .pre .ready .orderly; state = refl })
+returns c = rests _ (Told (c .time .result)) _ refl (c .time .ensures)
 
 pub exec11-by-spec : {M : Type 1} → statement M
 exec11-by-spec = tie.close (tie.spec time-requires returns)

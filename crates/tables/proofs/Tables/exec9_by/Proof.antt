@@ -86,7 +86,7 @@ returns-4 c =
     let l = f .before .before .before in
     let b = l .before in
     son-done _ (b .before .pre .ready .orderly) _ _ (b .is-legal .ensures) (l .if1 .left) _ (f .find-program .ensures) (r .before .if2 .left) (awaited (b .before .args .c))
-    _ (r .«record» .ensures) _ (Waits 3) (e .before .if3 .left) refl refl
+    _ (r .«record» .ensures) _ (Waits 3) (e .before .if3 .left) refl refl tt
     (played-on _ _ _ (on (f .find-program .result) (becomes 1 Nothing) ∷ []) (on (b .before .args .c) (becomes 3 (Son (f .find-program .result))) ∷ []) (e .becomes .ensures) (c .becomes2 .ensures))
 
 pub exec9-by-spec : {M : Type 1} → statement M

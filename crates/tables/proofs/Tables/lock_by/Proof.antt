@@ -9,8 +9,8 @@ use Rattle.records.specs.Inner.{Within}
 use Rattle.rules.specs.Requests.{LOCK}
 use Rattle.rules.specs.Plans.{Plan}
 use Rattle.rules.specs.Rules.{call}
-use Rattle.tables.specs.Calls.{Result, told}
-use Rattle.tables.specs.Inner.{planned, callOf}
+use Rattle.tables.specs.Calls.{Result, told, planned}
+use Rattle.tables.specs.Inner.{callOf}
 use Rattle.tables.proofs.NumberPaths.{w-refused, w-passed, can-put, was-put, ofNumber, number-strange, number-most, number-within, number-free, number-owned, locked, lock-own, lock-clear, lock-taken}
 use Rattle.tables.proofs.Tables.lock_by.Statement.{statement}
 use Rattle.tables.proofs.Tables.lock_by.Tie as tie

@@ -1,9 +1,9 @@
 -- `tables::Tables::off_ready` meets its contract, path by path.
 -- Assumes nothing.
-use mathlib.Core.Path.{sym, _∙_}
+use mathlib.Core.Path.{sym, _∙_, refl}
 use borrow.Author.Tests.{not-true, not-false}
 use Rattle.rules.specs.Requests.{OF}
-use Rattle.tables.proofs.OperatorPaths.{illegal, lawful, found-known, of-order, order-refused, order-illegal, order-missing, order-done}
+use Rattle.tables.proofs.OperatorPaths.{illegal, lawful, found-known, of-order, of-happens, of-played, order-refused, order-illegal, order-missing, order-done}
 use borrow.Author.Needs.{needs}
 use Rattle.tables.proofs.Tables.off_ready.Statement.{statement}
 use Rattle.tables.proofs.Tables.off_ready.Tie as tie
@@ -74,7 +74,9 @@ returns-4 c =
     order-done (s .args .self) (s .pre) (OF (s .args .k)) (s .args .name) (f .find-program .result) (h .held-by .result) _ _
     (sym (k .ends .ensures) ∙ not-false (k .ends .result) (x .before .if1 .left))
     (lawful (x .is-legal .result) (s .args .name) (x .is-legal .ensures) (l .if2 .left)) (f .find-program .ensures) (e .if3 .left)
-    (of-order (s .args .self) (s .args .k) (f .find-program .result) (h .held-by .result) (h .held-by .ensures)) (c .ended .ensures)
+    refl refl (of-happens (s .args .self) (s .args .k) (f .find-program .result) (h .held-by .result))
+    (of-order (s .args .self) (s .args .k) (f .find-program .result) (h .held-by .result) (h .held-by .ensures))
+    (of-played (s .args .self) (s .args .k) (f .find-program .result) (h .held-by .result) _ (c .ended .ensures))
 
 pub off-ready-spec : {M : Type 1} → statement M
 off-ready-spec = tie.close (tie.spec ends-requires refused-requires returns is-legal-requires refused-requires-2 returns-2 find-program-requires refused-requires-3 returns-3 held-by-requires ended-requires returns-4)

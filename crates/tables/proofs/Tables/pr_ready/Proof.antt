@@ -1,6 +1,6 @@
 -- `tables::Tables::pr_ready` meets its contract, path by path.
 -- Assumes nothing.
-use mathlib.Core.Path.{sym, _∙_}
+use mathlib.Core.Path.{sym, _∙_, refl}
 use Rattle.lists.proofs.Tests.{upTo-is}
 use Rattle.rules.specs.Requests.{PR}
 use Rattle.tables.proofs.OperatorPaths.{illegal, lawful, found-known, pr-low, pr-high, pr-order, order-refused, order-illegal, order-missing, order-done}
@@ -82,7 +82,7 @@ returns-5 c =
     order-done (s .args .self) (s .pre) (PR (s .args .n)) (s .args .name) (f .find-program .result) (r .«record» .result .priority) _ _
     (upTo-is 1 32767 (s .args .n) (h .before .if1 .left) (h .if2 .left))
     (lawful (x .is-legal .result) (s .args .name) (x .is-legal .ensures) (l .if3 .left)) (f .find-program .ensures) (r .before .if4 .left)
-    (pr-order (s .args .self) (s .args .n) (f .find-program .result) (r .«record» .result) (r .«record» .ensures)) (c .priced .ensures)
+    refl refl tt (pr-order (s .args .self) (s .args .n) (f .find-program .result) (r .«record» .result) (r .«record» .ensures)) (c .priced .ensures)
 
 pub pr-ready-spec : {M : Type 1} → statement M
 pr-ready-spec = tie.close (tie.spec refused-requires returns refused-requires-2 returns-2 is-legal-requires refused-requires-3 returns-3 find-program-requires refused-requires-4 returns-4 record-requires cast-t14 cast-priced priced-requires returns-5)

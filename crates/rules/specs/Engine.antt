@@ -1,0 +1,55 @@
+-- What calls hand back, whatever keeps the tables; and what an engine is, so that the code's tables and the replay of demand 3 are two of one kind.
+-- Assumes nothing.
+use Prim.Native.Nat.{ℕ}
+use mathlib.Core.Bool.{Bool, true, false}
+use mathlib.Core.List.{List, [], _∷_, _++_}
+use lib.ListN.{length, drop}
+use lib.Dec.{leb}
+use Rattle.rules.specs.Requests.{Request}
+
+-- the number, the values, and the tables (01, "Answer numbers")
+pub record Reply (S : Type 0) : Type 0 where
+  pub number : ℕ
+  pub values : List ℕ
+  pub tables : S
+
+-- tables that are not sound: 14, value 0, and the tables as given
+abbrev pub notSound : {S : Type 0} → S → Reply S
+notSound t = record { number = 14; values = 0 ∷ []; tables = t }
+
+-- the same from a call with a lent buffer
+pub record Handed (S : Type 0) : Type 0 where
+  pub number : ℕ
+  pub values : List ℕ
+  pub tables : S
+  pub buffer : List ℕ
+
+-- a reply beside a buffer that is left as it was
+abbrev pub beside : {S : Type 0} → List ℕ → Reply S → Handed S
+beside buf r = record { number = r .number; values = r .values; tables = r .tables; buffer = buf }
+
+-- bytes at the front of a buffer, the rest untouched
+abbrev pub front : List ℕ → List ℕ → List ℕ
+front bytes buf = bytes ++ drop (length bytes) buf
+
+-- An engine keeps the tables in some form: whether they are sound, what a request comes to, what FRESH makes, and the bytes of their page.
+pub record Engine : Type 1 where
+  pub Form : Type 0
+  pub sound : Form → Bool
+  pub asked : Form → Request → Reply Form
+  pub made : ℕ → ℕ → ℕ → Reply Form
+  pub page : Form → List ℕ
+
+module _ (E : Engine) where
+  -- PAGE on sound tables: 0 and the page's length, or 12 and the bytes needed, no byte written (01, "The page and the console line")
+  abbrev pub writtenIn : E .Form → List ℕ → Handed (E .Form)
+  writtenIn t buf =
+      let bytes : List ℕ = E .page t in
+      elim (leb (length bytes) (length buf)) [
+        | true ↦ record { number = 0; values = length bytes ∷ []; tables = t; buffer = front bytes buf }
+        | false ↦ record { number = 12; values = length bytes ∷ []; tables = t; buffer = buf }
+      ]
+
+  -- 14 comes first
+  abbrev pub pagedIn : E .Form → List ℕ → Handed (E .Form)
+  pagedIn t buf = elim (E .sound t) [ true ↦ writtenIn t buf | false ↦ beside buf (notSound t) ]
