@@ -19,10 +19,11 @@ use Rattle.records.specs.declared.Program.{Program}
 use Rattle.records.proofs.Program.{the-field}
 use Rattle.tables.specs.declared.Tables.{Tables}
 use Rattle.tables.specs.declared.Outcome.{Outcome}
-use Rattle.tables.specs.Walks.{Arrays}
+use Rattle.tables.specs.Tables.{Arrays}
 use Rattle.tables.specs.Sound.{sound}
 use Rattle.tables.specs.Calls.{told}
-use Rattle.page.specs.Paging.{Written, beside}
+use Rattle.rules.specs.Engine.{beside}
+use Rattle.page.specs.Paging.{Written}
 use Rattle.console.specs.Console.{keyed}
 use Rattle.rules.specs.Answers as answers
 use Rattle.board.specs.Packed.{packedLength, packProgram, packed, unpacked}

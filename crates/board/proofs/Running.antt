@@ -10,6 +10,7 @@ use mathlib.Core.Logic.{_⊎_, inl, inr}
 use lib.ListN.{length, take, drop}
 use lib.Seq.{slice, take-at}
 use borrow.Author.Tests.{le-leb}
+use Rattle.rules.specs.Engine.{madeBy}
 use Rattle.text.specs.Inner.{Wrote}
 use Rattle.text.proofs.Laws.{Left, left-start, left-step, left-end, wrote-front}
 use Rattle.page.proofs.Writing.{left-as, wrote-as}
@@ -28,7 +29,7 @@ use Rattle.board.proofs.Whole.{bytesOf, after, printed-length, printed-
 
 -- FRESH of the smallest tables yields them, allowed or not
 pub made-smallest : (r : Outcome) → told r ≡ made 1 0 0 → r .tables ≡ smallest
-unfolding made
+unfolding madeBy
 made-smallest r e = ap (λ (x : Result). x .tables) e ∙ go (sizes 1 0 0)
   where
     go : (b : Bool) → (cond {A = Result} b (record { number = 0; values = 0 ∷ []; tables = lay (fresh lists 1 0 0) }) (record { number = 3; values = 0 ∷ []; tables = smallest })) .tables ≡ smallest

@@ -10,7 +10,7 @@ use lib.ListN.{length, length-append}
 use borrow.Author.Tests.{leb-true, le-leb, lt-leb}
 use Rattle.tables.specs.declared.Tables.{Tables}
 use Rattle.tables.specs.Tables.{smallest}
-use Rattle.page.specs.Paging.{front}
+use Rattle.rules.specs.Engine.{front}
 use Rattle.console.specs.Line.{lineOf}
 use Rattle.console.specs.Console.{keyed}
 use Rattle.console.specs.Sheet.{lent, shown, linesOf, printed, sheet}

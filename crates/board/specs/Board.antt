@@ -9,7 +9,8 @@ use Rattle.lists.specs.Lists.{hit, join}
 use Rattle.tables.specs.declared.Tables.{Tables}
 use Rattle.tables.specs.Tables.{smallest}
 use Rattle.tables.specs.Sound.{sound}
-use Rattle.page.specs.Paging.{Written, front}
+use Rattle.rules.specs.Engine.{front}
+use Rattle.page.specs.Paging.{Written}
 use Rattle.console.specs.Line.{lineOf}
 use Rattle.console.specs.Console.{keyed}
 use Rattle.console.specs.Sheet.{lent, shown, linesOf, sheet}

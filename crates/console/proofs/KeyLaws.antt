@@ -21,23 +21,24 @@ use Rattle.tables.specs.declared.Tables.{Tables}
 use Rattle.tables.specs.declared.Outcome.{Outcome}
 use Rattle.tables.specs.Tables.{lay, smallest}
 use Rattle.tables.specs.Sound.{sound}
-use Rattle.tables.specs.Calls.{Result, told, notSound, asked, made, planned}
+use Rattle.tables.specs.Calls.{Result, told, asked, made, planned}
 use Rattle.tables.specs.Inner.{Ready}
 use Rattle.tables.proofs.Orderly.{orderly-lay}
 use Rattle.tables.proofs.Serving.{asked-sound, asked-unsound, served-planned}
-use Rattle.page.specs.Paging.{Written, beside, paged}
+use Rattle.rules.specs.Engine.{beside, notSound, pagedIn, madeBy}
+use Rattle.page.specs.Paging.{Written, paged}
 use Rattle.console.specs.declared.Asked.{Asked}
 use Rattle.console.specs.declared.Asked.the-variants as c
 use Rattle.console.specs.declared.Command.{Command}
 use Rattle.console.specs.Line.{Line, bad, PAGE, asks, lineOf}
 use Rattle.console.specs.Commands.{said, saying}
-use Rattle.console.specs.Console.{obeyed, keyed}
+use Rattle.console.specs.Console.{obeyed, keyed, keyedIn}
 use Rattle.console.specs.Inner.{obeys, refusing, isPage}
 use Rattle.console.proofs.Asked as asked
 
 -- a line keyed in is obeyed as what it says
 pub keyed-obeys : (t : Tables) (l buf : List ℕ) → keyed t l buf ≡ obeys t buf (lineOf l)
-unfolding keyed obeys
+unfolding keyedIn obeys
 keyed-obeys t l buf = refl
 
 -- what a line does by the test of soundness, b
@@ -58,12 +59,12 @@ pub obeys-told : (t : Tables) (buf : List ℕ) (x : Command) (q : Request) (r : 
 obeys-told t buf x q r s e = ap (beside buf) e ∙ sym (obeys-asks t buf q) ∙ ap (obeys t buf) (sym s)
 
 pub obeys-page : (t : Tables) (buf : List ℕ) → obeys t buf PAGE ≡ paged t buf
-unfolding obeys paged
+unfolding obeys pagedIn
 obeys-page t buf = go (sound t) refl
   where
     go : (b : Bool) → sound t ≡ b → doing b t buf PAGE ≡ paged t buf
     go true e = refl
-    go false e = rw (e, paged)
+    go false e = rw (e, pagedIn)
 
 pub obeys-bad : (t : Tables) (buf : List ℕ) → obeys t buf bad ≡ beside buf (refusing t)
 unfolding obeys
@@ -95,7 +96,7 @@ module _ (t : Tables) (ready : Ready t) (T S R : ℕ) where
   asked-renewing = asked-sound t (FRESH T S R) (ready .sound) ∙ served-planned t (FRESH T S R) ∙ plan-renewing (sizes T S R)
 
   pub fresh-allowed : sizes T S R ≡ true → asked t (FRESH T S R) ≡ made T S R
-  unfolding made
+  unfolding madeBy
   fresh-allowed e = asked-renewing ∙ ap (λ b. renewing b t T S R) e ∙ ap (λ b. renewing b smallest T S R) (sym e)
 
   pub fresh-refused : sizes T S R ≡ false → asked t (FRESH T S R) ≡ record { number = 3; values = 0 ∷ []; tables = t }
@@ -130,7 +131,7 @@ done-not a h v d = miss behind 0 tt (subst (λ (x : Answer). OneOf behind (tagOf
 -- FRESH without tables, then: done it is the answer, and else its answer with the tables that there were
 module _ (t : Tables) (ready : Ready t) (T S R : ℕ) (r : Outcome) (e : told r ≡ made T S R) where
   pub renewed-done : (v : ℕ) → r .answer ≡ Done v → told r ≡ asked t (FRESH T S R)
-  unfolding made
+  unfolding madeBy
   renewed-done v d = go (sizes T S R) refl
     where
       go : (b : Bool) → sizes T S R ≡ b → told r ≡ asked t (FRESH T S R)
@@ -138,7 +139,7 @@ module _ (t : Tables) (ready : Ready t) (T S R : ℕ) (r : Outcome) (e : told r 
       go false s = absurd (omega (arith, ap number d, ap (λ (x : Result). x .number) (e ∙ ap (λ b. renewing b smallest T S R) s)))
 
   pub renewed-else : ((v : ℕ) → r .answer ≡ Done v → ⊥) → told (record { answer = r .answer; tables = t }) ≡ asked t (FRESH T S R)
-  unfolding made
+  unfolding madeBy
   renewed-else n = go (sizes T S R) refl
     where
       go : (b : Bool) → sizes T S R ≡ b → told (record { answer = r .answer; tables = t }) ≡ asked t (FRESH T S R)

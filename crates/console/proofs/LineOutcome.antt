@@ -7,7 +7,8 @@ use Rattle.tables.specs.declared.Tables.{Tables}
 use Rattle.tables.specs.declared.Outcome.{Outcome}
 use Rattle.tables.specs.Calls.{Result, told}
 use Rattle.tables.proofs.OneOutcome.{determined}
-use Rattle.page.specs.Paging.{Written, beside}
+use Rattle.rules.specs.Engine.{beside}
+use Rattle.page.specs.Paging.{Written}
 use Rattle.console.specs.Console.{keyed}
 
 -- what is handed back besides the buffer

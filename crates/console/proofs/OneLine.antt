@@ -17,11 +17,12 @@ use Rattle.tables.specs.declared.Tables.{Tables}
 use Rattle.tables.specs.declared.Outcome.{Outcome}
 use Rattle.tables.specs.Tables.{plain}
 use Rattle.tables.specs.Sound.{sound}
-use Rattle.tables.specs.Calls.{told, notSound}
+use Rattle.tables.specs.Calls.{told}
 use Rattle.page.specs.Page.{page}
-use Rattle.page.specs.Paging.{Written, beside, front, written, paged}
+use Rattle.rules.specs.Engine.{beside, front, notSound, pagedIn, writtenIn}
+use Rattle.page.specs.Paging.{Written, written, paged}
 use Rattle.console.specs.Line.{Line, bad, PAGE, asks, lineOf}
-use Rattle.console.specs.Console.{keyed}
+use Rattle.console.specs.Console.{keyed, keyedIn}
 use Rattle.console.specs.Sheet.{room, lent, answerLine, shown, Shown, lineShown}
 use Rattle.console.specs.Inner.{valuesLine, answerBytes}
 use Rattle.console.proofs.AnswerLaws.{answer-room}
@@ -35,22 +36,22 @@ answer-line buf r = refl
 -- PAGE with room for the page
 pub paged-done : (t : Tables) (buf : List ℕ) → sound t ≡ true → length (page (plain t)) ≤ length buf
     → paged t buf ≡ record { number = 0; values = length (page (plain t)) ∷ []; tables = t; buffer = front (page (plain t)) buf }
-unfolding paged written
-paged-done t buf e h = rw (e, paged, le-leb (length (page (plain t))) (length buf) h, written)
+unfolding pagedIn writtenIn
+paged-done t buf e h = rw (e, pagedIn, le-leb (length (page (plain t))) (length buf) h, written)
 
 -- a line on tables that are not sound, and PAGE on sound ones
 pub keyed-unsound : (t : Tables) (l buf : List ℕ) → sound t ≡ false → keyed t l buf ≡ beside buf (notSound t)
-unfolding keyed
-keyed-unsound t l buf e = rw (e, keyed)
+unfolding keyedIn
+keyed-unsound t l buf e = rw (e, keyedIn)
 
 pub keyed-page : (t : Tables) (l : List ℕ) → sound t ≡ true → lineOf l ≡ PAGE → (buf : List ℕ) → length (page (plain t)) ≤ length buf
     → keyed t l buf ≡ record { number = 0; values = length (page (plain t)) ∷ []; tables = t; buffer = front (page (plain t)) buf }
-unfolding keyed
-keyed-page t l e p buf h = rw (e, keyed, p) (paged-done t buf e h)
+unfolding keyedIn
+keyed-page t l e p buf h = rw (e, keyedIn, p) (paged-done t buf e h)
 
 -- any other line leaves the buffer
 pub keyed-keeps : (t : Tables) (l : List ℕ) → (lineOf l ≡ PAGE → sound t ≡ false) → (buf : List ℕ) → keyed t l buf .buffer ≡ buf
-unfolding keyed
+unfolding keyedIn
 keyed-keeps t l other buf = go (sound t) refl (lineOf l) refl
   where
     go : (s : Bool) → sound t ≡ s → (x : Line) → lineOf l ≡ x → doing s t buf x .buffer ≡ buf
@@ -71,7 +72,7 @@ line-alike {v} h = λ i. answerLine (record { number = h .number i; values = h .
 
 pub keyed-alike : (t : Tables) (l a b : List ℕ) → (sound t ≡ true → length (page (plain t)) ≤ length a) → (sound t ≡ true → length (page (plain t)) ≤ length b)
     → Alike (keyed t l a) (keyed t l b)
-unfolding keyed
+unfolding keyedIn
 keyed-alike t l a b ha hb = go (sound t) refl (lineOf l)
   where
     go : (s : Bool) → sound t ≡ s → (x : Line) → Alike (doing s t a x) (doing s t b x)
@@ -109,9 +110,9 @@ module _ (t : Tables) (l out : List ℕ) (big : room ≤ length out) (fits : sou
   -- any other line, and PAGE on others
   module _ (other : lineOf l ≡ PAGE → sound t ≡ false) where
     answer-shown : (x : Line) → lineOf l ≡ x → shown x t (keyed t l lent) ≡ answerLine (keyed t l lent)
-    unfolding keyed
+    unfolding keyedIn
     answer-shown bad p = refl
-    answer-shown PAGE p = rw (other p, keyed)
+    answer-shown PAGE p = rw (other p, keyedIn)
     answer-shown (asks q) p = refl
 
     pub shown-answer : lineShown t l out ≡ printing (answerLine (keyed t l out)) (keyed t l out .tables) out

@@ -3,16 +3,24 @@
 use Prim.Native.Nat.{ℕ}
 use mathlib.Core.Bool.{Bool, true, false}
 use mathlib.Core.List.{List, [], _∷_}
+use Rattle.console.specs.Console.{keyedIn}
+use Rattle.rules.specs.Engine.{Handed, notSound, beside, Engine, pagedIn}
 use Rattle.tables.specs.declared.Tables.{Tables}
-use Rattle.tables.specs.Sound.{sound}
-use Rattle.tables.specs.Calls.{notSound, asked}
-use Rattle.page.specs.Paging.{Written, beside, paged}
+use Rattle.page.specs.Paging.{Written, linked}
 use Rattle.console.specs.Line.{Line, bad, PAGE, asks, lineOf}
 
-abbrev pub obeyed : Tables → List ℕ → Line → Written
-obeyed t buf bad = record { number = 13; values = 0 ∷ []; tables = t; buffer = buf }
-obeyed t buf PAGE = paged t buf
-obeyed t buf (asks q) = beside buf (asked t q)
+module _ (E : Engine) where
+  abbrev pub obeyedIn : E .Form → List ℕ → Line → Handed (E .Form)
+  obeyedIn t buf bad = record { number = 13; values = 0 ∷ []; tables = t; buffer = buf }
+  obeyedIn t buf PAGE = pagedIn E t buf
+  obeyedIn t buf (asks q) = beside buf (E .asked t q)
 
-unfoldable pub keyed : Tables → List ℕ → List ℕ → Written
-keyed t line buf = elim (sound t) [ true ↦ obeyed t buf (lineOf line) | false ↦ beside buf (notSound t) ]
+  unfoldable pub keyedIn : E .Form → List ℕ → List ℕ → Handed (E .Form)
+  keyedIn t line buf = elim (E .sound t) [ true ↦ obeyedIn t buf (lineOf line) | false ↦ beside buf (notSound t) ]
+
+-- the same of the code's tables
+abbrev pub obeyed : Tables → List ℕ → Line → Written
+obeyed t buf l = obeyedIn linked t buf l
+
+abbrev pub keyed : Tables → List ℕ → List ℕ → Written
+keyed t line buf = keyedIn linked t line buf

@@ -14,8 +14,9 @@ use Rattle.rules.specs.declared.Answer.{Answer}
 use Rattle.rules.specs.Answers as answers
 use Rattle.tables.specs.declared.Tables.{Tables}
 use Rattle.tables.specs.Sound.{sound}
-use Rattle.tables.specs.Calls.{Result, notSound}
-use Rattle.page.specs.Paging.{Written, beside}
+use Rattle.tables.specs.Calls.{Result}
+use Rattle.rules.specs.Engine.{beside, notSound}
+use Rattle.page.specs.Paging.{Written}
 use Rattle.console.specs.declared.Asked.{Asked}
 use Rattle.console.specs.Commands.{saying}
 use Rattle.console.specs.declared.fields.NumberField.{NumberField}

@@ -9,7 +9,8 @@ use Rattle.text.specs.Text.{text, decimal, between, parts}
 use Rattle.tables.specs.declared.Tables.{Tables}
 use Rattle.tables.specs.Tables.{plain, smallest}
 use Rattle.page.specs.Page.{page}
-use Rattle.page.specs.Paging.{Written, front}
+use Rattle.rules.specs.Engine.{front}
+use Rattle.page.specs.Paging.{Written}
 use Rattle.console.specs.Line.{Line, bad, PAGE, asks, lineOf}
 use Rattle.console.specs.Console.{keyed}
 

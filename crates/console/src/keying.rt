@@ -5,7 +5,7 @@ ghost use lib.ListN.{length};
 ghost use Rattle.rules.specs.Requests.{FRESH};
 ghost use Rattle.tables.specs.Sound.{sound};
 ghost use Rattle.tables.specs.Calls.{told, asked};
-ghost use Rattle.page.specs.Paging.{beside};
+ghost use Rattle.rules.specs.Engine.{beside};
 ghost use Rattle.console.specs.Line.{bad};
 ghost use Rattle.console.specs.Commands.{said};
 ghost use Rattle.console.specs.Console.{keyed};

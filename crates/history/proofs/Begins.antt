@@ -4,6 +4,7 @@ use Prim.Native.Nat.{ℕ}
 use mathlib.Core.Path.{_≡_, refl, sym, _∙_}
 use mathlib.Core.Bool.{Bool, true, false, cond}
 use mathlib.Core.List.{[], _∷_}
+use Rattle.rules.specs.Engine.{madeBy}
 use Rattle.rules.specs.Requests.{Request, FRESH, LOAD, operator, TICK, running}
 use Rattle.rules.specs.Plans.{done, need, renewed}
 use Rattle.rules.specs.Rules.{sizes, plan}
@@ -24,7 +25,7 @@ module _ (t : Tables) (e : sound t ≡ true) (laid : lay (plain t) ≡ t) where
   begun-planned T S R false = λ i. record { number = 3; values = 0 ∷ []; tables = sym laid i }
 
   pub requested-asked : (q : Request) → requested t q ≡ asked t q
-  unfolding made plan
+  unfolding madeBy plan
   requested-asked (FRESH T S R) = begun-planned T S R (sizes T S R) ∙ sym (asked-planned t e (FRESH T S R))
   requested-asked (LOAD nm n) = refl
   requested-asked (operator o nm) = refl

@@ -29,15 +29,15 @@ use Rattle.rules.proofs.Refusals.{answered}
 use Rattle.rules.proofs.SoundFresh.{sound-fresh}
 use Rattle.rules.proofs.SoundRuns.{sound-after}
 use Rattle.tables.specs.declared.Tables.{Tables}
-use Rattle.tables.specs.Tables.{plain, lay}
+use Rattle.tables.specs.Tables.{plain, lay, Arrays}
 use Rattle.tables.specs.Sound.{sound}
-use Rattle.tables.specs.Walks.{Arrays}
 use Rattle.tables.specs.Calls.{asked, made, planned}
 use Rattle.tables.proofs.Agree.{sound-clauses, sound-test}
 use Rattle.tables.proofs.Plain.{plain-lay, lay-sound, sound-plain}
 use Rattle.tables.proofs.Orderly.{orderly-lay, sound-orderly}
 use Rattle.page.specs.Page.{page}
-use Rattle.page.specs.Paging.{Written, beside, front, written, paged}
+use Rattle.rules.specs.Engine.{beside, front, writtenIn, madeBy}
+use Rattle.page.specs.Paging.{Written, written, paged}
 use Rattle.console.specs.Line.{Line, bad, PAGE, lineOf}
 use Rattle.console.specs.Line as line
 use Rattle.console.specs.Console.{obeyed}
@@ -109,7 +109,7 @@ module _ (t : Tables) (n : State entries) (K : Kept t n) where
 
   -- PAGE
   handed-written : (buf : List ℕ) → Handed (written t buf) (tellsPage n buf) n
-  unfolding written
+  unfolding writtenIn
   handed-written buf =
       go (leb (length (page (plain t))) (length buf)) refl (ap (λ (bytes : List ℕ). leb (length bytes) (length buf)) (sym same))
     where
@@ -118,9 +118,9 @@ module _ (t : Tables) (n : State entries) (K : Kept t n) where
 
       go : (b : Bool) → leb (length (page (plain t))) (length buf) ≡ b → leb (length (page (sortedOut n))) (length buf) ≡ b
           → Handed (written t buf) (tellsPage n buf) n
-      go true e f = rw (e, written, f, tellsPage)
+      go true e f = rw (e, writtenIn, f, tellsPage)
           (record { told = λ i. record { number = 0; values = length (same i) ∷ []; buffer = front (same i) buf }; answers = refl; kept = K })
-      go false e f = rw (e, written, f, tellsPage)
+      go false e f = rw (e, writtenIn, f, tellsPage)
           (record { told = λ i. record { number = 12; values = length (same i) ∷ []; buffer = buf }; answers = refl; kept = K })
 
   handed-paged : (buf : List ℕ) → Handed (paged t buf) (tellsPage n buf) n
@@ -218,8 +218,8 @@ module _ (t : Tables) (A : Arrays t) (s : sound t ≡ true) where
 -- from fresh tables of any accepted sizes on
 module _ (T S R : ℕ) (e : sizes T S R ≡ true) where
   kept-fresh : Kept (made T S R .tables) (fresh entries T S R)
-  unfolding made
-  kept-fresh = rw (e, made) (kept-lay (fresh lists T S R) (sound-fresh T S R e) (fresh entries T S R) (fresh-alike T S R))
+  unfolding madeBy
+  kept-fresh = rw (e, madeBy) (kept-lay (fresh lists T S R) (sound-fresh T S R e) (fresh entries T S R) (fresh-alike T S R))
 
   pub demand-fresh : (cs : List Made) → Demanded (made T S R .tables) (fresh entries T S R) cs
   demand-fresh = kept-demanded (made T S R .tables) (fresh entries T S R) kept-fresh

@@ -6,22 +6,22 @@ use mathlib.Core.Path.{_≡_, refl, ap, _∙_, subst}
 use mathlib.Core.Logic.{_≢_}
 use mathlib.Core.Bool.{Bool, true, false}
 use mathlib.Core.List.{List}
+use Rattle.rules.specs.Engine.{pagedIn}
 use Rattle.records.specs.Records.{Known}
 use Rattle.rules.specs.Book.{at}
 use Rattle.rules.specs.Requests.{Request, FRESH, LOAD, operator, TICK, running}
 use Rattle.rules.specs.Keeper.{lists, State}
 use Rattle.rules.proofs.FrameLaws as rules
 use Rattle.tables.specs.declared.Tables.{Tables}
-use Rattle.tables.specs.Tables.{plain}
+use Rattle.tables.specs.Tables.{plain, Arrays}
 use Rattle.tables.specs.Sound.{sound}
-use Rattle.tables.specs.Walks.{Arrays}
 use Rattle.tables.specs.Calls.{asked}
 use Rattle.tables.proofs.Agree.{sound-clauses}
 use Rattle.tables.proofs.Plain.{sound-plain}
 use Rattle.page.specs.Paging.{Written, paged}
 use Rattle.console.specs.Line.{Line, bad, PAGE, lineOf}
 use Rattle.console.specs.Line as line
-use Rattle.console.specs.Console.{obeyed, keyed}
+use Rattle.console.specs.Console.{obeyed, keyed, keyedIn}
 use Rattle.history.specs.Runs.{Made, step}
 use Rattle.history.specs.Runs as calls
 use Rattle.history.specs.Demand.{Asks, by-call, by-line, Touches, anew, concerns, Untouched}
@@ -34,12 +34,12 @@ module _ (t : Tables) (e : sound t ≡ false) where
   asked-stays q = rw (e, asked)
 
   paged-stays : (buf : List ℕ) → paged t buf .tables ≡ t
-  unfolding paged
-  paged-stays buf = rw (e, paged)
+  unfolding pagedIn
+  paged-stays buf = rw (e, pagedIn)
 
   keyed-stays : (bytes buf : List ℕ) → keyed t bytes buf .tables ≡ t
-  unfolding keyed
-  keyed-stays bytes buf = rw (e, keyed)
+  unfolding keyedIn
+  keyed-stays bytes buf = rw (e, keyedIn)
 
 -- p's record in tables u is that in tables t
 abbrev Same : Tables → ℕ → Tables → Type 0

@@ -6,6 +6,7 @@ use mathlib.Core.Bool.{Bool, true, false}
 use mathlib.Core.List.{List}
 use lib.ListN.{length}
 use lib.Dec.{leb}
+use Rattle.rules.specs.Engine.{pagedIn, writtenIn}
 use Rattle.rules.specs.Requests.{Request}
 use Rattle.rules.specs.Keeper.{lists, asks, after}
 use Rattle.rules.specs.Sound as rules
@@ -19,16 +20,16 @@ use Rattle.tables.proofs.Serving.{asked-sound, served-planned}
 use Rattle.page.specs.Page.{page}
 use Rattle.page.specs.Paging.{written, paged}
 use Rattle.console.specs.Line.{lineOf}
-use Rattle.console.specs.Console.{obeyed, keyed}
+use Rattle.console.specs.Console.{obeyed, keyed, keyedIn}
 
 -- PAGE leaves the tables
 pub written-leaves : (t : Tables) (buf : List ℕ) → written t buf .tables ≡ t
-unfolding written
+unfolding writtenIn
 written-leaves t buf = go (leb (length (page (plain t))) (length buf)) refl
   where
     go : (b : Bool) → leb (length (page (plain t))) (length buf) ≡ b → written t buf .tables ≡ t
-    go true e = rw (e, written)
-    go false e = rw (e, written)
+    go true e = rw (e, writtenIn)
+    go false e = rw (e, writtenIn)
 
 module _ (t : Tables) (e : sound t ≡ true) where
   -- the test of soundness is passed
@@ -36,12 +37,12 @@ module _ (t : Tables) (e : sound t ≡ true) where
   asked-planned q = asked-sound t q e ∙ served-planned t q
 
   pub paged-sound : (buf : List ℕ) → paged t buf ≡ written t buf
-  unfolding paged
-  paged-sound buf = rw (e, paged)
+  unfolding pagedIn
+  paged-sound buf = rw (e, pagedIn)
 
   pub keyed-sound : (bytes buf : List ℕ) → keyed t bytes buf ≡ obeyed t buf (lineOf bytes)
-  unfolding keyed
-  keyed-sound bytes buf = rw (e, keyed)
+  unfolding keyedIn
+  keyed-sound bytes buf = rw (e, keyedIn)
 
   -- the plain state after a request is the rule's
   pub plain-asked : rules.Sound (plain t) → (q : Request) → plain (asked t q .tables) ≡ after lists (plain t) q

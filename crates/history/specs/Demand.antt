@@ -21,7 +21,8 @@ use Rattle.tables.specs.declared.Tables.{Tables}
 use Rattle.tables.specs.Tables.{plain, lay}
 use Rattle.tables.specs.Calls.{Result, asked}
 use Rattle.page.specs.Page.{page}
-use Rattle.page.specs.Paging.{Written, front}
+use Rattle.rules.specs.Engine.{front}
+use Rattle.page.specs.Paging.{Written}
 use Rattle.console.specs.Line.{Line, bad, PAGE, lineOf}
 use Rattle.console.specs.Line as line
 use Rattle.history.specs.Runs.{Made, step, run, outcomes}

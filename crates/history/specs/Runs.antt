@@ -7,7 +7,8 @@ use lib.Dec.{eqb}
 use Rattle.rules.specs.Requests.{Call, Order, Request, FRESH, LOAD, operator, TICK, running}
 use Rattle.tables.specs.declared.Tables.{Tables}
 use Rattle.tables.specs.Calls.{Result, asked, made}
-use Rattle.page.specs.Paging.{Written, beside, paged}
+use Rattle.rules.specs.Engine.{beside}
+use Rattle.page.specs.Paging.{Written, paged}
 use Rattle.console.specs.Console.{keyed}
 
 -- a call of a run, with the buffer that is lent to it

@@ -12,14 +12,13 @@ use borrow.Author.Tests.{le-leb, lt-leb}
 use Rattle.text.specs.Inner.{Wrote}
 use Rattle.text.proofs.Laws.{wrote-front}
 use Rattle.tables.specs.declared.Tables.{Tables}
-use Rattle.tables.specs.Tables.{plain}
+use Rattle.tables.specs.Tables.{plain, Arrays}
 use Rattle.tables.specs.Sound.{sound}
-use Rattle.tables.specs.Calls.{notSound}
-use Rattle.tables.specs.Walks.{Arrays}
 use Rattle.tables.proofs.Agree.{sound-clauses}
 use Rattle.tables.proofs.Plain.{sound-plain}
 use Rattle.page.specs.Page.{page}
-use Rattle.page.specs.Paging.{Written, beside, front, written, paged}
+use Rattle.rules.specs.Engine.{beside, front, notSound, pagedIn, writtenIn}
+use Rattle.page.specs.Paging.{Written, written, paged}
 use Rattle.page.specs.Inner.{CanPage}
 use Rattle.page.proofs.Room.{page-room}
 
@@ -37,12 +36,12 @@ module _ (t : Tables) (buf : List ℕ) where
   handed k n after = record { number = k; values = n ∷ []; tables = t; buffer = after }
 
   by-sound : (b : Bool) → sound t ≡ b → paged t buf ≡ elim b [ true ↦ written t buf | false ↦ beside buf (notSound t) ]
-  unfolding paged
+  unfolding pagedIn
   by-sound b e = ap (λ (x : Bool). elim x [ true ↦ written t buf | false ↦ beside buf (notSound t) ]) e
 
   by-room : (b : Bool) → leb (length bytes) (length buf) ≡ b
       → written t buf ≡ elim b [ true ↦ handed 0 (length bytes) (front bytes buf) | false ↦ handed 12 (length bytes) buf ]
-  unfolding written
+  unfolding writtenIn
   by-room b e = ap (λ (x : Bool). elim x [ true ↦ handed 0 (length bytes) (front bytes buf) | false ↦ handed 12 (length bytes) buf ]) e
 
   pub handed-unsound : sound t ≡ false → beside buf (notSound t) ≡ paged t buf

@@ -7,7 +7,8 @@ use Rattle.tables.specs.declared.Tables.{Tables}
 use Rattle.tables.specs.declared.Outcome.{Outcome}
 use Rattle.tables.specs.Calls.{Result, told}
 use Rattle.tables.proofs.OneOutcome.{determined}
-use Rattle.page.specs.Paging.{Written, beside, paged}
+use Rattle.rules.specs.Engine.{beside}
+use Rattle.page.specs.Paging.{Written, paged}
 
 -- what is handed back besides the buffer
 abbrev result : Written → Result

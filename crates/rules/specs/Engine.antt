@@ -1,11 +1,12 @@
 -- What calls hand back, whatever keeps the tables; and what an engine is, so that the code's tables and the replay of demand 3 are two of one kind.
 -- Assumes nothing.
 use Prim.Native.Nat.{ℕ}
-use mathlib.Core.Bool.{Bool, true, false}
+use mathlib.Core.Bool.{Bool, true, false, cond}
 use mathlib.Core.List.{List, [], _∷_, _++_}
 use lib.ListN.{length, drop}
 use lib.Dec.{leb}
 use Rattle.rules.specs.Requests.{Request}
+use Rattle.rules.specs.Rules.{sizes}
 
 -- the number, the values, and the tables (01, "Answer numbers")
 pub record Reply (S : Type 0) : Type 0 where
@@ -32,17 +33,22 @@ beside buf r = record { number = r .number; values = r .values; tables = r .tabl
 abbrev pub front : List ℕ → List ℕ → List ℕ
 front bytes buf = bytes ++ drop (length bytes) buf
 
--- An engine keeps the tables in some form: whether they are sound, what a request comes to, what FRESH makes, and the bytes of their page.
+-- FRESH, which takes no tables, where `new` makes fresh ones: refused it yields the smallest
+unfoldable pub madeBy : {S : Type 0} → (ℕ → ℕ → ℕ → S) → ℕ → ℕ → ℕ → Reply S
+madeBy new T S R =
+    cond (sizes T S R) (record { number = 0; values = 0 ∷ []; tables = new T S R }) (record { number = 3; values = 0 ∷ []; tables = new 1 0 0 })
+
+-- An engine keeps the tables in some form: whether they are sound, what a request comes to, fresh ones, and the bytes of their page.
 pub record Engine : Type 1 where
   pub Form : Type 0
   pub sound : Form → Bool
   pub asked : Form → Request → Reply Form
-  pub made : ℕ → ℕ → ℕ → Reply Form
+  pub fresh : ℕ → ℕ → ℕ → Form
   pub page : Form → List ℕ
 
 module _ (E : Engine) where
   -- PAGE on sound tables: 0 and the page's length, or 12 and the bytes needed, no byte written (01, "The page and the console line")
-  abbrev pub writtenIn : E .Form → List ℕ → Handed (E .Form)
+  unfoldable pub writtenIn : E .Form → List ℕ → Handed (E .Form)
   writtenIn t buf =
       let bytes : List ℕ = E .page t in
       elim (leb (length bytes) (length buf)) [
@@ -51,5 +57,5 @@ module _ (E : Engine) where
       ]
 
   -- 14 comes first
-  abbrev pub pagedIn : E .Form → List ℕ → Handed (E .Form)
+  unfoldable pub pagedIn : E .Form → List ℕ → Handed (E .Form)
   pagedIn t buf = elim (E .sound t) [ true ↦ writtenIn t buf | false ↦ beside buf (notSound t) ]

@@ -11,7 +11,8 @@ use Rattle.rules.specs.Requests.{Call, running}
 use Rattle.tables.specs.declared.Tables.{Tables}
 use Rattle.tables.specs.declared.Outcome.{Outcome}
 use Rattle.tables.specs.Calls.{Result, told, asked, planned}
-use Rattle.tables.specs.Inner.{Tested, Calls, callerOf, callOf}
+use Rattle.tables.specs.Tables.{callerOf}
+use Rattle.tables.specs.Inner.{Tested, Calls, callOf}
 use Rattle.tables.proofs.Serving.{asked-unsound}
 use Rattle.tables.proofs.Readied.{caller-known, no-caller, by-caller}
 

@@ -17,12 +17,10 @@ use Rattle.rules.proofs.SoundRuns.{sound-after}
 use Rattle.rules.proofs.Claims.{exec4-claims, exec15-claims}
 use Rattle.rules.proofs.CountLaws.{counts}
 use Rattle.tables.specs.declared.Tables.{Tables}
-use Rattle.tables.specs.Tables.{plain, lay}
+use Rattle.tables.specs.Tables.{plain, lay, Arrays, callerOf}
 use Rattle.tables.specs.Sound.{sound}
 use Rattle.tables.specs.Calls.{Result, served, asked, planned}
 use Rattle.tables.specs.Demand.{Claim, ValueFreed, ValueAwoken, ValueRoused, Counted}
-use Rattle.tables.specs.Walks.{Arrays}
-use Rattle.tables.specs.Inner.{callerOf}
 use Rattle.tables.proofs.Agree.{sound-clauses}
 use Rattle.tables.proofs.Orderly.{orderly-lay, sound-orderly}
 use Rattle.tables.proofs.Plain.{plain-lay, sound-plain, laid-is}

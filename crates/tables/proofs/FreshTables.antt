@@ -7,6 +7,7 @@ use mathlib.Core.List.{[], _∷_, _++_}
 use lib.ListN.{replicate}
 use lib.Dec.{leb}
 use borrow.Author.Tests.{le-leb, lt-leb, leb-true}
+use Rattle.rules.specs.Engine.{madeBy}
 use Rattle.lists.specs.Lists.{upTo}
 use Rattle.lists.proofs.Tests.{and, both, upTo-is, upTo-true}
 use Rattle.clock.specs.declared.Clock.{Clock}
@@ -52,12 +53,12 @@ module _ (T S R : ℕ) where
 
   -- and what FRESH hands back
   pub made-done : (t : Tables) → sizes T S R ≡ true → t ≡ lay (fresh lists T S R) → told (record { answer = Done 0; tables = t }) ≡ made T S R
-  unfolding made
-  made-done t e f = rw (e, made) (λ i. record { number = 0; values = 0 ∷ []; tables = f i })
+  unfolding madeBy
+  made-done t e f = rw (e, madeBy) (λ i. record { number = 0; values = 0 ∷ []; tables = f i })
 
   pub made-refused : (t : Tables) → sizes T S R ≡ false → t ≡ smallest → told (record { answer = NotAllowed; tables = t }) ≡ made T S R
-  unfolding made
-  made-refused t e f = rw (e, made) (λ i. record { number = 3; values = 0 ∷ []; tables = f i })
+  unfolding madeBy
+  made-refused t e f = rw (e, madeBy) (λ i. record { number = 3; values = 0 ∷ []; tables = f i })
 
 -- no chain: no link
 no-links : replicate {A = ℕ} 40 0 ≡ linksOf (replicate 7 [])

@@ -24,10 +24,9 @@ use Rattle.chains.specs.Links.{read}
 use Rattle.chains.proofs.Reading.{walk-end, getD-read, length-read}
 use Rattle.chains.proofs.Laying.{laid-is, links-laid}
 use Rattle.tables.specs.declared.Tables.{Tables}
-use Rattle.tables.specs.Tables.{plain, lay}
+use Rattle.tables.specs.Tables.{plain, lay, Arrays}
 use Rattle.tables.specs.Sound.{Sound}
 use Rattle.tables.specs.Inner.{Orderly}
-use Rattle.tables.specs.Walks.{Arrays}
 use Rattle.tables.proofs.Members.{chained-once, chained-within}
 
 -- laid out again they are the same

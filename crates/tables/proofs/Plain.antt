@@ -24,10 +24,9 @@ use Rattle.chains.proofs.Laying.{laid-linksOf, read-linksOf, laid-links}
 use Rattle.ledger.specs.Ledger.{bookOf, ledgerOf}
 use Rattle.rules.specs.Plans.{Event, eventsOf}
 use Rattle.tables.specs.declared.Tables.{Tables}
-use Rattle.tables.specs.Tables.{plain, lay}
+use Rattle.tables.specs.Tables.{plain, lay, Arrays}
 use Rattle.tables.specs.Sound.{Sound, sound}
 use Rattle.tables.specs.Calls.{served, asked, laid}
-use Rattle.tables.specs.Walks.{Arrays}
 use Rattle.tables.proofs.Agree.{sound-clauses, sound-test}
 use Rattle.tables.proofs.Members.{chained-once, chained-within}
 use Rattle.tables.proofs.Orderly.{dormant}

@@ -15,11 +15,10 @@ use Rattle.rules.specs.declared.Answer.the-variants.{NoCaller}
 use Rattle.rules.proofs.Paths.{caller-none, caller-is}
 use Rattle.chains.specs.Links.{read, Leads}
 use Rattle.tables.specs.declared.Tables.{Tables}
-use Rattle.tables.specs.Tables.{plain}
+use Rattle.tables.specs.Tables.{plain, Arrays, callerOf}
 use Rattle.tables.specs.Sound.{sound}
 use Rattle.tables.specs.Calls.{Result, told, served, asked, planned}
-use Rattle.tables.specs.Walks.{Arrays}
-use Rattle.tables.specs.Inner.{Orderly, Ready, Tested, callerOf, callOf}
+use Rattle.tables.specs.Inner.{Orderly, Ready, Tested, callOf}
 use Rattle.tables.proofs.Agree.{sound-clauses}
 use Rattle.tables.proofs.Orderly.{sound-orderly}
 use Rattle.tables.proofs.Serving.{refuses, asked-sound}

@@ -1,17 +1,16 @@
 -- What every call on tables hands back: the outline's number and values, and the tables (01, "Answer numbers"). The calls' contracts cite these.
 -- Assumes nothing.
 use Prim.Native.Nat.{ℕ}
-use mathlib.Core.Bool.{Bool, true, false, cond}
+use mathlib.Core.Bool.{true, false}
 use mathlib.Core.List.{List, [], _∷_}
 use Rattle.rules.specs.Answers.{number, values}
 use Rattle.rules.specs.Requests.{Request}
 use Rattle.rules.specs.Plans.{Event, Plan, numberOf, valuesOf, eventsOf}
-use Rattle.rules.specs.Rules.{sizes}
-use Rattle.rules.specs.Keeper.{lists, asks, play, view, fresh}
-use Rattle.rules.specs.Engine.{Reply, notSound}
+use Rattle.rules.specs.Keeper.{lists, asks, play, view}
+use Rattle.rules.specs.Engine.{Reply, notSound, madeBy}
 use Rattle.tables.specs.declared.Tables.{Tables}
 use Rattle.tables.specs.declared.Outcome.{Outcome}
-use Rattle.tables.specs.Tables.{plain, lay, smallest}
+use Rattle.tables.specs.Tables.{plain, lay, freshly}
 use Rattle.tables.specs.Sound.{sound}
 
 abbrev pub Result : Type 0
@@ -37,7 +36,6 @@ served t q = planned t (asks lists (plain t) q)
 unfoldable pub asked : Tables → Request → Result
 asked t q = elim (sound t) [ true ↦ served t q | false ↦ notSound t ]
 
--- FRESH, which takes no tables: refused it yields the smallest
-unfoldable pub made : ℕ → ℕ → ℕ → Result
-made T S R =
-    cond (sizes T S R) (record { number = 0; values = 0 ∷ []; tables = lay (fresh lists T S R) }) (record { number = 3; values = 0 ∷ []; tables = smallest })
+-- FRESH, which takes no tables
+abbrev pub made : ℕ → ℕ → ℕ → Result
+made T S R = madeBy freshly T S R

@@ -25,7 +25,7 @@ use Rattle.rules.specs.Replay.{Accounts}
 use Rattle.chains.specs.Links.{read}
 use Rattle.chains.specs.Inner.{Laid}
 use Rattle.tables.specs.declared.Tables.{Tables}
-use Rattle.tables.specs.Tables.{plain}
+use Rattle.tables.specs.Tables.{plain, callerOf}
 use Rattle.tables.specs.Sound.{sound}
 
 -- Tables in order: the links lay out chains that some entries account for, and the tables of tracks and numbers are as they are made. What a call does
@@ -115,10 +115,6 @@ pub record CanSettle (t : Tables) (ids : List ℕ) (len : ℕ) (ids′ : List �
 -- the program of a name goes from one state to another
 abbrev pub shift : Tables → List ℕ → ℕ → ℕ → Plan
 shift t nm from to = named (view lists (plain t)) nm (λ p. inside (view lists (plain t)) p from (done (0 ∷ []) (on p (becomes to Nothing) ∷ [])))
-
--- the caller: the head of the scheduled chain
-abbrev pub callerOf : Tables → ℕ
-callerOf t = head (scheduled lists (plain t))
 
 -- what program c calls for
 abbrev pub callOf : Tables → ℕ → Call → Plan

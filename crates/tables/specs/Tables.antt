@@ -1,7 +1,10 @@
 -- The tables as a plain state, the book and the chains as lists; and a plain state laid out as tables.
 -- Assumes nothing.
-use mathlib.Core.List.{List}
-use Rattle.rules.specs.Keeper.{lists, State, fresh}
+use Prim.Native.Nat.{ℕ}
+use mathlib.Core.Path.{_≡_}
+use lib.ListN.{length}
+use Rattle.rules.specs.Rules.{head}
+use Rattle.rules.specs.Keeper.{lists, State, scheduled, fresh}
 use Rattle.chains.specs.Links.{read, linksOf}
 use Rattle.ledger.specs.Ledger.{bookOf, ledgerOf}
 use Rattle.tables.specs.declared.Tables.{Tables}
@@ -12,6 +15,20 @@ plain t = record { book = bookOf (t .ledger); kept = read (t .links) }
 abbrev pub lay : State lists → Tables
 lay a = record { ledger = ledgerOf (a .book); links = linksOf (a .kept) }
 
--- the smallest tables: T=1, S=0, R=0 (01, "Answer numbers")
+-- fresh tables; and the smallest: T=1, S=0, R=0 (01, "Answer numbers")
+abbrev pub freshly : ℕ → ℕ → ℕ → Tables
+freshly T S R = lay (fresh lists T S R)
+
 abbrev pub smallest : Tables
-smallest = lay (fresh lists 1 0 0)
+smallest = freshly 1 0 0
+
+-- the caller: the head of the scheduled chain, or 0
+abbrev pub callerOf : Tables → ℕ
+callerOf t = head (scheduled lists (plain t))
+
+-- the arrays of tables are as long as the code's types say: theorems about any tables ask this where a list could be longer or shorter
+pub record Arrays (t : Tables) : Type 0 where
+  pub programs : length (t .ledger .programs) ≡ 32
+  pub links : length (t .links) ≡ 40
+  pub holders : length (t .ledger .tracks .holders) ≡ 256
+  pub resources : length (t .ledger .numbers .resources) ≡ 16

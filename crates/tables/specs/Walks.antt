@@ -13,14 +13,6 @@ use Rattle.rules.specs.Book.{Book}
 use Rattle.rules.specs.Test.{testChains}
 use Rattle.chains.specs.Links.{walk, read, Leads, testLinks}
 use Rattle.chains.specs.Inner.{prioIn}
-use Rattle.tables.specs.declared.Tables.{Tables}
-
--- the arrays of the code's tables are as long as their types say
-pub record Arrays (t : Tables) : Type 0 where
-  pub programs : length (t .ledger .programs) ≡ 32
-  pub links : length (t .links) ≡ 40
-  pub holders : length (t .ledger .tracks .holders) ≡ 256
-  pub resources : length (t .ledger .numbers .resources) ≡ 16
 
 -- the tests of soundness that concern chains: of a book they see its records alone
 abbrev pub bookWith : List Program → Book

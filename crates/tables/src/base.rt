@@ -1,6 +1,7 @@
 // What every call begins with: the test of the tables, a refusal, the caller.
 ghost use mathlib.Core.Path.{_≡_};
-ghost use Rattle.tables.specs.Inner.{Ready, Tested, callerOf};
+ghost use Rattle.tables.specs.Tables.{callerOf};
+ghost use Rattle.tables.specs.Inner.{Ready, Tested};
 use super::Outcome;
 use super::Tables;
 use rules::Answer;

@@ -5,7 +5,7 @@ use denote.Struct.Field.{u8-field}
 use borrow.Author.Needs.{needs}
 use Rattle.records.proofs.Program as program
 use Rattle.records.proofs.Resource as resource
-use Rattle.tables.specs.Walks.{Arrays}
+use Rattle.tables.specs.Tables.{Arrays}
 use Rattle.board.specs.Packed.{packedLength, packed}
 use Rattle.board.proofs.Agreed.{programs-length, packed-length, boarded-tables, boarded-answer, boarded-done}
 use Rattle.board.proofs.board_ask.Statement.{statement}

@@ -11,9 +11,8 @@ use borrow.Author.Tests.{not-true, not-false}
 use Rattle.records.proofs.Program as program
 use Rattle.records.proofs.Resource as resource
 use Rattle.text.proofs.Laws.{wrote-length, wrote-take}
-use Rattle.tables.specs.Tables.{plain}
+use Rattle.tables.specs.Tables.{plain, Arrays}
 use Rattle.tables.specs.Sound.{sound}
-use Rattle.tables.specs.Walks.{Arrays}
 use Rattle.page.specs.Page.{page}
 use Rattle.page.specs.Inner.{CanPage}
 use Rattle.page.proofs.Writing.{wrote-as}

@@ -7,7 +7,7 @@ use lib.ListN.{length, length-map}
 use Rattle.text.proofs.Laws.{wrote-length}
 use Rattle.records.proofs.Program as program
 use Rattle.records.proofs.Resource as resource
-use Rattle.tables.specs.Walks.{Arrays}
+use Rattle.tables.specs.Tables.{Arrays}
 use Rattle.board.proofs.Pieces.{resources-length, tables-wrote}
 use Rattle.board.proofs.pack.put_tables.Statement.{statement}
 use Rattle.board.proofs.pack.put_tables.Tie as tie

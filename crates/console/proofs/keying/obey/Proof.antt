@@ -4,7 +4,7 @@ use borrow.Author.Needs.{needs}
 use Rattle.rules.specs.Requests.{Request}
 use Rattle.tables.specs.declared.Outcome.{Outcome}
 use Rattle.tables.specs.Calls.{told, asked}
-use Rattle.page.specs.Paging.{beside}
+use Rattle.rules.specs.Engine.{beside}
 use Rattle.console.specs.declared.Asked.{Asked}
 use Rattle.console.specs.Line.{asks}
 use Rattle.console.specs.Commands.{said, saying}

@@ -11,14 +11,13 @@ use borrow.Author.Needs.{needs}
 use Rattle.records.proofs.Program as program
 use Rattle.records.proofs.Resource as resource
 use Rattle.rules.specs.declared.Answer.the-variants.{Done}
-use Rattle.tables.specs.Tables.{plain}
+use Rattle.tables.specs.Tables.{plain, Arrays}
 use Rattle.tables.specs.Sound.{sound}
 use Rattle.tables.specs.Calls.{told}
-use Rattle.tables.specs.Walks.{Arrays}
 use Rattle.tables.proofs.Agree.{sound-clauses}
 use Rattle.tables.proofs.Plain.{sound-plain}
 use Rattle.page.specs.Page.{page}
-use Rattle.page.specs.Paging.{beside}
+use Rattle.rules.specs.Engine.{beside}
 use Rattle.page.proofs.Room.{page-room}
 use Rattle.console.specs.Line.{PAGE, lineOf}
 use Rattle.console.specs.Console.{keyed}

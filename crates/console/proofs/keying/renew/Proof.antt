@@ -10,7 +10,7 @@ use Rattle.records.proofs.Resource as resource
 use Rattle.rules.specs.Requests.{FRESH}
 use Rattle.tables.specs.Sound.{sound}
 use Rattle.tables.specs.Inner.{Ready}
-use Rattle.tables.specs.Walks.{Arrays}
+use Rattle.tables.specs.Tables.{Arrays}
 use Rattle.tables.proofs.Agree.{sound-clauses}
 use Rattle.tables.proofs.Orderly.{sound-orderly}
 use Rattle.tables.proofs.Serving.{asked-unsound}

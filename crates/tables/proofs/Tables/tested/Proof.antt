@@ -5,7 +5,7 @@ use borrow.Author.Needs.{needs}
 use lib.ListN.{length, length-map}
 use Rattle.records.proofs.Program as program
 use Rattle.records.proofs.Resource as resource
-use Rattle.tables.specs.Walks.{Arrays}
+use Rattle.tables.specs.Tables.{Arrays}
 use Rattle.tables.proofs.Readied.{tested-is}
 use Rattle.tables.proofs.Tables.tested.Statement.{statement}
 use Rattle.tables.proofs.Tables.tested.Tie as tie
