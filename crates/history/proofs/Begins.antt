@@ -1,33 +1,58 @@
--- FRESH takes no tables, and when refused yields the smallest; in a run those that there were go on. So in a run every request, FRESH too, is what the tables are asked.
+-- FRESH takes no tables, and when refused yields the smallest; in a run those that there were go on. So in a run every request, FRESH too, is what the tables are asked,
+-- and what the replay is asked.
 -- Assumes nothing.
 use Prim.Native.Nat.{ℕ}
 use mathlib.Core.Path.{_≡_, refl, sym, _∙_}
 use mathlib.Core.Bool.{Bool, true, false, cond}
 use mathlib.Core.List.{[], _∷_}
-use Rattle.rules.specs.Engine.{madeBy}
+use lib.Dec.{eqb}
 use Rattle.rules.specs.Requests.{Request, FRESH, LOAD, operator, TICK, running}
-use Rattle.rules.specs.Plans.{done, need, renewed}
+use Rattle.rules.specs.Plans.{Plan, numberOf, valuesOf, eventsOf, done, need, renewed}
 use Rattle.rules.specs.Rules.{sizes, plan}
-use Rattle.rules.specs.Keeper.{lists, step, fresh}
+use Rattle.rules.specs.Keeper.{lists, entries, State, step, play, view, fresh}
+use Rattle.rules.specs.Engine.{Reply, madeBy}
 use Rattle.tables.specs.declared.Tables.{Tables}
-use Rattle.tables.specs.Tables.{plain, lay, smallest}
+use Rattle.tables.specs.Tables.{freshly}
 use Rattle.tables.specs.Sound.{sound}
-use Rattle.tables.specs.Calls.{asked, made, planned}
+use Rattle.tables.specs.Calls.{planned}
+use Rattle.page.specs.Paging.{linked}
 use Rattle.history.specs.Runs.{begun, requested}
+use Rattle.history.specs.Demand.{replaying}
 use Rattle.history.proofs.Steps.{asked-planned}
 
-module _ (t : Tables) (e : sound t ≡ true) (laid : lay (plain t) ≡ t) where
-  begun-planned : (T S R : ℕ) (b : Bool)
-      → begun t (cond b (record { number = 0; values = 0 ∷ []; tables = lay (fresh lists T S R) }) (record { number = 3; values = 0 ∷ []; tables = smallest }))
-      ≡ planned t (need b 3 0 (done (0 ∷ []) (renewed T S R ∷ [])))
-  unfolding need step
-  begun-planned T S R true = refl
-  begun-planned T S R false = λ i. record { number = 3; values = 0 ∷ []; tables = sym laid i }
+-- FRESH, where `new` makes fresh tables and b tells whether the sizes are allowed
+abbrev Begins : {S : Type 0} → S → (ℕ → ℕ → ℕ → S) → ℕ → ℕ → ℕ → Bool → Reply S
+Begins t new T S R b =
+    let r = cond b (record { number = 0; values = 0 ∷ []; tables = new T S R }) (record { number = 3; values = 0 ∷ []; tables = new 1 0 0 }) in
+    record { number = r .number; values = r .values; tables = cond (eqb (r .number) 0) (r .tables) t }
 
-  pub requested-asked : (q : Request) → requested t q ≡ asked t q
-  unfolding madeBy plan
-  requested-asked (FRESH T S R) = begun-planned T S R (sizes T S R) ∙ sym (asked-planned t e (FRESH T S R))
-  requested-asked (LOAD nm n) = refl
-  requested-asked (operator o nm) = refl
-  requested-asked TICK = refl
-  requested-asked (running c) = refl
+abbrev renewal : ℕ → ℕ → ℕ → Bool → Plan
+renewal T S R b = need b 3 0 (done (0 ∷ []) (renewed T S R ∷ []))
+
+linked-begins : (t : Tables) (T S R : ℕ) (b : Bool) → Begins t freshly T S R b ≡ planned t (renewal T S R b)
+unfolding need step
+linked-begins t T S R true = refl
+linked-begins t T S R false = refl
+
+replay-begins : (n : State entries) (T S R : ℕ) (b : Bool)
+    → Begins n (fresh entries) T S R b
+    ≡ record { number = numberOf (renewal T S R b); values = valuesOf (renewal T S R b); tables = play entries (eventsOf (view entries n) (renewal T S R b)) n }
+unfolding need step
+replay-begins n T S R true = refl
+replay-begins n T S R false = refl
+
+pub requested-asked : (t : Tables) → sound t ≡ true → (q : Request) → requested linked t q ≡ linked .asked t q
+unfolding madeBy plan
+requested-asked t e (FRESH T S R) = linked-begins t T S R (sizes T S R) ∙ sym (asked-planned t e (FRESH T S R))
+requested-asked t e (LOAD nm n) = refl
+requested-asked t e (operator o nm) = refl
+requested-asked t e TICK = refl
+requested-asked t e (running c) = refl
+
+pub requested-replayed : (n : State entries) (q : Request) → requested replaying n q ≡ replaying .asked n q
+unfolding madeBy plan
+requested-replayed n (FRESH T S R) = replay-begins n T S R (sizes T S R)
+requested-replayed n (LOAD nm m) = refl
+requested-replayed n (operator o nm) = refl
+requested-replayed n TICK = refl
+requested-replayed n (running c) = refl

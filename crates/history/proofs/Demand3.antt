@@ -15,9 +15,9 @@ use Rattle.lists.specs.Lists.{from, every}
 use Rattle.lists.proofs.Tests.{and}
 use Rattle.rules.specs.Book.{Book}
 use Rattle.rules.specs.Requests.{Call, Request, running}
-use Rattle.rules.specs.Plans.{Plan, refused, numberOf, valuesOf}
+use Rattle.rules.specs.Plans.{Event, Plan, refused, numberOf, valuesOf, eventsOf}
 use Rattle.rules.specs.Rules.{call, sizes}
-use Rattle.rules.specs.Keeper.{lists, Entries, entries, sorted, State, view, scheduled, asks, after, fresh}
+use Rattle.rules.specs.Keeper.{lists, Entries, entries, sorted, State, play, view, scheduled, asks, after, fresh}
 use Rattle.rules.specs.Replay.{Accounts, Fits, First, Acts}
 use Rattle.rules.specs.Replay as rules
 use Rattle.rules.specs.Sound.{Sound}
@@ -31,21 +31,21 @@ use Rattle.rules.proofs.SoundRuns.{sound-after}
 use Rattle.tables.specs.declared.Tables.{Tables}
 use Rattle.tables.specs.Tables.{plain, lay, Arrays}
 use Rattle.tables.specs.Sound.{sound}
-use Rattle.tables.specs.Calls.{asked, made, planned}
+use Rattle.tables.specs.Calls.{laid, planned, asked, made}
 use Rattle.tables.proofs.Agree.{sound-clauses, sound-test}
 use Rattle.tables.proofs.Plain.{plain-lay, lay-sound, sound-plain}
 use Rattle.tables.proofs.Orderly.{orderly-lay, sound-orderly}
 use Rattle.page.specs.Page.{page}
-use Rattle.rules.specs.Engine.{beside, front, writtenIn, madeBy}
-use Rattle.page.specs.Paging.{Written, written, paged}
+use Rattle.rules.specs.Engine.{Handed, beside, front, madeBy, writtenIn, pagedIn}
+use Rattle.page.specs.Paging.{Written, linked, written, paged}
 use Rattle.console.specs.Line.{Line, bad, PAGE, lineOf}
 use Rattle.console.specs.Line as line
-use Rattle.console.specs.Console.{obeyed}
+use Rattle.console.specs.Console.{obeyedIn, keyedIn, obeyed, keyed}
 use Rattle.history.specs.Runs.{Made, step, run, outcomes}
 use Rattle.history.specs.Runs as calls
-use Rattle.history.specs.Demand.{Told, toldOf, sortedOut, tellsRequest, tellsPage, tellsLine, tells, notesLine, notes, replay, replayed, ActsFor, for-none, for-first, Agrees, Demanded}
-use Rattle.history.proofs.Steps.{asked-planned, paged-sound, keyed-sound}
-use Rattle.history.proofs.Begins.{requested-asked}
+use Rattle.history.specs.Demand.{sortedOut, replaying, toldOf, ActsFor, for-none, for-first, Agrees, Demanded}
+use Rattle.history.proofs.Steps.{asked-planned}
+use Rattle.history.proofs.Begins.{requested-asked, requested-replayed}
 
 -- sound tables, laid out as their plain state is, and the notes of a replay that it is alike to
 record Kept (t : Tables) (n : State entries) : Type 0 where
@@ -65,11 +65,11 @@ kept-lay a S n k =
       alike = subst (λ (x : State lists). Alike x n) (sym e) k;
     }
 
--- what is handed back: it says what the replay tells, its number is not 14, and its tables and the replay's notes go on together
-record Handed (w : Written) (x : Told) (n : State entries) : Type 0 where
-  told : toldOf w ≡ x
+-- what is handed back, by the tables and by the replay: both say the same, the number is not 14, and tables and notes go on together
+record Alongside (w : Written) (x : Handed (State entries)) : Type 0 where
+  told : toldOf w ≡ toldOf x
   answers : not (eqb (w .number) 14) ≡ true
-  kept : Kept (w .tables) n
+  kept : Kept (w .tables) (x .tables)
 
 not-14 : (a : ℕ) → a ≢ 14 → not (eqb a 14) ≡ true
 not-14 a n = ap not (ne-eqb a 14 n)
@@ -97,47 +97,56 @@ module _ (t : Tables) (n : State entries) (K : Kept t n) where
           ∙ sym (getD-from (sorted (n .book) (n .kept)) 1 6 s l)
 
   -- a request
-  handed-asked : (buf : List ℕ) (q : Request) → Handed (beside buf (asked t q)) (tellsRequest n buf q) (after entries n q)
-  handed-asked buf q =
+  along-asked : (buf : List ℕ) (q : Request) → Alongside (beside buf (asked t q)) (beside buf (replaying .asked n q))
+  along-asked buf q =
       let e : asked t q ≡ planned t (asks lists (plain t) q) = asked-planned t (K .test) q in
       rw e
       (record {
         told = ap (λ (x : Plan). record { number = numberOf x; values = valuesOf x; buffer = buf }) (asks-alike (plain t) n (K .alike) q);
         answers = not-14 (numberOf (asks lists (plain t) q)) (λ i. omega (arith, answered lists (plain t) q .highest));
-        kept = kept-lay (after lists (plain t) q) (sound-after (plain t) (K .plainly) q) (after entries n q) (after-alike (plain t) n (K .alike) q);
+        kept = kept-laid-out (eventsOf (view lists (plain t)) (asks lists (plain t) q)) (sound-after (plain t) (K .plainly) q) (after entries n q) (after-alike (plain t) n (K .alike) q);
       })
+    where
+      kept-laid-out : (es : List Event) → Sound (play lists es (plain t)) → (m : State entries) → Alike (play lists es (plain t)) m → Kept (laid t es) m
+      kept-laid-out [] S m k = record { test = K .test; plainly = K .plainly; laid = K .laid; alike = k }
+      kept-laid-out (e ∷ es) S m k = kept-lay (play lists (e ∷ es) (plain t)) S m k
 
   -- PAGE
-  handed-written : (buf : List ℕ) → Handed (written t buf) (tellsPage n buf) n
+  same-page : page (plain t) ≡ page (sortedOut n)
+  same-page = ap page kept-sorted
+
+  along-written : (buf : List ℕ) → Alongside (written t buf) (writtenIn replaying n buf)
   unfolding writtenIn
-  handed-written buf =
-      go (leb (length (page (plain t))) (length buf)) refl (ap (λ (bytes : List ℕ). leb (length bytes) (length buf)) (sym same))
+  along-written buf =
+      go (leb (length (page (plain t))) (length buf)) refl (ap (λ (bytes : List ℕ). leb (length bytes) (length buf)) (sym same-page))
     where
-      same : page (plain t) ≡ page (sortedOut n)
-      same = ap page kept-sorted
-
       go : (b : Bool) → leb (length (page (plain t))) (length buf) ≡ b → leb (length (page (sortedOut n))) (length buf) ≡ b
-          → Handed (written t buf) (tellsPage n buf) n
-      go true e f = rw (e, writtenIn, f, tellsPage)
-          (record { told = λ i. record { number = 0; values = length (same i) ∷ []; buffer = front (same i) buf }; answers = refl; kept = K })
-      go false e f = rw (e, writtenIn, f, tellsPage)
-          (record { told = λ i. record { number = 12; values = length (same i) ∷ []; buffer = buf }; answers = refl; kept = K })
+          → Alongside (written t buf) (writtenIn replaying n buf)
+      go true e f = rw (e, f)
+          (record { told = λ i. record { number = 0; values = length (same-page i) ∷ []; buffer = front (same-page i) buf }; answers = refl; kept = K })
+      go false e f = rw (e, f)
+          (record { told = λ i. record { number = 12; values = length (same-page i) ∷ []; buffer = buf }; answers = refl; kept = K })
 
-  handed-paged : (buf : List ℕ) → Handed (paged t buf) (tellsPage n buf) n
-  handed-paged buf = rw (paged-sound t (K .test) buf) (handed-written buf)
+  along-paged : (buf : List ℕ) → Alongside (paged t buf) (pagedIn replaying n buf)
+  unfolding pagedIn
+  along-paged buf = rw (K .test) (along-written buf)
 
   -- a line
-  handed-obeyed : (buf : List ℕ) (l : Line) → Handed (obeyed t buf l) (tellsLine n buf l) (notesLine n l)
-  handed-obeyed buf bad = record { told = refl; answers = refl; kept = K }
-  handed-obeyed buf PAGE = handed-paged buf
-  handed-obeyed buf (line.asks q) = handed-asked buf q
+  along-obeyed : (buf : List ℕ) (l : Line) → Alongside (obeyed t buf l) (obeyedIn replaying n buf l)
+  along-obeyed buf bad = record { told = refl; answers = refl; kept = K }
+  along-obeyed buf PAGE = along-paged buf
+  along-obeyed buf (line.asks q) = along-asked buf q
+
+  along-keyed : (bytes buf : List ℕ) → Alongside (keyed t bytes buf) (keyedIn replaying n bytes buf)
+  unfolding keyedIn
+  along-keyed bytes buf = rw (K .test) (along-obeyed buf (lineOf bytes))
 
   -- any call
-  handed : (c : Made) → Handed (step t c) (tells n c) (notes n c)
+  along : (c : Made) → Alongside (step linked t c) (step replaying n c)
   unfolding step
-  handed (calls.request q) = rw (requested-asked t (K .test) (K .laid) q) (handed-asked [] q)
-  handed (calls.page buf) = handed-paged buf
-  handed (calls.line bytes buf) = rw (keyed-sound t (K .test) bytes buf) (handed-obeyed buf (lineOf bytes))
+  along (calls.request q) = rw (requested-asked t (K .test) q, requested-replayed n q) (along-asked [] q)
+  along (calls.page buf) = along-paged buf
+  along (calls.line bytes buf) = along-keyed bytes buf
 
   -- a call of the running program
   acts-for : (c : Call) → ActsFor t n c
@@ -148,8 +157,7 @@ module _ (t : Tables) (n : State entries) (K : Kept t n) where
 
       go : Acts (plain t) (n .kept .entry) c → ActsFor t n c
       go (rules.for-none f e) =
-          for-none (λ p P. rw (K .alike .book) (f p P))
-          (planned-as (refused 2 0) e ∙ (λ i. record { number = 2; values = 0 ∷ []; tables = K .laid i }))
+          for-none (λ p P. rw (K .alike .book) (f p P)) (planned-as (refused 2 0) e)
       go (rules.for-first p F e) =
           for-first p (subst (λ (b : Book). First b (n .kept .entry) 1 p) (sym (K .alike .book)) F) (planned-as (call (view lists (plain t)) p c) e)
 
@@ -161,32 +169,34 @@ module _ (t : Tables) (n : State entries) (K : Kept t n) where
   }
 
 -- a run
-run-kept : (cs : List Made) (t : Tables) (n : State entries) → Kept t n → Kept (run t cs) (replay n cs)
+run-kept : (cs : List Made) (t : Tables) (n : State entries) → Kept t n → Kept (run linked t cs) (run replaying n cs)
 unfolding run
 run-kept [] t n K = K
-run-kept (c ∷ cs) t n K = run-kept cs (step t c .tables) (notes n c) (handed t n K c .kept)
+run-kept (c ∷ cs) t n K = run-kept cs (step linked t c .tables) (step replaying n c .tables) (along t n K c .kept)
 
-run-told : (cs : List Made) (t : Tables) (n : State entries) → Kept t n → map toldOf (outcomes t cs) ≡ replayed n cs
+run-told : (cs : List Made) (t : Tables) (n : State entries) → Kept t n → map toldOf (outcomes linked t cs) ≡ map toldOf (outcomes replaying n cs)
 unfolding outcomes
 run-told [] t n K = refl
-run-told (c ∷ cs) t n K = let H = handed t n K c in ap₂ _∷_ (H .told) (run-told cs (step t c .tables) (notes n c) (H .kept))
+run-told (c ∷ cs) t n K = let H = along t n K c in ap₂ _∷_ (H .told) (run-told cs (step linked t c .tables) (step replaying n c .tables) (H .kept))
 
 run-answers : (cs : List Made) (t : Tables) (n : State entries) → Kept t n
-    → every (λ a. not (eqb a 14)) (map (λ (w : Written). w .number) (outcomes t cs)) ≡ true
+    → every (λ a. not (eqb a 14)) (map (λ (w : Handed Tables). w .number) (outcomes linked t cs)) ≡ true
 unfolding outcomes
 run-answers [] t n K = refl
-run-answers (c ∷ cs) t n K = let H = handed t n K c in and (H .answers) (run-answers cs (step t c .tables) (notes n c) (H .kept))
+run-answers (c ∷ cs) t n K = let H = along t n K c in and (H .answers) (run-answers cs (step linked t c .tables) (step replaying n c .tables) (H .kept))
 
 kept-demanded : (t : Tables) (n : State entries) → Kept t n → (cs : List Made) → Demanded t n cs
 kept-demanded t n K cs = record {
-  agrees = agrees (run t cs) (replay n cs) (run-kept cs t n K);
+  agrees = agrees (run linked t cs) (run replaying n cs) (run-kept cs t n K);
   told = run-told cs t n K;
   sound = run-answers cs t n K;
 }
 
 -- the tables after a run, whole: what the replay sorts out, laid out
-kept-laid : (t : Tables) (n : State entries) → Kept t n → (cs : List Made) → run t cs ≡ lay (sortedOut (replay n cs))
-kept-laid t n K cs = let L : Kept (run t cs) (replay n cs) = run-kept cs t n K in sym (L .laid) ∙ ap lay (kept-sorted (run t cs) (replay n cs) L)
+kept-laid : (t : Tables) (n : State entries) → Kept t n → (cs : List Made) → run linked t cs ≡ lay (sortedOut (run replaying n cs))
+kept-laid t n K cs =
+    let L : Kept (run linked t cs) (run replaying n cs) = run-kept cs t n K in
+    sym (L .laid) ∙ ap lay (kept-sorted (run linked t cs) (run replaying n cs) L)
 
 -- from any sound tables on, and any entries that account for them
 module _ (t : Tables) (A : Arrays t) (s : sound t ≡ true) where
@@ -205,15 +215,14 @@ module _ (t : Tables) (A : Arrays t) (s : sound t ≡ true) where
   demand-sound e a = kept-demanded t (record { book = plain t .book; kept = e }) (kept-accounted e a)
 
   pub laid-sound : (e : Entries) → Accounts (plain t) e → (cs : List Made)
-      → run t cs ≡ lay (sortedOut (replay (record { book = plain t .book; kept = e }) cs))
+      → run linked t cs ≡ lay (sortedOut (run replaying (record { book = plain t .book; kept = e }) cs))
   laid-sound e a = kept-laid t (record { book = plain t .book; kept = e }) (kept-accounted e a)
 
   -- such entries there are always
-  pub sound-accounted : Accounts (plain t) (accounts.notes (plain t .book) (plain t .kept))
-  sound-accounted = accounted (plain t) plainly
-
-  pub demand-any : (cs : List Made) → Demanded t (record { book = plain t .book; kept = accounts.notes (plain t .book) (plain t .kept) }) cs
-  demand-any = demand-sound (accounts.notes (plain t .book) (plain t .kept)) sound-accounted
+  pub demand-any : (e : Entries) × Accounts (plain t) e × ((cs : List Made) → Demanded t (record { book = plain t .book; kept = e }) cs)
+  demand-any =
+      let e : Entries = accounts.notes (plain t .book) (plain t .kept) in
+      (e, accounted (plain t) plainly, demand-sound e (accounted (plain t) plainly))
 
 -- from fresh tables of any accepted sizes on
 module _ (T S R : ℕ) (e : sizes T S R ≡ true) where
@@ -224,5 +233,5 @@ module _ (T S R : ℕ) (e : sizes T S R ≡ true) where
   pub demand-fresh : (cs : List Made) → Demanded (made T S R .tables) (fresh entries T S R) cs
   demand-fresh = kept-demanded (made T S R .tables) (fresh entries T S R) kept-fresh
 
-  pub laid-fresh : (cs : List Made) → run (made T S R .tables) cs ≡ lay (sortedOut (replay (fresh entries T S R) cs))
+  pub laid-fresh : (cs : List Made) → run linked (made T S R .tables) cs ≡ lay (sortedOut (run replaying (fresh entries T S R) cs))
   laid-fresh = kept-laid (made T S R .tables) (fresh entries T S R) kept-fresh

@@ -1,31 +1,32 @@
--- The frame (demand 3), of any tables, sound or not: no call but FRESH alters the record of a program that it does not concern. What makes no request leaves
--- the tables; a request asked of sound tables is the rule's, which has the frame; and tables that are not sound stay as they are.
+-- The frame (demand 3), of any tables, sound or not: no call alters the record of a program that it does not touch, and one that may only be woken changes in state and why
+-- alone. What makes no request leaves the tables; a request asked of sound tables is the rule's, which has the frame; and tables that are not sound stay as they are.
 -- Assumes nothing.
 use Prim.Native.Nat.{ℕ}
-use mathlib.Core.Path.{_≡_, refl, ap, _∙_, subst}
+use mathlib.Core.Path.{_≡_, refl, sym, ap, _∙_, subst}
 use mathlib.Core.Logic.{_≢_}
 use mathlib.Core.Bool.{Bool, true, false}
 use mathlib.Core.List.{List}
-use Rattle.rules.specs.Engine.{pagedIn}
 use Rattle.records.specs.Records.{Known}
 use Rattle.rules.specs.Book.{at}
 use Rattle.rules.specs.Requests.{Request, FRESH, LOAD, operator, TICK, running}
+use Rattle.rules.specs.Rules.{sizes}
 use Rattle.rules.specs.Keeper.{lists, State}
+use Rattle.rules.specs.Engine.{madeBy, pagedIn}
+use Rattle.rules.specs.Frame.{Stirred, stays}
 use Rattle.rules.proofs.FrameLaws as rules
 use Rattle.tables.specs.declared.Tables.{Tables}
-use Rattle.tables.specs.Tables.{plain, Arrays}
+use Rattle.tables.specs.Tables.{plain, freshly, Arrays}
 use Rattle.tables.specs.Sound.{sound}
 use Rattle.tables.specs.Calls.{asked}
-use Rattle.tables.proofs.Agree.{sound-clauses}
-use Rattle.tables.proofs.Plain.{sound-plain}
-use Rattle.page.specs.Paging.{Written, paged}
+use Rattle.tables.proofs.Demanded.{after-is}
+use Rattle.page.specs.Paging.{Written, linked, paged}
 use Rattle.console.specs.Line.{Line, bad, PAGE, lineOf}
 use Rattle.console.specs.Line as line
-use Rattle.console.specs.Console.{obeyed, keyed, keyedIn}
-use Rattle.history.specs.Runs.{Made, step}
+use Rattle.console.specs.Console.{keyedIn, obeyed, keyed}
+use Rattle.history.specs.Runs.{Made, step, begun}
 use Rattle.history.specs.Runs as calls
-use Rattle.history.specs.Demand.{Asks, by-call, by-line, Touches, anew, concerns, Untouched}
-use Rattle.history.proofs.Steps.{written-leaves, paged-sound, keyed-sound, plain-asked}
+use Rattle.history.specs.Demand.{Asks, by-call, by-line, Touches, anew, concerns, before, afterwards, Bystander}
+use Rattle.history.proofs.Steps.{written-leaves, paged-sound, keyed-sound}
 
 -- of tables that are not sound
 module _ (t : Tables) (e : sound t ≡ false) where
@@ -49,17 +50,22 @@ module _ (t : Tables) (A : Arrays t) (p : ℕ) (P : Known p) where
   same : (u : Tables) → u ≡ t → Same t p u
   same u e = ap (λ (x : Tables). at (plain x .book) p) e
 
+  -- a request, whatever is known of p where the tables are sound
   asked-same : (c : Made) (q : Request) → Asks q c → (Touches t c p → ⊥) → Same t p (asked t q .tables)
   asked-same c q a n = go (sound t) refl
     where
-      old : (T S R : ℕ) → q ≢ FRESH T S R
-      old T S R e = n (anew T S R (subst (λ (x : Request). Asks x c) e a))
-
       go : (b : Bool) → sound t ≡ b → Same t p (asked t q .tables)
-      go true e =
-          ap (λ (x : State lists). at (x .book) p) (plain-asked t e (sound-plain t A (sound-clauses t e)) q)
-          ∙ rules.frame lists (plain t) q old p P (λ x. n (concerns q a x))
+      go true e = ap (λ (x : State lists). at (x .book) p) (after-is t A e q) ∙ rules.frame lists (plain t) q p P (λ x. n (concerns q a e x))
       go false e = same (asked t q .tables) (asked-stays t e q)
+
+  -- FRESH as a call of its own
+  made-same : (T S R : ℕ) → (Touches t (calls.request (FRESH T S R)) p → ⊥) → Same t p (begun linked t (madeBy freshly T S R) .tables)
+  unfolding madeBy
+  made-same T S R n = go (sizes T S R) refl
+    where
+      go : (b : Bool) → sizes T S R ≡ b → Same t p (begun linked t (madeBy freshly T S R) .tables)
+      go true e = absurd (n (anew T S R by-call e))
+      go false e = rw (e, madeBy)
 
   paged-same : (buf : List ℕ) → Same t p (paged t buf .tables)
   paged-same buf = same (paged t buf .tables) (go (sound t) refl)
@@ -80,13 +86,47 @@ module _ (t : Tables) (A : Arrays t) (p : ℕ) (P : Known p) where
       go true e = ap (λ (w : Written). at (plain (w .tables) .book) p) (keyed-sound t e bytes buf) ∙ obeyed-same (lineOf bytes) refl
       go false e = same (keyed t bytes buf .tables) (keyed-stays t e bytes buf)
 
--- THE FRAME
-pub frame : (t : Tables) → Arrays t → (c : Made) (p : ℕ) → Known p → (Touches t c p → ⊥) → Untouched t c p
-unfolding step
-frame t A (calls.request (FRESH T S R)) p P n = absurd (n (anew T S R by-call))
-frame t A (calls.request (LOAD nm m)) p P n = asked-same t A p P _ _ by-call n
-frame t A (calls.request (operator o nm)) p P n = asked-same t A p P _ _ by-call n
-frame t A (calls.request TICK) p P n = asked-same t A p P _ TICK by-call n
-frame t A (calls.request (running r)) p P n = asked-same t A p P _ _ by-call n
-frame t A (calls.page buf) p P n = paged-same t A p P buf
-frame t A (calls.line bytes buf) p P n = keyed-same t A p P bytes buf n
+  -- THE FRAME
+  pub frame : (c : Made) → (Touches t c p → ⊥) → afterwards t c p ≡ before t p
+  unfolding step
+  frame (calls.request (FRESH T S R)) n = made-same T S R n
+  frame (calls.request (LOAD nm m)) n = asked-same _ _ by-call n
+  frame (calls.request (operator o nm)) n = asked-same _ _ by-call n
+  frame (calls.request TICK) n = asked-same _ TICK by-call n
+  frame (calls.request (running r)) n = asked-same _ _ by-call n
+  frame (calls.page buf) n = paged-same buf
+  frame (calls.line bytes buf) n = keyed-same bytes buf n
+
+  -- of one that may only be woken: the record stays, or changes in state and why alone
+  asked-stirred : (c : Made) → Bystander t c p → (q : Request) → Asks q c → Stirred (before t p) (at (plain (asked t q .tables) .book) p)
+  asked-stirred c B q a = go (sound t) refl
+    where
+      old : (T S R : ℕ) → q ≢ FRESH T S R
+      old T S R e = B .old T S R (subst (λ (x : Request). Asks x c) e a)
+
+      go : (b : Bool) → sound t ≡ b → Stirred (before t p) (at (plain (asked t q .tables) .book) p)
+      go true e = subst (λ (x : State lists). Stirred (before t p) (at (x .book) p)) (sym (after-is t A e q)) (rules.stirred lists (plain t) q p P old (B .apart q a))
+      go false e = stays (same (asked t q .tables) (asked-stays t e q))
+
+  keyed-stirred : (bytes buf : List ℕ) → Bystander t (calls.line bytes buf) p → Stirred (before t p) (at (plain (keyed t bytes buf .tables) .book) p)
+  keyed-stirred bytes buf B = go (sound t) refl
+    where
+      obeyed-stirred : (l : Line) → lineOf bytes ≡ l → Stirred (before t p) (at (plain (obeyed t buf l .tables) .book) p)
+      obeyed-stirred bad e = stays refl
+      obeyed-stirred PAGE e = stays (paged-same buf)
+      obeyed-stirred (line.asks q) e = asked-stirred (calls.line bytes buf) B q (by-line bytes buf e)
+
+      go : (b : Bool) → sound t ≡ b → Stirred (before t p) (at (plain (keyed t bytes buf .tables) .book) p)
+      go true e =
+          subst (λ (w : Written). Stirred (before t p) (at (plain (w .tables) .book) p)) (sym (keyed-sound t e bytes buf)) (obeyed-stirred (lineOf bytes) refl)
+      go false e = stays (same (keyed t bytes buf .tables) (keyed-stays t e bytes buf))
+
+  pub stirred : (c : Made) → Bystander t c p → Stirred (before t p) (afterwards t c p)
+  unfolding step
+  stirred (calls.request (FRESH T S R)) B = absurd (B .old T S R by-call)
+  stirred (calls.request (LOAD nm m)) B = asked-stirred _ B _ by-call
+  stirred (calls.request (operator o nm)) B = asked-stirred _ B _ by-call
+  stirred (calls.request TICK) B = asked-stirred _ B TICK by-call
+  stirred (calls.request (running r)) B = asked-stirred _ B _ by-call
+  stirred (calls.page buf) B = stays (paged-same buf)
+  stirred (calls.line bytes buf) B = keyed-stirred bytes buf B

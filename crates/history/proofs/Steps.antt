@@ -1,21 +1,18 @@
 -- What the parts of a call come to on sound tables: a request keeps to its plan, and PAGE leaves the tables.
 -- Assumes nothing.
 use Prim.Native.Nat.{ℕ}
-use mathlib.Core.Path.{_≡_, refl, ap, _∙_}
+use mathlib.Core.Path.{_≡_, refl, _∙_}
 use mathlib.Core.Bool.{Bool, true, false}
 use mathlib.Core.List.{List}
 use lib.ListN.{length}
 use lib.Dec.{leb}
-use Rattle.rules.specs.Engine.{pagedIn, writtenIn}
 use Rattle.rules.specs.Requests.{Request}
-use Rattle.rules.specs.Keeper.{lists, asks, after}
-use Rattle.rules.specs.Sound as rules
-use Rattle.rules.proofs.SoundRuns.{sound-after}
+use Rattle.rules.specs.Keeper.{lists, asks}
+use Rattle.rules.specs.Engine.{writtenIn, pagedIn}
 use Rattle.tables.specs.declared.Tables.{Tables}
 use Rattle.tables.specs.Tables.{plain}
 use Rattle.tables.specs.Sound.{sound}
-use Rattle.tables.specs.Calls.{Result, asked, planned}
-use Rattle.tables.proofs.Plain.{plain-lay}
+use Rattle.tables.specs.Calls.{asked, planned}
 use Rattle.tables.proofs.Serving.{asked-sound, served-planned}
 use Rattle.page.specs.Page.{page}
 use Rattle.page.specs.Paging.{written, paged}
@@ -43,7 +40,3 @@ module _ (t : Tables) (e : sound t ≡ true) where
   pub keyed-sound : (bytes buf : List ℕ) → keyed t bytes buf ≡ obeyed t buf (lineOf bytes)
   unfolding keyedIn
   keyed-sound bytes buf = rw (e, keyedIn)
-
-  -- the plain state after a request is the rule's
-  pub plain-asked : rules.Sound (plain t) → (q : Request) → plain (asked t q .tables) ≡ after lists (plain t) q
-  plain-asked S q = ap (λ (r : Result). plain (r .tables)) (asked-planned q) ∙ plain-lay (after lists (plain t) q) (sound-after (plain t) S q)

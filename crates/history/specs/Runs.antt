@@ -1,15 +1,12 @@
--- Runs of calls: requests, PAGE with any buffer, console lines of any bytes (demand 3). Each step is the definition that the call's contract cites.
+-- Runs of calls on an engine: requests, PAGE with any buffer, console lines of any bytes (demand 3). Each step is the definition that the call's contract cites.
 -- Assumes nothing.
 use Prim.Native.Nat.{ℕ}
-use mathlib.Core.Bool.{Bool, true, false, cond}
+use mathlib.Core.Bool.{cond}
 use mathlib.Core.List.{List, [], _∷_}
 use lib.Dec.{eqb}
-use Rattle.rules.specs.Requests.{Call, Order, Request, FRESH, LOAD, operator, TICK, running}
-use Rattle.tables.specs.declared.Tables.{Tables}
-use Rattle.tables.specs.Calls.{Result, asked, made}
-use Rattle.rules.specs.Engine.{beside}
-use Rattle.page.specs.Paging.{Written, paged}
-use Rattle.console.specs.Console.{keyed}
+use Rattle.rules.specs.Requests.{Request, FRESH, LOAD, operator, TICK, running}
+use Rattle.rules.specs.Engine.{Reply, Handed, beside, madeBy, Engine, pagedIn}
+use Rattle.console.specs.Console.{keyedIn}
 
 -- a call of a run, with the buffer that is lent to it
 pub data Made : Type 0 where
@@ -17,27 +14,33 @@ pub data Made : Type 0 where
   page : List ℕ → Made  -- the buffer
   line : List ℕ → List ℕ → Made  -- the line's bytes, the buffer
 
--- an accepted FRESH begins the history again; after a refused one the run goes on with the tables it had
-abbrev pub begun : Tables → Result → Result
-begun t r = record { number = r .number; values = r .values; tables = cond (eqb (r .number) 0) (r .tables) t }
+abbrev pub lentTo : Made → List ℕ
+lentTo (request q) = []
+lentTo (page buf) = buf
+lentTo (line bytes buf) = buf
 
-abbrev pub requested : Tables → Request → Result
-requested t (FRESH T S R) = begun t (made T S R)
-requested t (LOAD nm n) = asked t (LOAD nm n)
-requested t (operator o nm) = asked t (operator o nm)
-requested t TICK = asked t TICK
-requested t (running c) = asked t (running c)
+module _ (E : Engine) where
+  -- an accepted FRESH begins the history again; after a refused one the run goes on with the tables it had
+  abbrev pub begun : E .Form → Reply (E .Form) → Reply (E .Form)
+  begun t r = record { number = r .number; values = r .values; tables = cond (eqb (r .number) 0) (r .tables) t }
 
-unfoldable pub step : Tables → Made → Written
-step t (request q) = beside [] (requested t q)
-step t (page buf) = paged t buf
-step t (line bytes buf) = keyed t bytes buf
+  abbrev pub requested : E .Form → Request → Reply (E .Form)
+  requested t (FRESH T S R) = begun t (madeBy (E .fresh) T S R)
+  requested t (LOAD nm n) = E .asked t (LOAD nm n)
+  requested t (operator o nm) = E .asked t (operator o nm)
+  requested t TICK = E .asked t TICK
+  requested t (running c) = E .asked t (running c)
 
--- the tables after a run, and what each of its calls handed back
-unfoldable pub run : Tables → List Made → Tables
-run t [] = t
-run t (c ∷ cs) = run (step t c .tables) cs
+  unfoldable pub step : E .Form → Made → Handed (E .Form)
+  step t (request q) = beside [] (requested t q)
+  step t (page buf) = pagedIn E t buf
+  step t (line bytes buf) = keyedIn E t bytes buf
 
-unfoldable pub outcomes : Tables → List Made → List Written
-outcomes t [] = []
-outcomes t (c ∷ cs) = step t c ∷ outcomes (step t c .tables) cs
+  -- the tables after a run, and what each of its calls handed back
+  unfoldable pub run : E .Form → List Made → E .Form
+  run t [] = t
+  run t (c ∷ cs) = run (step t c .tables) cs
+
+  unfoldable pub outcomes : E .Form → List Made → List (Handed (E .Form))
+  outcomes t [] = []
+  outcomes t (c ∷ cs) = step t c ∷ outcomes (step t c .tables) cs

@@ -2,9 +2,15 @@
 -- Assumes nothing.
 use Prim.Native.Nat.{ℕ, _+_, _≤_}
 use mathlib.Core.Path.{_≡_}
+use mathlib.Core.Logic.{_≢_}
+use mathlib.Core.Bool.{cond}
 use mathlib.Core.List.{List, [], _∷_}
+use lib.Dec.{eqb}
+use Rattle.records.specs.declared.Program.{Program}
+use Rattle.records.specs.declared.Why.the-variants.{Nothing, Son}
+use Rattle.records.specs.Records.{Known, find, inState, withTimer}
 use Rattle.tracks.specs.Tracks.{LowestRun}
-use Rattle.rules.specs.Book.{Book}
+use Rattle.rules.specs.Book.{at, stateOf, whyOf}
 use Rattle.rules.specs.Requests.{OF, EXEC5, EXEC16, EXEC5ALL, EXEC6, CLEAR, FREE, Request, operator, TICK, running}
 use Rattle.rules.specs.Claims.{NoRun, Gained}
 use Rattle.rules.specs.Counts.{Freed, awoken, roused}
@@ -41,3 +47,25 @@ pub record Counted (t : Tables) : Type 0 where
   pub clearing : (r : ℕ) → asked t (running (CLEAR r)) .number ≡ 0 → ValueAwoken t (asked t (running (CLEAR r)))
   pub freeing : (r : ℕ) → asked t (running (FREE r)) .number ≡ 0 → ValueAwoken t (asked t (running (FREE r)))
   pub tick : asked t TICK .number ≡ 0 → ValueRoused t (asked t TICK)
+
+-- A program removed while another waits for it: the program of that name is removed by OF 8, and f waited for it as its son. f is scheduled and waits for nothing, the name is free, and
+-- no why names the record.
+pub record Removed (t : Tables) (nm : List ℕ) (f : ℕ) : Type 0 where
+  pub done : asked t (operator (OF 8) nm) .number ≡ 0
+  pub scheduled : stateOf (plain (asked t (operator (OF 8) nm) .tables) .book) f ≡ 1
+  pub free : whyOf (plain (asked t (operator (OF 8) nm) .tables) .book) f ≡ Nothing
+  pub unnamed : find (plain (asked t (operator (OF 8) nm) .tables) .book .programs) nm ≡ 0
+  pub unawaited : (q : ℕ) → Known q → whyOf (plain (asked t (operator (OF 8) nm) .tables) .book) q ≢ Son (find (plain t .book .programs) nm)
+
+-- A tick at any clock, the last of a day among them, with timers due: what becomes of a record r where the clock is now `now`. A due timer moves on, or goes; a dormant program is scheduled.
+abbrev pub moved : Program → Program
+moved r = withTimer (cond (eqb (r .interval) 0) 0 (r .due + r .interval)) (r .interval) r
+
+abbrev pub onTick : ℕ → Program → Program
+onTick now r = cond (eqb (r .due) now) (cond (eqb (r .state) 0) (inState 1 Nothing (moved r)) (moved r)) r
+
+pub record Ticked (t : Tables) : Type 0 where
+  pub done : asked t TICK .number ≡ 0
+  pub clock : plain (asked t TICK .tables) .book .clock ≡ plain t .book .clock + 1
+  pub records : (p : ℕ) → Known p → at (plain (asked t TICK .tables) .book) p ≡ onTick (plain t .book .clock + 1) (at (plain t .book) p)
+  pub rest : (plain (asked t TICK .tables) .book .holders ≡ plain t .book .holders) × (plain (asked t TICK .tables) .book .resources ≡ plain t .book .resources)
