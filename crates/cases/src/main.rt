@@ -21,7 +21,9 @@ fn show(tables: Tables, line: &[u8]) -> Tables {
     io::write_all(STDOUT_FILENO, line);
     io::write_all(STDOUT_FILENO, b"\n");
     let printed = console::print_line(tables, line, &mut out);
-    write_front(&out, printed.length);
+    let answer = printed.answer;
+    let n = console::bytes_printed(answer);
+    write_front(&out, n);
     printed.tables
 }
 

@@ -14,8 +14,9 @@ use Rattle.clock.specs.declared.Time.{Time}
 use Rattle.clock.specs.Clock.{partsOf}
 use Rattle.rules.specs.declared.Answer.{Answer}
 use Rattle.rules.specs.declared.Answer.the-variants.{Done, Told, Waits, NoCaller, NotAllowed, NoProgram, WrongState, NameInUse, AllUsed, NoRoom, NotHolder, NotAllocated, AtCeiling, TooShort, NotUnderstood, NotSound}
-use Rattle.rules.specs.Answers.{number}
+use Rattle.rules.specs.Answers.{number, values}
 use Rattle.rules.proofs.Answer.{the-type}
+use Rattle.console.specs.Sheet.{printedBytes}
 use Rattle.console.specs.Inner.{valuesLine, answerBytes}
 
 -- a dot between two texts
@@ -96,3 +97,25 @@ values-room NotSound = omega (arith, decimal-most 0)
 
 pub answer-room : (a : Answer) → length (answerBytes a) ≤ 139
 answer-room a = omega (arith, answer-length a (number a) refl, values-room a, decimal-most (number a))
+
+-- an answer that is not done has no bytes printed; the places of such answers among all
+abbrev undone : List ℕ
+undone = 1 ∷ 2 ∷ 3 ∷ 4 ∷ 5 ∷ 6 ∷ 7 ∷ 8 ∷ 9 ∷ 10 ∷ 11 ∷ 12 ∷ 13 ∷ 14 ∷ 15 ∷ []
+
+pub bytes-none : (a : Answer) → OneOf undone (tagOf the-type a) → 0 ≡ printedBytes (number a) (values a)
+bytes-none (Done v) h = absurd (miss undone 0 tt h)
+bytes-none (Told t) h = refl
+bytes-none (Waits s) h = refl
+bytes-none NoCaller h = refl
+bytes-none NotAllowed h = refl
+bytes-none NoProgram h = refl
+bytes-none (WrongState s) h = refl
+bytes-none NameInUse h = refl
+bytes-none AllUsed h = refl
+bytes-none NoRoom h = refl
+bytes-none NotHolder h = refl
+bytes-none NotAllocated h = refl
+bytes-none AtCeiling h = refl
+bytes-none (TooShort n) h = refl
+bytes-none NotUnderstood h = refl
+bytes-none NotSound h = refl

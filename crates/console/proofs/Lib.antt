@@ -1,6 +1,6 @@
 pub mod AnswerLaws
 pub mod LongLines
-pub mod Copying
+pub mod LineEnds
 pub mod FieldLaws
 pub mod NameBytes
 pub mod Words

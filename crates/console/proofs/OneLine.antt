@@ -3,10 +3,11 @@
 -- Assumes nothing.
 use Prim.Native.Nat.{ℕ, _≤_, _<_}
 use native.Mathlib.Omega.{arith}
+use native.Mathlib.Decide.{decLt}
 use mathlib.Core.Path.{_≡_, refl, sym, ap, _∙_}
 use mathlib.Core.Bool.{Bool, true, false}
 use mathlib.Core.List.{List, [], _∷_}
-use lib.ListN.{length, getD, length-replicate}
+use lib.ListN.{length, drop, length-replicate, length-append, length-drop}
 use borrow.Author.Tests.{le-leb, lt-leb}
 use Rattle.lists.proofs.Tests.{clash}
 use Rattle.text.specs.Inner.{Wrote}
@@ -23,7 +24,7 @@ use Rattle.rules.specs.Engine.{beside, front, notSound, pagedIn, writtenIn}
 use Rattle.page.specs.Paging.{Written, written, paged}
 use Rattle.console.specs.Line.{Line, bad, PAGE, asks, lineOf}
 use Rattle.console.specs.Console.{keyed, keyedIn}
-use Rattle.console.specs.Sheet.{room, lent, answerLine, shown, Shown, lineShown}
+use Rattle.console.specs.Sheet.{room, lent, answerLine, shown, printedBytes, lineShown}
 use Rattle.console.specs.Inner.{valuesLine, answerBytes}
 use Rattle.console.proofs.AnswerLaws.{answer-room}
 use Rattle.console.proofs.KeyLaws.{doing, done-is}
@@ -82,30 +83,49 @@ keyed-alike t l a b ha hb = go (sound t) refl (lineOf l)
     go false e x = record { number = refl; values = refl; tables = refl }
 
 -- what is printed, by what stands at the front
-abbrev pub printing : List ℕ → Tables → List ℕ → Shown
-printing bytes t out = record { length = length bytes; tables = t; buffer = front bytes out }
+abbrev pub printing : List ℕ → Tables → List ℕ → Written
+printing bytes t out = record { number = 0; values = length bytes ∷ []; tables = t; buffer = front bytes out }
 
 -- too few bytes are lent
-pub shown-short : (t : Tables) (l out : List ℕ) → length out < room → lineShown t l out ≡ record { length = 0; tables = t; buffer = out }
+pub shown-short : (t : Tables) (l out : List ℕ) → length out < room → lineShown t l out ≡ record { number = 12; values = room ∷ []; tables = t; buffer = out }
 unfolding lineShown
 shown-short t l out h = rw (lt-leb room (length out) h, lineShown)
+
+-- enough are lent
+pub shown-long : (t : Tables) (l out : List ℕ) → room ≤ length out → lineShown t l out ≡ printing (shown (lineOf l) t (keyed t l lent)) (keyed t l lent .tables) out
+unfolding lineShown
+shown-long t l out big = rw (le-leb room (length out) big, lineShown)
+
+-- a buffer that keeps its length has room for what was printed
+front-fits : (bytes out : List ℕ) → length (front bytes out) ≡ length out → length bytes ≤ length out
+front-fits bytes out e = omega (arith, length-append bytes (drop (length bytes) out), length-drop (length bytes) out)
+
+pub printed-fits : (t : Tables) (l out after : List ℕ) (r : Outcome) → beside after (told r) ≡ lineShown t l out → length after ≡ length out
+    → printedBytes (answers.number (r .answer)) (answers.values (r .answer)) ≤ length out
+printed-fits t l out after r e same = go (decLt (length out) room)
+  where
+    many : (w : Written) → lineShown t l out ≡ w → printedBytes (answers.number (r .answer)) (answers.values (r .answer)) ≡ printedBytes (w .number) (w .values)
+    many w f = ap (λ (v : Written). printedBytes (v .number) (v .values)) (e ∙ f)
+
+    go : Dec (length out < room) → printedBytes (answers.number (r .answer)) (answers.values (r .answer)) ≤ length out
+    go (yes h) = omega (arith, many _ (shown-short t l out h))
+    go (no h) =
+        let big : room ≤ length out = omega arith in
+        let f = shown-long t l out big in
+        omega (arith, many _ f, front-fits (shown (lineOf l) t (keyed t l lent)) out (ap length (sym (ap (λ (v : Written). v .buffer) (e ∙ f))) ∙ same))
 
 module _ (t : Tables) (l out : List ℕ) (big : room ≤ length out) (fits : sound t ≡ true → length (page (plain t)) ≤ room) where
   pub keyed-lent : Alike (keyed t l out) (keyed t l lent)
   keyed-lent = keyed-alike t l out lent (λ e. omega (arith, fits e)) (λ e. omega (arith, fits e, length-replicate {A = ℕ} room 0))
 
-  shown-long : lineShown t l out ≡ printing (shown (lineOf l) t (keyed t l lent)) (keyed t l lent .tables) out
-  unfolding lineShown
-  shown-long = rw (le-leb room (length out) big, lineShown)
-
   shown-as : (bytes : List ℕ) → shown (lineOf l) t (keyed t l lent) ≡ bytes → lineShown t l out ≡ printing bytes (keyed t l out .tables) out
-  shown-as bytes e = shown-long ∙ (λ i. printing (e i) (sym (keyed-lent .tables) i) out)
+  shown-as bytes e = shown-long t l out big ∙ (λ i. printing (e i) (sym (keyed-lent .tables) i) out)
 
   -- PAGE on sound tables
   pub shown-page : sound t ≡ true → lineOf l ≡ PAGE → lineShown t l out ≡ printing (page (plain t)) t out
   shown-page e p =
       let k = keyed-page t l e p lent (omega (arith, fits e, length-replicate {A = ℕ} room 0)) in
-      shown-long ∙ (λ i. printing (shown (p i) t (k i)) (k i .tables) out)
+      shown-long t l out big ∙ (λ i. printing (shown (p i) t (k i)) (k i .tables) out)
 
   -- any other line, and PAGE on others
   module _ (other : lineOf l ≡ PAGE → sound t ≡ false) where
@@ -127,19 +147,13 @@ module _ (t : Tables) (l out : List ℕ) (big : room ≤ length out) (fits : sou
         go true e = refl
         go false e = absurd (omega (arith, ap answers.number d, ap (λ (w : Written). w .number) (same ∙ keyed-unsound t l out e)))
 
-    -- PAGE done: its value is the page's length
+    -- PAGE done
     module _ (n : ℕ) (p : lineOf l ≡ PAGE) (d : r .answer ≡ Done n) where
       done-keyed : beside after (told r) ≡ record { number = 0; values = length (page (plain t)) ∷ []; tables = t; buffer = front (page (plain t)) out }
       done-keyed = let e = done-sound n d in same ∙ keyed-page t l e p out (omega (arith, fits e))
 
-      done-value : n ≡ length (page (plain t))
-      done-value = ap (λ (xs : List ℕ). getD xs 0 0) (sym (ap answers.values d) ∙ ap (λ (w : Written). w .values) done-keyed)
-
-      pub printed-page : record { length = n; tables = r .tables; buffer = after } ≡ lineShown t l out
-      printed-page = (λ i. record { length = done-value i; tables = done-keyed i .tables; buffer = done-keyed i .buffer }) ∙ sym (shown-page (done-sound n d) p)
-
-      pub printed-within : n ≤ length out
-      printed-within = omega (arith, fits (done-sound n d), done-value)
+      pub printed-page : beside after (told r) ≡ lineShown t l out
+      printed-page = done-keyed ∙ sym (shown-page (done-sound n d) p)
 
     -- the answer is not that of PAGE done: so the buffer is as it was, and the answer's line goes to its front
     module _ (other : lineOf l ≡ PAGE → (n : ℕ) → r .answer ≡ Done n → ⊥) where
@@ -159,12 +173,12 @@ module _ (t : Tables) (l out : List ℕ) (big : room ≤ length out) (fits : sou
       printed-room = omega (arith, answer-room (r .answer), ap length printed-kept)
 
       pub printed-answer : (final : List ℕ) (n : ℕ) → Wrote after 0 (answerBytes (r .answer)) final n
-          → record { length = n; tables = r .tables; buffer = final } ≡ lineShown t l out
+          → beside final (told (record { answer = Done n; tables = r .tables })) ≡ lineShown t l out
       printed-answer final n w =
           let bytes : List ℕ = answerBytes (r .answer) in
           let b : final ≡ front bytes out = wrote-front w printed-room ∙ ap (front bytes) printed-kept in
           let k : n ≡ length bytes = omega (arith, w .place) in
           let line : bytes ≡ answerLine (keyed t l out) = sym (answer-line after r) ∙ ap answerLine same in
-          (λ i. record { length = k i; tables = same i .tables; buffer = b i })
+          (λ i. record { number = 0; values = k i ∷ []; tables = same i .tables; buffer = b i })
           ∙ ap (λ (xs : List ℕ). printing xs (keyed t l out .tables) out) line
           ∙ sym (shown-answer not-done)

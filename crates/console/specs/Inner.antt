@@ -4,11 +4,9 @@ use Prim.Native.Nat.{ℕ, _≤_, _<_}
 use mathlib.Core.Path.{_≡_}
 use mathlib.Core.Bool.{Bool, true, false, cond}
 use mathlib.Core.List.{List, [], _∷_, _++_, map}
-use lib.ListN.{length, drop, take}
-use lib.Seq.{slice}
+use lib.ListN.{length, drop}
 use lib.Dec.{leb}
 use Rattle.text.specs.Text.{text, decimal, between, parts}
-use Rattle.text.specs.Inner.{PartEnd}
 use Rattle.rules.specs.Requests.{PR, OF, EXEC5, EXEC5ALL, EXEC12, LOAD, operator}
 use Rattle.rules.specs.declared.Answer.{Answer}
 use Rattle.rules.specs.Answers as answers
@@ -116,16 +114,3 @@ valuesLine a = between 46 (map decimal (answers.values a))
 unfoldable pub answerBytes : Answer → List ℕ
 unfolding valuesLine
 answerBytes a = text "answer=" ++ decimal (answers.number a) ++ text ",value=" ++ valuesLine a ++ (10 ∷ [])
-
--- e is where the line that begins at `from` ends, or the end of the block
-pub record LineEnd (s : List ℕ) (from e : ℕ) : Type 0 where
-  pub high : e ≤ length s
-  pub past : length s < from → e ≡ length s
-  pub line : from ≤ length s → PartEnd 10 s from e
-
--- what a line that goes on behind the block has of it goes to the front, 73 bytes at most; n of them
-pub record Carried (before : List ℕ) (from to : ℕ) (after : List ℕ) (n : ℕ) : Type 0 where
-  pub kept : from ≤ to → to ≤ length before → take n after ≡ take 73 (slice from to before)
-  pub most : n ≤ 73
-  pub fits : n ≤ length after
-  pub same : length after ≡ length before

@@ -1,9 +1,9 @@
 -- What the program `sheet` prints for a text (01, "The page and the console line").
 -- Assumes nothing.
-use Prim.Native.Nat.{ℕ}
+use Prim.Native.Nat.{ℕ, _+_}
 use mathlib.Core.Bool.{Bool, true, false, cond, _&&_}
 use mathlib.Core.List.{List, [], _∷_, _++_, map}
-use lib.ListN.{length, take, replicate}
+use lib.ListN.{length, getD, take, drop, replicate}
 use lib.Dec.{leb, eqb}
 use Rattle.text.specs.Text.{text, decimal, between, parts}
 use Rattle.tables.specs.declared.Tables.{Tables}
@@ -31,20 +31,23 @@ shown bad t r = answerLine r
 shown PAGE t r = cond (eqb (r .number) 0) (page (plain t)) (answerLine r)
 shown (asks q) t r = answerLine r
 
--- what a line prints, at the front of a lent buffer, and the tables after it; where fewer than 8,192 bytes are lent nothing is done
-pub record Shown : Type 0 where
-  pub length : ℕ
-  pub tables : Tables
-  pub buffer : List ℕ
-
-unfoldable pub lineShown : Tables → List ℕ → List ℕ → Shown
+-- What a line prints, at the front of a lent buffer: 0, and how many bytes; or 12, and the bytes needed, where fewer than 8,192 are lent: then nothing is done.
+unfoldable pub lineShown : Tables → List ℕ → List ℕ → Written
 lineShown t l out =
     let r : Written = keyed t l lent in
     let bytes : List ℕ = shown (lineOf l) t r in
     elim (leb room (length out)) [
-      | true ↦ record { length = length bytes; tables = r .tables; buffer = front bytes out }
-      | false ↦ record { length = 0; tables = t; buffer = out }
+      | true ↦ record { number = 0; values = length bytes ∷ []; tables = r .tables; buffer = front bytes out }
+      | false ↦ record { number = 12; values = room ∷ []; tables = t; buffer = out }
     ]
+
+-- how many bytes those are, by the answer's number and values
+abbrev pub printedBytes : ℕ → List ℕ → ℕ
+printedBytes a vs = cond (eqb a 0 && eqb (length vs) 1) (getD vs 0 0) 0
+
+-- where the line that begins at a place of a block ends: at its byte 10, or at the block's end
+unfoldable pub lineEnd : List ℕ → ℕ → ℕ
+lineEnd s at = cond (leb at (length s)) (at + length (getD (parts 10 (drop at s)) 0 [])) (length s)
 
 -- the lines of a text: a last one without byte 10 counts
 abbrev pub dropEmpty : List (List ℕ) → List (List ℕ)

@@ -6,8 +6,9 @@ ghost use lib.ListN.{length};
 ghost use Rattle.text.specs.Text.{decimal, between};
 ghost use Rattle.text.specs.Inner.{Wrote};
 ghost use Rattle.clock.specs.Clock.{partsOf};
-ghost use Rattle.rules.specs.Answers.{number};
+ghost use Rattle.rules.specs.Answers.{number, values};
 ghost use Rattle.console.specs.Inner.{valuesLine, answerBytes};
+ghost use Rattle.console.specs.Sheet.{printedBytes};
 use clock::Time;
 use rules::Answer;
 
@@ -32,6 +33,16 @@ pub fn number_of(answer: Answer) -> u64
         Answer::TooShort(_) => 12,
         Answer::NotUnderstood => 13,
         Answer::NotSound => 14,
+    }
+}
+
+// How many bytes a line printed, by its answer: none where too few were lent.
+pub fn bytes_printed(answer: Answer) -> usize
+    ensures { λ r. ⌜ r ≡ printedBytes (number answer) (values answer) ⌝ }
+{
+    match answer {
+        Answer::Done(n) => n as usize,
+        _ => 0,
     }
 }
 

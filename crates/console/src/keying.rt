@@ -1,7 +1,5 @@
 // What a line does, and what is printed for it.
 ghost use mathlib.Core.Path.{_≡_};
-ghost use Prim.Native.Nat.{_≤_};
-ghost use lib.ListN.{length};
 ghost use Rattle.rules.specs.Requests.{FRESH};
 ghost use Rattle.tables.specs.Sound.{sound};
 ghost use Rattle.tables.specs.Calls.{told, asked};
@@ -13,7 +11,6 @@ ghost use Rattle.console.specs.Sheet.{lineShown};
 ghost use Rattle.console.specs.Inner.{obeys, refusing, isPage};
 use super::Asked;
 use super::Command;
-use super::Printed;
 use super::answers;
 use super::parse;
 use rules::Answer;
@@ -110,14 +107,13 @@ fn is_page(asked: Asked) -> bool
     }
 }
 
-// What a line prints, at the front of a lent buffer of at least 8,192 bytes: the line for its answer, or for PAGE the page.
-pub fn print_line(tables: Tables, line: &[u8], out: &mut [u8]) -> Printed
-    ensures { λ r. ⌜ record { length = r .length; tables = r .tables; buffer = now (out .exit) } ≡ lineShown tables (now (line .entry)) (now (out .entry)) ⌝ }
-    ensures { λ r. ⌜ r .length ≤ length (now (out .entry)) ⌝ }
+// What a line prints, at the front of a lent buffer of at least 8,192 bytes: the line for its answer, or for PAGE the page; and how many bytes that is.
+pub fn print_line(tables: Tables, line: &[u8], out: &mut [u8]) -> Outcome
+    ensures { λ r. ⌜ beside (now (out .exit)) (told r) ≡ lineShown tables (now (line .entry)) (now (out .entry)) ⌝ }
 {
     if out.len() < 8192 {
-        return Printed {
-            length: 0,
+        return Outcome {
+            answer: Answer::TooShort(8192),
             tables: tables,
         };
     }
@@ -127,16 +123,13 @@ pub fn print_line(tables: Tables, line: &[u8], out: &mut [u8]) -> Printed
     let after = outcome.tables;
     let answer = outcome.answer;
     if is_page(asked) {
-        if let Answer::Done(n) = answer {
-            return Printed {
-                length: n as usize,
-                tables: after,
-            };
+        if let Answer::Done(_) = answer {
+            return outcome;
         }
     }
     let length = answers::put_answer(out, answer);
-    Printed {
-        length: length,
+    Outcome {
+        answer: Answer::Done(length as u64),
         tables: after,
     }
 }

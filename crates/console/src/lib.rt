@@ -1,16 +1,15 @@
 // The console line: what it says, what it does, and what is printed for it.
 mod answers;
-mod blocks;
 mod fields;
 mod keying;
+mod lines;
 mod parse;
 
+pub use answers::bytes_printed;
 pub use answers::number_of;
-pub use blocks::carry;
-pub use blocks::line_end;
 pub use keying::key_line;
 pub use keying::print_line;
-use tables::Tables;
+pub use lines::line_end;
 
 // What a line asks for, but for the name in it.
 pub enum Asked {
@@ -46,10 +45,4 @@ pub enum Asked {
 pub struct Command {
     pub name: [u8; 5],
     pub asked: Asked,
-}
-
-// How many bytes a line prints, 0 where too few were lent; and the tables after it.
-pub struct Printed {
-    pub length: usize,
-    pub tables: Tables,
 }

@@ -23,9 +23,8 @@ use Rattle.console.specs.Line.{PAGE, lineOf}
 use Rattle.console.specs.Console.{keyed}
 use Rattle.console.specs.Sheet.{room}
 use Rattle.console.specs.Inner.{obeys}
-use Rattle.console.proofs.AnswerLaws.{answer-room}
 use Rattle.console.proofs.KeyLaws.{keyed-obeys, done-not, page-said, page-unsaid}
-use Rattle.console.proofs.OneLine.{shown-short, printed-page, printed-within, printed-room, printed-answer}
+use Rattle.console.proofs.OneLine.{shown-short, printed-page, printed-room, printed-answer}
 use Rattle.console.proofs.keying.print_line.Statement.{statement}
 use Rattle.console.proofs.keying.print_line.Tie as tie
 
@@ -80,7 +79,7 @@ other c =
 returns : tie.Need-returns
 returns c =
     let a = c .before .before .before .args in
-    (sym (shown-short (a .tables) (a .line .now) (a .out .now) (c .if1 .taken)), omega arith)
+    sym (shown-short (a .tables) (a .line .now) (a .out .now) (c .if1 .taken))
 
 command-of-requires : tie.Need-command-of-requires
 command-of-requires c κs = search needs
@@ -91,23 +90,19 @@ obey-requires c κs = search needs
 is-page-requires : tie.Need-is-page-requires
 is-page-requires c κs = search needs
 
-enum-known-answer : tie.Need-enum-known-answer
-enum-known-answer c = search needs
+enum-told : tie.Need-enum-told
+enum-told c = search needs
 
 same-length : tie.Need-same-length
 same-length c = search needs
 
 returns-2 : tie.Need-returns-2
 returns-2 c =
-    let g = c .before in
-    let m = g .before in
-    let o = Obeyed (m .before .before) in
+    let asked = c .before .before in
+    let o = Obeyed (asked .before) in
     let a = S o .args in
-    let n = g .answer .given .0 .0 in
-    let p = asks-page (m .before) in (
-      printed-page (a .tables) (a .line .now) (a .out .now) (big o) (fits (S o)) (o .obey .result) (After o) (same o) n p (g .answer .given .1),
-      printed-within (a .tables) (a .line .now) (a .out .now) (big o) (fits (S o)) (o .obey .result) (After o) (same o) n p (g .answer .given .1),
-    )
+    let d = c .enum-told .given in
+    printed-page (a .tables) (a .line .now) (a .out .now) (big o) (fits (S o)) (o .obey .result) (After o) (same o) (d .0 .0) (asks-page asked) (d .1)
 
 put-answer-requires : tie.Need-put-answer-requires
 put-answer-requires c κs =
@@ -123,11 +118,9 @@ returns-3 c =
     let w = c .before .before in
     let j = w .before .before in
     let o = Obeyed (j .before) in
-    let a = S o .args in (
-      printed-answer (a .tables) (a .line .now) (a .out .now) (big o) (fits (S o)) (o .obey .result) (After o) (same o) (other j)
-          (w .put-answer .last .0) (w .put-answer .result) (w .put-answer .ensures),
-      omega (arith, w .put-answer .ensures .place, answer-room (o .obey .result .answer), big o),
-    )
+    let a = S o .args in
+    printed-answer (a .tables) (a .line .now) (a .out .now) (big o) (fits (S o)) (o .obey .result) (After o) (same o) (other j)
+        (w .put-answer .last .0) (w .put-answer .result) (w .put-answer .ensures)
 
 pub print-line-spec : {M : Type 1} → statement M
 print-line-spec =
@@ -137,7 +130,7 @@ print-line-spec =
     command-of-requires
     obey-requires
     is-page-requires
-    enum-known-answer
+    enum-told
     same-length
     returns-2
     put-answer-requires
