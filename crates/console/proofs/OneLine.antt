@@ -38,7 +38,7 @@ answer-line buf r = refl
 pub paged-done : (t : Tables) (buf : List ℕ) → sound t ≡ true → length (page (plain t)) ≤ length buf
     → paged t buf ≡ record { number = 0; values = length (page (plain t)) ∷ []; tables = t; buffer = front (page (plain t)) buf }
 unfolding pagedIn writtenIn
-paged-done t buf e h = rw (e, pagedIn, le-leb (length (page (plain t))) (length buf) h, written)
+paged-done t buf e h = rw (e, pagedIn, le-leb (length (page (plain t))) (length buf) h, writtenIn)
 
 -- a line on tables that are not sound, and PAGE on sound ones
 pub keyed-unsound : (t : Tables) (l buf : List ℕ) → sound t ≡ false → keyed t l buf ≡ beside buf (notSound t)
