@@ -9,14 +9,14 @@ use lib.Dec.{eqb}
 use Rattle.rules.specs.Requests.{Request, FRESH, LOAD, operator, TICK, running}
 use Rattle.rules.specs.Plans.{Plan, numberOf, valuesOf, eventsOf, done, need, renewed}
 use Rattle.rules.specs.Rules.{sizes, plan}
-use Rattle.rules.specs.Keeper.{lists, entries, State, step, play, view, fresh}
+use Rattle.rules.specs.Keeper.{entries, State, step, play, view, fresh}
 use Rattle.rules.specs.Engine.{Reply, madeBy}
 use Rattle.tables.specs.declared.Tables.{Tables}
 use Rattle.tables.specs.Tables.{freshly}
 use Rattle.tables.specs.Sound.{sound}
 use Rattle.tables.specs.Calls.{planned}
 use Rattle.page.specs.Paging.{linked}
-use Rattle.history.specs.Runs.{begun, requested}
+use Rattle.history.specs.Runs.{requested}
 use Rattle.history.specs.Demand.{replaying}
 use Rattle.history.proofs.Steps.{asked-planned}
 

@@ -12,7 +12,7 @@ use Rattle.rules.specs.Requests.{Request, FRESH, LOAD, operator, TICK, running}
 use Rattle.rules.specs.Plans.{Event}
 use Rattle.rules.specs.Rules.{sizes}
 use Rattle.rules.specs.Keeper.{lists}
-use Rattle.rules.specs.Engine.{Reply, Handed, beside, madeBy, writtenIn, pagedIn}
+use Rattle.rules.specs.Engine.{beside, madeBy, writtenIn, pagedIn}
 use Rattle.rules.proofs.Refusals.{answered}
 use Rattle.tables.specs.declared.Tables.{Tables}
 use Rattle.tables.specs.Tables.{plain, freshly, smallest}

@@ -17,9 +17,9 @@ use Rattle.rules.specs.Book.{Book}
 use Rattle.rules.specs.Requests.{Call, Request, running}
 use Rattle.rules.specs.Plans.{Event, Plan, refused, numberOf, valuesOf, eventsOf}
 use Rattle.rules.specs.Rules.{call, sizes}
-use Rattle.rules.specs.Keeper.{lists, Entries, entries, sorted, State, play, view, scheduled, asks, after, fresh}
-use Rattle.rules.specs.Replay.{Accounts, Fits, First, Acts}
-use Rattle.rules.specs.Replay as rules
+use Rattle.rules.specs.Keeper.{lists, Entries, entries, sorted, State, play, view, asks, after, fresh}
+use Rattle.rules.specs.Replay.{Accounts, Fits, First}
+use Rattle.rules.proofs.Statements as rules
 use Rattle.rules.specs.Sound.{Sound}
 use Rattle.rules.proofs.Alike.{Alike, fresh-alike, order-alike, asks-alike, after-alike}
 use Rattle.rules.proofs.Notes.{accounts-alike, alike-accounts}
@@ -46,6 +46,7 @@ use Rattle.history.specs.Runs as calls
 use Rattle.history.specs.Demand.{sortedOut, replaying, toldOf, ActsFor, for-none, for-first, Agrees, Demanded}
 use Rattle.history.proofs.Steps.{asked-planned}
 use Rattle.history.proofs.Begins.{requested-asked, requested-replayed}
+use Rattle.rules.proofs.Statements.{Acts}
 
 -- sound tables, laid out as their plain state is, and the notes of a replay that it is alike to
 record Kept (t : Tables) (n : State entries) : Type 0 where

@@ -2,16 +2,15 @@
 -- Assumes nothing.
 use Prim.Native.Nat.{ℕ, zero, suc, _+_, _-_, _≤_, _<_}
 use native.Mathlib.Omega.{arith}
-use native.Mathlib.Decide.{ℕ-discrete}
 use mathlib.Core.Path.{_≡_, refl, sym, ap, _∙_, subst}
 use mathlib.Core.Logic.{_≢_}
-use mathlib.Core.Bool.{Bool, true, false, not, _&&_, _||_, Bool·beq}
-use mathlib.Core.List.{List, [], _∷_}
+use mathlib.Core.Bool.{Bool, true, false, not, _&&_, _||_}
+use mathlib.Core.List.{List}
 use lib.ListN.{getD}
 use lib.Dec.{leb, ltb, eqb}
-use borrow.Author.Tests.{eq-eqb, ne-eqb, eqb-true, eqb-false, leb-true, le-leb, ltb-true, ltb-false, lt-ltb, le-ltb}
-use Rattle.lists.specs.Lists.{along, alike}
-use Rattle.lists.proofs.Tests.{false-true, both, and, unless, implies, otherwise, or, along-in, along-is, upTo-true, upTo-is, alike-true, alike-refl}
+use borrow.Author.Tests.{eq-eqb, ne-eqb, eqb-true, eqb-false, leb-true, le-leb, ltb-true, lt-ltb}
+use Rattle.lists.specs.Lists.{alike}
+use Rattle.lists.proofs.Tests.{false-true, both, and, unless, implies, otherwise, or, along-in, along-is, alike-true, alike-refl}
 use Rattle.clock.specs.Clock.{farthest}
 use Rattle.records.specs.declared.Program.{Program}
 use Rattle.records.specs.declared.Resource.{Resource}
@@ -21,7 +20,7 @@ use Rattle.records.specs.Names.{legal}
 use Rattle.records.specs.Records.{Known, known, missing, unused}
 use Rattle.records.specs.Numbers.{free, numberAt}
 use Rattle.tracks.specs.Tracks.{nobody}
-use Rattle.rules.specs.Book.{Book, at, stateOf, prioOf, whyOf, holderOf}
+use Rattle.rules.specs.Book.{Book, at, stateOf, whyOf, holderOf}
 use Rattle.rules.specs.Sound.{Ours, Names, Zeros, suits, Whys, Dues}
 use Rattle.rules.specs.Test.{programs, tracks, numbers, nothing, sonOf, zeros, testNames, testZeros, testWhys, testDues}
 use Rattle.rules.proofs.Places.{known-true}

@@ -1,13 +1,13 @@
 -- The tests of chains, tracks, numbers and limits say what their clauses say, both ways.
 -- Assumes nothing.
-use Prim.Native.Nat.{ℕ, zero, suc, _+_, _-_, _≤_, _<_}
+use Prim.Native.Nat.{ℕ, _≤_, _<_}
 use native.Mathlib.Omega.{arith}
-use mathlib.Core.Path.{_≡_, refl, sym, ap, _∙_, subst}
+use mathlib.Core.Path.{_≡_, refl, sym, _∙_, subst}
 use mathlib.Core.Bool.{Bool, true, false, not, _&&_, _||_, Bool·beq}
 use mathlib.Core.List.{List, [], _∷_}
 use lib.ListN.{getD}
 use lib.Dec.{leb, ltb, eqb}
-use borrow.Author.Tests.{eq-eqb, ne-eqb, eqb-true, eqb-false, leb-true, le-leb, ltb-true, ltb-false, lt-ltb, le-ltb}
+use borrow.Author.Tests.{eq-eqb, ne-eqb, eqb-true, leb-true, le-leb, ltb-true, lt-ltb}
 use Rattle.lists.specs.Lists.{same, count, every, from, upTo, Ascending}
 use Rattle.lists.proofs.Laws.{count-from, from-in}
 use Rattle.lists.proofs.Tests.{false-true, both, and, unless, implies, every-in, every-is, upTo-true, upTo-is}

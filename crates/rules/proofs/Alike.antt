@@ -20,12 +20,13 @@ use Rattle.records.specs.declared.Why.the-variants.{Nothing}
 use Rattle.records.specs.Records.{Known, known, missing, unused, inState, withPriority, withTimer, newcomer}
 use Rattle.rules.specs.Book.{Book, at, stateOf, prioOf, whyOf, put, withClock, withHolders, withResources, freshBook}
 use Rattle.rules.specs.Requests.{Request}
-use Rattle.rules.specs.Plans.{Deed, becomes, priced, loaded, unloaded, timed, Event, on, clocked, held, numbered, renewed, Plan, numberOf, valuesOf, eventsOf}
+use Rattle.rules.specs.Plans.{Deed, becomes, priced, loaded, unloaded, timed, Event, on, clocked, held, numbered, renewed, numberOf, valuesOf, eventsOf}
 use Rattle.rules.specs.Rules.{plan}
-use Rattle.rules.specs.Keeper.{lists, Entries, entries, sorted, State, leave, enter, amend, act, step, play, view, scheduled, asks, after, runs, answers, fresh}
+use Rattle.rules.specs.Keeper.{lists, Entries, entries, sorted, State, leave, enter, amend, act, step, play, view, scheduled, asks, after, fresh}
 use Rattle.rules.specs.Replay.{Fits}
 use Rattle.rules.proofs.Places.{known-true, at-same, at-other, put-long}
 use Rattle.rules.proofs.Fits.{Noted, fits-unique, fits-edit, fits-remove, fits-insert, sorted-fits}
+use Rattle.rules.proofs.Statements.{runs, answers}
 
 -- the same book, and chains that the entries account for
 pub record Alike (a : State lists) (t : State entries) : Type 0 where

@@ -1,23 +1,22 @@
 -- Demand 2's sentence on tracks: EXEC 4 and 15 answer with the lowest run of n free tracks exactly when there is one, and with 1 or 8 exactly when there is none. It is shown of
 -- the rule that both share, by what the search for a run finds; then of the requests under any keeper, with what becomes of each track.
 -- Assumes nothing.
-use Prim.Native.Nat.{ℕ, _+_, _-_, _≤_, _<_}
+use Prim.Native.Nat.{ℕ, _+_, _-_, _≤_}
 use native.Mathlib.Omega.{arith}
 use mathlib.Core.Path.{_≡_, refl, ap, _∙_}
 use mathlib.Core.List.{List, [], _∷_}
 use mathlib.Core.Option.{Option, none, some}
 use borrow.Author.Tests.{le-leb, lt-ltb}
-use Rattle.records.specs.declared.Why.{Why}
 use Rattle.records.specs.declared.Why.the-variants.{Tracks}
-use Rattle.tracks.specs.Tracks.{everybody, lowest, filled, FreeRun, LowestRun}
+use Rattle.tracks.specs.Tracks.{everybody, lowest, filled, LowestRun}
 use Rattle.tracks.proofs.Runs.{lowest-found, lowest-none, lowest-is, lowest-no, filled-in, filled-out}
-use Rattle.rules.specs.Book.{Book, holderOf, withHolders}
 use Rattle.rules.specs.Requests.{Call, EXEC4, EXEC15, Request, running}
-use Rattle.rules.specs.Plans.{becomes, on, held, Plan, refused, done, waiting, numberOf, valuesOf, eventsOf, View, need, either, found}
+use Rattle.rules.specs.Plans.{held, Plan, done, numberOf, valuesOf, eventsOf, View, need, found}
 use Rattle.rules.specs.Rules.{waits, takes, head, asCaller, call, plan}
-use Rattle.rules.specs.Keeper.{Keeper, State, step, play, view, scheduled, asks, after}
-use Rattle.rules.specs.Claims.{NoRun, Claims, Gained, Claimed}
+use Rattle.rules.specs.Keeper.{Keeper, State, step, play, view, scheduled, asks}
+use Rattle.rules.specs.Claims.{NoRun}
 use Rattle.rules.proofs.Paths.{waits-so, waits-told}
+use Rattle.rules.proofs.Statements.{Claims, Claimed}
 
 module _ (v : View) (c h n w : ℕ) (low : 1 ≤ n) (high : n ≤ v .book .tracks) (bit : w ≤ 1) where
   -- the holders, what is done with a run, and what without one

@@ -18,17 +18,18 @@ use Rattle.records.specs.declared.Resource.{Resource}
 use Rattle.records.specs.declared.Why.the-variants.{Nothing}
 use Rattle.records.specs.Records.{Known, known, all}
 use Rattle.rules.specs.Book.{Book, at, stateOf, whyOf}
-use Rattle.rules.specs.Requests.{OF, EXEC5, EXEC16, EXEC5ALL, EXEC6, CLEAR, FREE, Request, operator, TICK, running}
-use Rattle.rules.specs.Plans.{becomes, Event, on, clocked, numbered, Plan, done, releasing, View, numberOf, valuesOf, eventsOf, Release, awaits, woken, wake}
+use Rattle.rules.specs.Requests.{EXEC6, CLEAR, FREE, TICK, running}
+use Rattle.rules.specs.Plans.{becomes, Event, on, clocked, numbered, Plan, releasing, View, valuesOf, eventsOf, Release, awaits, woken, wake}
 use Rattle.rules.specs.Rules.{clears, endsIn, ends, dueAt, ticked, call, head, plan}
-use Rattle.rules.specs.Keeper.{lists, State, step, play, view, scheduled, asks, after}
+use Rattle.rules.specs.Keeper.{lists, State, step, play, view, scheduled, asks}
 use Rattle.rules.specs.Sound.{Sound}
-use Rattle.rules.specs.Counts.{awoken, roused, Freed, Done, TellsFreed, TellsAwoken, TellsRoused, Counts}
+use Rattle.rules.specs.Counts.{awoken, roused}
 use Rattle.rules.proofs.Places.{known-true, known-is, all-one, all-in}
 use Rattle.rules.proofs.Rising.{Rise, clocks, numbers, wake-rises, tick-rises, rise-in, rise-out, becomes-same, becomes-other, becomes-long}
 use Rattle.rules.proofs.IfDone.{IfDone, if-need, if-either, if-called, if-allocated}
 use Rattle.rules.proofs.Settling.{settle}
 use Rattle.rules.proofs.Freed.{off-frees, own-frees, global-frees, each-frees}
+use Rattle.rules.proofs.Statements.{Counts}
 
 -- LISTS: two that hold each number as often are as long; so is a list of those that pass a test, each once
 remove-length : (p : ℕ) (c : List ℕ) → 1 ≤ count p c → suc (length (remove p c)) ≡ length c

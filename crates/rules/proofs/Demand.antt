@@ -1,12 +1,11 @@
 -- Demand 3 on chains, in one statement: from sound tables and entries that account for them, after any run of requests, refused ones among them, the kept
 -- chains are what the replay says, which keeps none. States that are alike stay so at every event; that a chain is the sorted list follows, since there is one only.
 -- Assumes nothing.
-use Prim.Native.Nat.{ℕ, _≤_, _<_}
+use Prim.Native.Nat.{ℕ, _≤_}
 use native.Mathlib.Omega.{arith}
 use mathlib.Core.Path.{_≡_, refl, sym, ap, _∙_}
 use mathlib.Core.Logic.{_≢_}
 use mathlib.Core.List.{List, [], _∷_}
-use lib.ListN.{getD}
 use borrow.Author.Tests.{lt-ltb}
 use Rattle.lists.specs.Lists.{same, count}
 use Rattle.lists.proofs.Laws.{same-refl, same-ne}
@@ -15,12 +14,13 @@ use Rattle.rules.specs.Book.{Book, stateOf}
 use Rattle.rules.specs.Requests.{Call, Request, running}
 use Rattle.rules.specs.Plans.{View, refused, need}
 use Rattle.rules.specs.Rules.{call, asCaller, plan}
-use Rattle.rules.specs.Keeper.{lists, Entries, entries, sorted, State, view, scheduled, asks, runs, answers, fresh}
+use Rattle.rules.specs.Keeper.{lists, Entries, entries, sorted, State, view, scheduled, fresh}
 use Rattle.rules.specs.Sound.{Sound}
-use Rattle.rules.specs.Replay.{Fits, Accounts, First, Acts, for-none, for-first, Holds, Replayed}
+use Rattle.rules.specs.Replay.{Fits, Accounts, First}
 use Rattle.rules.proofs.Fits.{fits-state, sorted-fits}
 use Rattle.rules.proofs.Alike.{Alike, fresh-alike, order-alike, runs-alike, answers-alike}
 use Rattle.rules.proofs.Notes.{notes, alike-accounts, accounts-alike, chained-accounts}
+use Rattle.rules.proofs.Statements.{Acts, for-none, for-first, Holds, Replayed, runs}
 
 -- the first of a chain, and an empty one
 head-first : (b : Book) (en : ℕ → ℕ) (s p : ℕ) (ps : List ℕ) → Fits b en s (p ∷ ps) → First b en s p

@@ -5,7 +5,7 @@ use Prim.Native.Nat.{ℕ, _+_}
 use native.Mathlib.Omega.{arith}
 use mathlib.Core.Path.{_≡_, refl, sym, ap, _∙_}
 use mathlib.Core.Logic.{_≢_}
-use mathlib.Core.Bool.{Bool, true, false, cond, _&&_}
+use mathlib.Core.Bool.{Bool, true, false, cond}
 use mathlib.Core.List.{List, [], _∷_, _++_}
 use lib.Dec.{leb}
 use borrow.Author.Tests.{leb-true}
@@ -13,7 +13,6 @@ use Rattle.lists.specs.Lists.{count}
 use Rattle.records.specs.Records.{known, find}
 use Rattle.tracks.specs.Tracks.{nobody, everybody, filled, replaced}
 use Rattle.tracks.proofs.Runs.{run-true, count-freed, count-replaced}
-use Rattle.rules.specs.Book.{Book}
 use Rattle.rules.specs.Requests.{OF, EXEC5, EXEC16, EXEC5ALL, operator, running}
 use Rattle.rules.specs.Plans.{Deed, becomes, priced, loaded, unloaded, timed, Event, on, clocked, held, numbered, renewed, Plan, valuesOf, eventsOf, woken, wake}
 use Rattle.rules.specs.Rules.{frees, ends, dismissed, order, gives, call, head, plan}

@@ -33,3 +33,4 @@ pub mod Keeping
 pub mod SoundCalls
 pub mod SoundRuns
 pub mod Settling
+pub mod Statements

@@ -1,9 +1,8 @@
 -- In what order programs wake: where a track was freed all of chain 5, and then those of chain 3 whose reason is gone; where none was, those of chain 3 alone.
 -- The program that ended is in neither. Assumes nothing.
-use Prim.Native.Nat.{ℕ, _≤_}
-use mathlib.Core.Path.{_≡_, refl}
-use mathlib.Core.List.{List, _++_}
-use lib.Dec.{ltb}
+use Prim.Native.Nat.{_≤_}
+use mathlib.Core.Path.{_≡_}
+use mathlib.Core.List.{_++_}
 use borrow.Author.Tests.{lt-ltb, le-ltb}
 use Rattle.lists.specs.Lists.{remove}
 use Rattle.rules.specs.Plans.{View, Release, fromGeneral, woken}

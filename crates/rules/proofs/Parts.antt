@@ -20,7 +20,7 @@ use Rattle.records.specs.Numbers.{numberAt}
 use Rattle.rules.specs.Book.{at, whyOf}
 use Rattle.rules.specs.Requests.{Order, RU, SS, GO, PR, OF, Call, EXEC4, EXEC15, EXEC5, EXEC16, EXEC5ALL, EXEC6, EXEC7, EXEC11, EXEC9, EXEC10, EXEC12, ALLOC, LOCK, CLEAR, FREE, Request, FRESH, LOAD, operator, TICK, running}
 use Rattle.rules.specs.Plans.{Deed, becomes, timed, unloaded, Event, on, clocked, held, numbered, renewed, Plan, refused, done, releasing, waiting, nothing, releaseOf, View, eventsOf, need, either, found, Release, awaits, woken, wake}
-use Rattle.rules.specs.Rules.{named, inside, waits, frees, dismissed, order, dueAt, ticked, takes, gives, allocated, call, head, asCaller, plan}
+use Rattle.rules.specs.Rules.{named, inside, waits, dismissed, order, dueAt, ticked, takes, gives, allocated, call, head, asCaller, plan}
 use Rattle.rules.specs.Frame.{Party, calls, takes-name, ordered, son, started, due, Woken, tracks-freed, reason-gone}
 use Rattle.rules.specs.Frame as party
 use Rattle.rules.proofs.Places.{all-in}

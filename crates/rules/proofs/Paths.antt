@@ -1,13 +1,12 @@
 -- One step of each part of a rule: where its test is passed, and where it is failed. What a request comes to is read off these, test by test.
 -- Assumes nothing.
-use Prim.Native.Nat.{ℕ, _≤_, _<_}
+use Prim.Native.Nat.{ℕ, _≤_}
 use native.Mathlib.Omega.{arith}
-use mathlib.Core.Path.{_≡_, refl, sym, ap, _∙_}
+use mathlib.Core.Path.{_≡_, ap, _∙_}
 use mathlib.Core.Logic.{_≢_}
 use mathlib.Core.Bool.{Bool, true, false}
 use mathlib.Core.List.{List, [], _∷_}
 use mathlib.Core.Option.{Option, none, some}
-use lib.Dec.{leb, ltb, eqb}
 use borrow.Author.Tests.{eq-eqb, ne-eqb, lt-ltb, le-ltb}
 use Rattle.lists.specs.Lists.{upTo}
 use Rattle.records.specs.declared.Resource.{Resource}
@@ -16,7 +15,7 @@ use Rattle.records.specs.Names.{legal}
 use Rattle.records.specs.Records.{find}
 use Rattle.records.specs.Numbers.{numberAt}
 use Rattle.rules.specs.Book.{stateOf}
-use Rattle.rules.specs.Plans.{Plan, refused, done, waiting, View, on, becomes, need, either, found}
+use Rattle.rules.specs.Plans.{Plan, refused, waiting, View, on, becomes, need, either, found}
 use Rattle.rules.specs.Rules.{named, inside, waits, allocated, head, asCaller}
 
 -- tests

@@ -1,21 +1,19 @@
 -- Laws of the programs' numbers and of the records at them: a record that is put stands at its place and leaves the others.
 -- Assumes nothing.
-use Prim.Native.Nat.{ℕ, zero, suc, _+_, _-_, _≤_, _<_}
+use Prim.Native.Nat.{ℕ, zero, suc, _-_, _≤_, _<_}
 use native.Mathlib.Omega.{arith}
-use native.Mathlib.Decide.{ℕ-discrete}
-use mathlib.Core.Path.{_≡_, refl, sym, ap, _∙_}
+use mathlib.Core.Path.{_≡_, refl, _∙_}
 use mathlib.Core.Logic.{_≢_}
-use mathlib.Core.Bool.{Bool, true, false, cond, _&&_}
-use mathlib.Core.List.{List, [], _∷_}
-use lib.ListN.{length, getD, set, length-set, replicate}
+use mathlib.Core.Bool.{Bool, true, false, _&&_}
+use lib.ListN.{length, getD, length-set, replicate}
 use lib.Seq.{getD-set-same, getD-set-other}
 use lib.Dec.{leb}
 use borrow.Author.Tests.{leb-true, le-leb}
-use Rattle.lists.specs.Lists.{count, from}
+use Rattle.lists.specs.Lists.{count}
 use Rattle.lists.proofs.Laws.{count-from, from-in, from-once}
 use Rattle.records.specs.declared.Program.{Program}
 use Rattle.records.specs.Records.{Known, known, all, missing, unused}
-use Rattle.rules.specs.Book.{Book, at, stateOf, prioOf, put}
+use Rattle.rules.specs.Book.{Book, at, put}
 
 -- the test and the fact
 pub known-true : (p : ℕ) → known p ≡ true → Known p

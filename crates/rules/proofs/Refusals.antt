@@ -9,9 +9,9 @@ use Rattle.lists.proofs.Tests.{upTo-true}
 use Rattle.rules.specs.Requests.{Request}
 use Rattle.rules.specs.Plans.{Plan, refused, done, releasing, waiting, View, numberOf, eventsOf}
 use Rattle.rules.specs.Rules.{plan}
-use Rattle.rules.specs.Refusals.{Answered}
-use Rattle.rules.specs.Keeper.{Keeper, State, play, view, scheduled, asks, after, runs}
+use Rattle.rules.specs.Keeper.{Keeper, State, play, view, scheduled, asks}
 use Rattle.rules.proofs.Parts.{Listed, plan-of}
+use Rattle.rules.proofs.Statements.{Answered, runs}
 
 plan-listed : (v : View) (c : List ℕ) (q : Request) → Listed (plan v c q)
 plan-listed v c q =

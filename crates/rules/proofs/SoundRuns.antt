@@ -17,7 +17,7 @@ use Rattle.tracks.specs.Tracks.{nobody, replaced}
 use Rattle.rules.specs.Requests.{Order, RU, SS, GO, PR, OF, Request, FRESH, LOAD, operator, TICK, running}
 use Rattle.rules.specs.Plans.{priced, loaded, on, Release}
 use Rattle.rules.specs.Rules.{allowed, order, call, endsIn, ends, sizes, plan}
-use Rattle.rules.specs.Keeper.{lists, State, step, view, scheduled, after, runs}
+use Rattle.rules.specs.Keeper.{lists, State, step, view, scheduled, after}
 use Rattle.rules.specs.Sound.{Sound}
 use Rattle.rules.proofs.Finding.{find-none, unused-known, unused-is}
 use Rattle.rules.proofs.Fine.{Fine, fine-sound}
@@ -30,6 +30,7 @@ use Rattle.rules.proofs.Ticking.{tick-fine}
 use Rattle.rules.proofs.SoundFresh.{sound-fresh}
 use Rattle.rules.proofs.Keeping.{Keeps, strict, before, keeps-done, keeps-releasing, keeps-need, keeps-named, keeps-inside, keeps-caller, become-fine}
 use Rattle.rules.proofs.SoundCalls.{keeps-call}
+use Rattle.rules.proofs.Statements.{runs}
 
 module _ (a : State lists) (S : Sound a) where
   keeps-order : (o : Order) → allowed o ≡ true → (p : ℕ) → Callable (a .book .programs) p → Keeps a (order (view lists a) o p)

@@ -1,7 +1,7 @@
 -- The book: everything that the executive keeps but the order of its chains (01, "The tables").
 -- Assumes nothing.
 use Prim.Native.Nat.{ℕ, _-_}
-use mathlib.Core.List.{List, [], _∷_, _++_}
+use mathlib.Core.List.{List, _++_}
 use lib.ListN.{getD, set, replicate}
 use Rattle.records.specs.declared.Program.{Program}
 use Rattle.records.specs.declared.Resource.{Resource}
@@ -37,50 +37,30 @@ whyOf b p = at b p .why
 abbrev pub holderOf : Book → ℕ → ℕ
 holderOf b i = getD (b .holders) i nobody
 
--- the book with another record of program p, another clock, other holders, other numbers
-abbrev pub put : ℕ → Program → Book → Book
-put p r b = record {
-  programs = set (b .programs) (p - 1) r;
-  clock = b .clock;
-  tracks = b .tracks;
-  system = b .system;
-  numbers = b .numbers;
-  holders = b .holders;
-  resources = b .resources;
-}
-
-abbrev pub withClock : ℕ → Book → Book
-withClock c b = record {
-  programs = b .programs;
+-- the book with other records, another clock, other holders, other numbers
+abbrev pub altered : Book → List Program → ℕ → List ℕ → List Resource → Book
+altered b ps c hs rs = record {
+  programs = ps;
   clock = c;
   tracks = b .tracks;
   system = b .system;
   numbers = b .numbers;
-  holders = b .holders;
-  resources = b .resources;
+  holders = hs;
+  resources = rs;
 }
+
+-- another record of program p; and each of the other three
+abbrev pub put : ℕ → Program → Book → Book
+put p r b = altered b (set (b .programs) (p - 1) r) (b .clock) (b .holders) (b .resources)
+
+abbrev pub withClock : ℕ → Book → Book
+withClock c b = altered b (b .programs) c (b .holders) (b .resources)
 
 abbrev pub withHolders : List ℕ → Book → Book
-withHolders h b = record {
-  programs = b .programs;
-  clock = b .clock;
-  tracks = b .tracks;
-  system = b .system;
-  numbers = b .numbers;
-  holders = h;
-  resources = b .resources;
-}
+withHolders h b = altered b (b .programs) (b .clock) h (b .resources)
 
 abbrev pub withResources : List Resource → Book → Book
-withResources r b = record {
-  programs = b .programs;
-  clock = b .clock;
-  tracks = b .tracks;
-  system = b .system;
-  numbers = b .numbers;
-  holders = b .holders;
-  resources = r;
-}
+withResources r b = altered b (b .programs) (b .clock) (b .holders) r
 
 -- clock 0, no record used, every track from S up and every number free (01, FRESH)
 abbrev pub freshBook : ℕ → ℕ → ℕ → Book

@@ -1,10 +1,10 @@
 -- Ways of keeping the order of chains, and what a request comes to under each.
 -- Assumes nothing.
-use Prim.Native.Nat.{ℕ, zero, suc, _+_, _-_, _≤_, _<_}
-use mathlib.Core.Bool.{Bool, true, false, cond}
-use mathlib.Core.List.{List, [], _∷_, _++_}
+use Prim.Native.Nat.{ℕ, suc}
+use mathlib.Core.Bool.{Bool, cond}
+use mathlib.Core.List.{List, [], _∷_}
 use lib.ListN.{getD, set, replicate}
-use lib.Dec.{leb, ltb, eqb}
+use lib.Dec.{leb, eqb}
 use Rattle.lists.specs.Lists.{keep, insertBy, insert, remove}
 use Rattle.records.specs.declared.Program.{Program}
 use Rattle.records.specs.declared.Why.{Why}
@@ -12,7 +12,7 @@ use Rattle.records.specs.declared.Why.the-variants.{Nothing}
 use Rattle.records.specs.Records.{known, all, unused, newcomer, inState, withPriority, withTimer}
 use Rattle.rules.specs.Book.{Book, at, stateOf, prioOf, whyOf, put, withClock, withHolders, withResources, freshBook}
 use Rattle.rules.specs.Requests.{Request}
-use Rattle.rules.specs.Plans.{Deed, becomes, priced, loaded, unloaded, timed, Event, on, clocked, held, numbered, renewed, Plan, View, numberOf, valuesOf, eventsOf}
+use Rattle.rules.specs.Plans.{Deed, becomes, priced, loaded, unloaded, timed, Event, on, clocked, held, numbered, renewed, Plan, View, eventsOf}
 use Rattle.rules.specs.Rules.{plan}
 
 -- What is kept of the order; the chain of a state, lowest first; what entering a chain and leaving it do to what is kept.
@@ -120,12 +120,3 @@ module _ (K : Keeper) where
 
   abbrev pub after : State → Request → State
   after t q = play (eventsOf (view t) (asks t q)) t
-
-  -- a run of requests, its numbers and values
-  abbrev pub runs : State → List Request → State
-  runs t [] = t
-  runs t (q ∷ qs) = runs (after t q) qs
-
-  abbrev pub answers : State → List Request → List (ℕ × List ℕ)
-  answers t [] = []
-  answers t (q ∷ qs) = (numberOf (asks t q), valuesOf (asks t q)) ∷ answers (after t q) qs

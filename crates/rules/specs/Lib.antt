@@ -10,5 +10,4 @@ pub mod Test
 pub mod Replay
 pub mod Frame
 pub mod Counts
-pub mod Refusals
 pub mod Claims

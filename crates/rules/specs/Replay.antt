@@ -1,17 +1,14 @@
 -- What demand 3 says of the chains: the history replayed with no chain kept notes each program's state, its priority, and when it last entered its chain.
 -- Assumes nothing.
-use Prim.Native.Nat.{ℕ, zero, suc, _≤_, _<_}
+use Prim.Native.Nat.{ℕ, _≤_, _<_}
 use mathlib.Core.Path.{_≡_}
 use mathlib.Core.Logic.{_≢_}
-use mathlib.Core.List.{List, [], _∷_}
+use mathlib.Core.List.{List, []}
 use lib.ListN.{getD}
 use Rattle.lists.specs.Lists.{same, count, Ascending}
 use Rattle.records.specs.Records.{Known}
 use Rattle.rules.specs.Book.{Book, stateOf, prioOf}
-use Rattle.rules.specs.Requests.{Call, Request, running}
-use Rattle.rules.specs.Plans.{refused}
-use Rattle.rules.specs.Rules.{call}
-use Rattle.rules.specs.Keeper.{lists, Entries, entries, sorted, State, view, asks, runs, answers}
+use Rattle.rules.specs.Keeper.{lists, Entries, State}
 
 -- p comes before q: the lower priority number, and the earlier entry among equals
 abbrev pub Before : (ℕ → ℕ) → (ℕ → ℕ) → ℕ → ℕ → Type 0
@@ -34,21 +31,3 @@ pub record First (b : Book) (en : ℕ → ℕ) (s p : ℕ) : Type 0 where
   pub known : Known p
   pub there : stateOf b p ≡ s
   pub least : (z : ℕ) → Known z → stateOf b z ≡ s → z ≢ p → Before (prioOf b) en p z
-
--- a call of the running program acts for the first of those in state 1; where there is none it is refused
-pub data Acts (a : State lists) (en : ℕ → ℕ) (c : Call) : Type 0 where
-  for-none : ((z : ℕ) → Known z → stateOf (a .book) z ≢ 1) → asks lists a (running c) ≡ refused 2 0 → Acts a en c
-  for-first : (p : ℕ) → First (a .book) en 1 p → asks lists a (running c) ≡ call (view lists a) p c → Acts a en c
-
--- the chains a, and the replay t that keeps none
-pub record Holds (a : State lists) (t : State entries) : Type 0 where
-  pub book : t .book ≡ a .book
-  pub accounts : Accounts a (t .kept)
-  pub sorts : (s : ℕ) → 1 ≤ s → s < 7 → Fits (a .book) (t .kept .entry) s (sorted (a .book) (t .kept) s)
-  pub chains : (s : ℕ) → 1 ≤ s → s < 7 → getD (a .kept) s [] ≡ sorted (a .book) (t .kept) s
-  pub acts : (c : Call) → Acts a (t .kept .entry) c
-
--- the same after a run of requests, which have the same answers
-pub record Replayed (a : State lists) (t : State entries) (qs : List Request) : Type 0 where
-  pub holds : Holds (runs lists a qs) (runs entries t qs)
-  pub answered : answers lists a qs ≡ answers entries t qs

@@ -1,7 +1,7 @@
 -- The outline's rules, each once, its tests in the order 2, 3, 4, 6, 7, 10, 9, 5, 8, 11 (01, "Answer numbers"). 14, 13 and 12 are tested where the tables, the line and the buffer are.
 -- Assumes nothing.
-use Prim.Native.Nat.{ℕ, zero, suc, _+_, _-_, _*_}
-use mathlib.Core.Bool.{Bool, true, false, cond, not, _&&_, _||_}
+use Prim.Native.Nat.{ℕ, _+_, _*_}
+use mathlib.Core.Bool.{Bool, true, false, cond, _&&_, _||_}
 use mathlib.Core.List.{List, [], _∷_, _++_, map}
 use lib.ListN.{length, drop}
 use lib.Dec.{leb, ltb, eqb}
@@ -15,9 +15,9 @@ use Rattle.records.specs.Names.{legal}
 use Rattle.records.specs.Records.{all, find, lowestUnused}
 use Rattle.records.specs.Numbers.{globally, numberAt, withNumber, concerns, without}
 use Rattle.tracks.specs.Tracks.{nobody, everybody, run, lowest, filled, replaced}
-use Rattle.rules.specs.Book.{Book, at, stateOf, prioOf, whyOf}
+use Rattle.rules.specs.Book.{Book, at, stateOf, prioOf}
 use Rattle.rules.specs.Requests.{Order, RU, SS, GO, PR, OF, Call, EXEC4, EXEC15, EXEC5, EXEC16, EXEC5ALL, EXEC6, EXEC7, EXEC11, EXEC9, EXEC10, EXEC12, ALLOC, LOCK, CLEAR, FREE, Request, FRESH, LOAD, operator, TICK, running}
-use Rattle.rules.specs.Plans.{Deed, becomes, priced, loaded, unloaded, timed, Event, on, clocked, held, numbered, renewed, Release, Plan, refused, done, releasing, waiting, View, woken, need, either, found}
+use Rattle.rules.specs.Plans.{becomes, priced, loaded, unloaded, timed, Event, on, clocked, held, numbered, renewed, Release, Plan, refused, done, releasing, waiting, View, woken, need, either, found}
 
 -- the program of that name: 3 where the name is not legal, 4 where there is none
 unfoldable pub named : View → List ℕ → (ℕ → Plan) → Plan

@@ -1,9 +1,9 @@
 -- The clauses of soundness as tests that compute. Each says what its clause says (proofs/ of the tables shows it).
 -- Assumes nothing.
-use Prim.Native.Nat.{ℕ, zero, suc, _+_, _≤_, _<_}
+use Prim.Native.Nat.{ℕ, _+_}
 use mathlib.Core.Bool.{Bool, true, false, not, _&&_, _||_, Bool·beq}
 use mathlib.Core.List.{List, [], _∷_}
-use lib.ListN.{length, getD}
+use lib.ListN.{getD}
 use lib.Dec.{leb, ltb, eqb}
 use Rattle.lists.specs.Lists.{same, count, every, along, from, upTo, alike}
 use Rattle.clock.specs.Clock.{ceiling, farthest}

@@ -10,8 +10,8 @@ use Rattle.rules.specs.Book.{Book}
 use Rattle.rules.specs.Requests.{EXEC4, EXEC15, OF, EXEC5, EXEC16, EXEC5ALL, EXEC6, CLEAR, FREE, Request, operator, TICK, running}
 use Rattle.rules.specs.Plans.{Plan, numberOf, valuesOf, refused, eventsOf}
 use Rattle.rules.specs.Keeper.{lists, State, asks, after, view}
-use Rattle.rules.specs.Claims.{Gained, Claimed}
-use Rattle.rules.specs.Counts.{Freed, Done, TellsFreed, TellsAwoken, TellsRoused, awoken, roused, Counts}
+use Rattle.rules.specs.Claims.{Gained}
+use Rattle.rules.specs.Counts.{Freed, awoken, roused}
 use Rattle.rules.specs.Sound as rules
 use Rattle.rules.proofs.SoundRuns.{sound-after}
 use Rattle.rules.proofs.Claims.{exec4-claims, exec15-claims}
@@ -25,6 +25,7 @@ use Rattle.tables.proofs.Agree.{sound-clauses}
 use Rattle.tables.proofs.Orderly.{orderly-lay, sound-orderly}
 use Rattle.tables.proofs.Plain.{plain-lay, sound-plain, laid-is}
 use Rattle.tables.proofs.Serving.{asked-sound}
+use Rattle.rules.proofs.Statements.{Claimed, Done, TellsFreed, TellsAwoken, TellsRoused, Counts}
 
 module _ (t : Tables) (A : Arrays t) (e : sound t ≡ true) where
   -- what is handed back, by the rule

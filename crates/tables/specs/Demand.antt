@@ -1,6 +1,6 @@
 -- What demand 2 says of claims and counts, of the tables themselves.
 -- Assumes nothing.
-use Prim.Native.Nat.{ℕ, _+_, _≤_}
+use Prim.Native.Nat.{ℕ, _+_}
 use mathlib.Core.Path.{_≡_}
 use mathlib.Core.Logic.{_≢_}
 use mathlib.Core.Bool.{cond}
@@ -11,7 +11,7 @@ use Rattle.records.specs.declared.Why.the-variants.{Nothing, Son}
 use Rattle.records.specs.Records.{Known, find, inState, withTimer}
 use Rattle.tracks.specs.Tracks.{LowestRun}
 use Rattle.rules.specs.Book.{at, stateOf, whyOf}
-use Rattle.rules.specs.Requests.{OF, EXEC5, EXEC16, EXEC5ALL, EXEC6, CLEAR, FREE, Request, operator, TICK, running}
+use Rattle.rules.specs.Requests.{OF, EXEC5, EXEC16, EXEC5ALL, EXEC6, CLEAR, FREE, operator, TICK, running}
 use Rattle.rules.specs.Claims.{NoRun, Gained}
 use Rattle.rules.specs.Counts.{Freed, awoken, roused}
 use Rattle.tables.specs.declared.Tables.{Tables}

@@ -3,10 +3,9 @@
 use Prim.Native.Nat.{ℕ, _+_, _-_, _≤_, _<_}
 use mathlib.Core.Path.{_≡_}
 use mathlib.Core.Logic.{_≢_}
-use mathlib.Core.Bool.{Bool, true, cond}
+use mathlib.Core.Bool.{Bool, true}
 use mathlib.Core.List.{List, [], _∷_}
 use lib.ListN.{length, getD, set, take}
-use lib.Dec.{eqb}
 use Rattle.lists.specs.Lists.{count}
 use Rattle.records.specs.declared.Program.{Program}
 use Rattle.records.specs.declared.Numbers.{Numbers}
@@ -18,9 +17,9 @@ use Rattle.tracks.specs.Tracks.{holders}
 use Rattle.tracks.specs.Inner as tracks
 use Rattle.rules.specs.Book.{stateOf, prioOf}
 use Rattle.rules.specs.Requests.{Call}
-use Rattle.rules.specs.Plans.{Event, Plan, done, on, becomes, timed, numberOf, valuesOf, eventsOf}
-use Rattle.rules.specs.Rules.{named, inside, head, call}
-use Rattle.rules.specs.Keeper.{lists, Entries, State, play, view, scheduled}
+use Rattle.rules.specs.Plans.{Event, Plan, done, on, becomes}
+use Rattle.rules.specs.Rules.{named, inside, call}
+use Rattle.rules.specs.Keeper.{lists, Entries, State, play, view}
 use Rattle.rules.specs.Replay.{Accounts}
 use Rattle.chains.specs.Links.{read}
 use Rattle.chains.specs.Inner.{Laid}

@@ -5,7 +5,7 @@ use mathlib.Core.Bool.{Bool}
 use mathlib.Core.List.{[], _∷_}
 use lib.ListN.{length}
 use Rattle.records.specs.Inner as numbers
-use Rattle.rules.specs.Plans.{Plan, done, wake, woken, releasing}
+use Rattle.rules.specs.Plans.{Plan, woken, releasing}
 use Rattle.rules.specs.Rules.{number, clears}
 use Rattle.rules.specs.Keeper.{lists, view}
 use Rattle.tables.specs.declared.Tables.{Tables}
