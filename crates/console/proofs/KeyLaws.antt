@@ -89,7 +89,7 @@ module _ (t : Tables) (ready : Ready t) (T S R : ℕ) where
   plan-renewing : (b : Bool) → planned t (need b 3 0 (done (0 ∷ []) (renewed T S R ∷ []))) ≡ renewing b t T S R
   unfolding need step
   plan-renewing true = refl
-  plan-renewing false = let e = orderly-lay t (ready .orderly) in λ i. record { number = 3; values = 0 ∷ []; tables = e i }
+  plan-renewing false = refl
 
   asked-renewing : asked t (FRESH T S R) ≡ renewing (sizes T S R) t T S R
   unfolding plan

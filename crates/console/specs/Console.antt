@@ -3,7 +3,6 @@
 use Prim.Native.Nat.{ℕ}
 use mathlib.Core.Bool.{Bool, true, false}
 use mathlib.Core.List.{List, [], _∷_}
-use Rattle.console.specs.Console.{keyedIn}
 use Rattle.rules.specs.Engine.{Handed, notSound, beside, Engine, pagedIn}
 use Rattle.tables.specs.declared.Tables.{Tables}
 use Rattle.page.specs.Paging.{Written, linked}
