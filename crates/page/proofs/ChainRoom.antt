@@ -16,7 +16,7 @@ use Rattle.records.specs.Records.{known, all}
 use Rattle.rules.specs.Book.{Book, stateOf}
 use Rattle.rules.specs.Sound.{Chains}
 use Rattle.rules.proofs.Places.{known-true, known-is, all-one}
-use Rattle.page.specs.Page.{chained}
+use Rattle.page.specs.Page.{chained, chainLines}
 use Rattle.page.proofs.Weights.{weigh, weigh-fewer, weigh-append}
 
 -- a program's number and a comma
@@ -82,9 +82,9 @@ module _ (b : Book) (m : List (List ℕ)) (C : Chains b m) where
   written-weigh : weigh mark written ≡ weigh mark (getD m 1 []) + weigh mark (getD m 3 []) + weigh mark (getD m 5 []) + weigh mark (getD m 6 [])
   written-weigh = simp (weigh-append mark) (omega arith)
 
-  pub chain-room : length (chained "chain1" (getD m 1 [])) + length (chained "chain3" (getD m 3 [])) + length (chained "chain5" (getD m 5 []))
-      + length (chained "chain6" (getD m 6 [])) ≤ 119
-  chain-room = omega (
+  pub chain-room : length (chainLines m) ≤ 119
+  unfolding chainLines
+  chain-room = simp length-append (omega (
     arith,
     chained-length "chain1" (getD m 1 []),
     chained-length "chain3" (getD m 3 []),
@@ -93,4 +93,4 @@ module _ (b : Book) (m : List (List ℕ)) (C : Chains b m) where
     written-weigh,
     weigh-fewer mark written all written-once,
     marks-weigh,
-  )
+  ))

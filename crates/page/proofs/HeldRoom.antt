@@ -15,7 +15,7 @@ use Rattle.text.specs.Text.{text, digits, decimal, entry}
 use Rattle.text.proofs.Laws.{entry-length}
 use Rattle.records.specs.Numbers.{globally}
 use Rattle.tracks.specs.Tracks.{nobody, system}
-use Rattle.page.specs.Page.{Run, party, joined, runsOf, heldLine}
+use Rattle.page.specs.Page.{Run, party, joined, runsOf, heldLine, heldLines}
 use Rattle.page.proofs.Widths.{decimal-rise, gain, gain-most, party-length}
 use Rattle.page.proofs.Weights.{weigh, weigh-from}
 
@@ -75,11 +75,11 @@ gain-apart h k n = go (eqb h globally) (eqb k globally) refl refl
     go false false a b = omega arith
 
 -- RUNS
-abbrev heldLines : List Run → List ℕ
-heldLines gs = join (map heldLine gs)
+abbrev linesOf : List Run → List ℕ
+linesOf gs = join (map heldLine gs)
 
-lines-length : (g : Run) (gs : List Run) → length (heldLines (g ∷ gs)) ≡ length (heldLine g) + length (heldLines gs)
-lines-length g gs = length-append (heldLine g) (heldLines gs)
+lines-length : (g : Run) (gs : List Run) → length (linesOf (g ∷ gs)) ≡ length (heldLine g) + length (linesOf gs)
+lines-length g gs = length-append (heldLine g) (linesOf gs)
 
 -- the first run begins at i or behind it; what it wants
 abbrev Behind : ℕ → List Run → Type 0
@@ -97,7 +97,7 @@ want-most (g ∷ gs) = gain-most (g .holder)
 -- the runs of n tracks from i on
 record Fits (i n : ℕ) (gs : List Run) : Type 0 where
   begin : Behind i gs
-  room : length (heldLines gs) ≤ weigh track (from i n) + want gs
+  room : length (linesOf gs) ≤ weigh track (from i n) + want gs
 
 joined-fits : (i h n : ℕ) (gs : List Run) → h ≤ system → Fits (suc i) n gs → Fits i (suc n) (joined i h gs)
 joined-fits i h n [] b F = record { begin = omega arith; room = omega (arith, lines-length (run i i h) [], alone i h b, gain-most h) }
@@ -117,5 +117,6 @@ runs-fit : (i : ℕ) (hs : List ℕ) → ((k : ℕ) → k < length hs → getD h
 runs-fit i [] b = record { begin = tt; room = omega arith }
 runs-fit i (h ∷ hs) b = joined-fits i h (length hs) (runsOf (suc i) hs) (b 0 (omega arith)) (runs-fit (suc i) hs (λ k l. b (suc k) (omega arith)))
 
-pub held-room : (hs : List ℕ) → length hs ≤ 256 → ((k : ℕ) → k < length hs → getD hs k nobody ≤ system) → length (join (map heldLine (runsOf 0 hs))) ≤ 4390
+pub held-room : (hs : List ℕ) → length hs ≤ 256 → ((k : ℕ) → k < length hs → getD hs k nobody ≤ system) → length (heldLines hs) ≤ 4390
+unfolding heldLines
 held-room hs l b = omega (arith, runs-fit 0 hs b .room, want-most (runsOf 0 hs), tracks-weigh (length hs) l)

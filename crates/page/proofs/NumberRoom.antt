@@ -4,10 +4,10 @@ use Prim.Native.Nat.{ℕ, _+_, _≤_}
 use native.Mathlib.Omega.{arith}
 use mathlib.Core.Path.{_≡_, refl}
 use mathlib.Core.Bool.{Bool, true, false, cond}
-use mathlib.Core.List.{List, [], _++_, map}
+use mathlib.Core.List.{List, [], _++_}
 use lib.ListN.{length, length-append}
 use lib.Dec.{eqb, ltb}
-use Rattle.lists.specs.Lists.{count, from, join}
+use Rattle.lists.specs.Lists.{count, from}
 use Rattle.lists.proofs.Laws.{from-in}
 use Rattle.text.specs.Text.{text, digits, decimal, entry}
 use Rattle.text.proofs.Laws.{entry-length}
@@ -15,7 +15,7 @@ use Rattle.records.specs.declared.Resource.{Resource}
 use Rattle.records.specs.Numbers.{globally, numberAt}
 use Rattle.rules.specs.Book.{Book}
 use Rattle.rules.specs.Sound.{Limits}
-use Rattle.page.specs.Page.{party, orDash, numberLine}
+use Rattle.page.specs.Page.{party, orDash, numberLine, numberLines}
 use Rattle.page.proofs.Widths.{gain-most, party-length, orDash-length}
 use Rattle.page.proofs.Weights.{weigh, weigh-from, lines-weigh}
 
@@ -48,7 +48,8 @@ numbers-weigh : (n : ℕ) → n ≤ 16 → weigh number (from 1 n) ≤ 311
 unfolding decimal digits
 numbers-weigh n h = weigh-from number 1 n 16 311 h refl
 
-pub number-room : (b : Book) → Limits b → length (join (map (λ r. numberLine r (numberAt (b .resources) r)) (from 1 (b .numbers)))) ≤ 311
+pub number-room : (b : Book) → Limits b → length (numberLines (b .numbers) (b .resources)) ≤ 311
+unfolding numberLines
 number-room b L =
     omega (arith, lines-weigh number (λ r. numberLine r (numberAt (b .resources) r)) (from 1 (b .numbers)) each, numbers-weigh (b .numbers) (L .few))
   where

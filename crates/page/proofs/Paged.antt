@@ -8,13 +8,11 @@ use mathlib.Core.List.{List, [], _∷_, _++_, map, append-assoc, append-nil}
 use lib.ListN.{length, getD, take}
 use Rattle.lists.specs.Lists.{join}
 use Rattle.text.specs.Text.{text, decimal, between, entry}
-use Rattle.records.specs.Records.{all}
 use Rattle.chains.specs.Links.{walk, read}
 use Rattle.chains.proofs.Reading.{getD-read}
 use Rattle.tables.specs.declared.Tables.{Tables}
 use Rattle.tables.specs.Tables.{plain}
-use Rattle.page.specs.Page.{chained, usedOnes, heading, page}
-use Rattle.page.specs.Inner.{headLines, usedIn, recordLines, chainLines, heldLines, numberLines}
+use Rattle.page.specs.Page.{headLines, usedIn, recordLines, chained, chainLines, heldLines, numberLines, page}
 
 -- the chain of state k, as the links have it
 abbrev pub row : List ℕ → String → ℕ → List ℕ
@@ -30,7 +28,7 @@ chained-row l key k h = ap (λ (c : List ℕ). entry (text key) (between 44 (map
 four : (a b c d : List ℕ) → a ++ b ++ c ++ d ≡ join (a ∷ b ∷ c ∷ d ∷ [])
 four a b c d = simp (append-assoc, append-nil)
 
-pub chain-rows : (l : List ℕ) → chainLines l ≡ join (rows l)
+pub chain-rows : (l : List ℕ) → chainLines (read l) ≡ join (rows l)
 unfolding chainLines
 chain-rows l =
     ap₂ _++_
@@ -46,27 +44,23 @@ sheets t =
     let g = t .ledger in
     headLines (g .clock .ticks) (g .tracks .count) (g .tracks .system) (g .numbers .count) (length (usedIn (g .programs)))
     ∷ recordLines (g .programs)
-    ∷ chainLines (t .links)
+    ∷ chainLines (read (t .links))
     ∷ heldLines (take (g .tracks .count) (g .tracks .holders))
     ∷ numberLines (g .numbers .count) (take (g .numbers .count) (g .numbers .resources))
     ∷ entry (text "end") (text "page")
     ∷ []
 
-regroup : (h r a b c d k n e : List ℕ) → h ++ r ++ a ++ b ++ c ++ d ++ k ++ n ++ e ≡ join (h ∷ r ∷ (a ++ b ++ c ++ d) ∷ k ∷ n ∷ e ∷ [])
-regroup h r a b c d k n e = simp (append-assoc, append-nil)
+six : (a b c d e f : List ℕ) → a ++ b ++ c ++ d ++ e ++ f ≡ join (a ∷ b ∷ c ∷ d ∷ e ∷ f ∷ [])
+six a b c d e f = simp (append-assoc, append-nil)
 
 pub page-sheets : (t : Tables) → page (plain t) ≡ join (sheets t)
-unfolding page heading usedOnes headLines usedIn recordLines chainLines heldLines numberLines all
+unfolding page
 page-sheets t =
     let g = t .ledger in
-    let m = read (t .links) in
-    regroup
+    six
     (headLines (g .clock .ticks) (g .tracks .count) (g .tracks .system) (g .numbers .count) (length (usedIn (g .programs))))
     (recordLines (g .programs))
-    (chained "chain1" (getD m 1 []))
-    (chained "chain3" (getD m 3 []))
-    (chained "chain5" (getD m 5 []))
-    (chained "chain6" (getD m 6 []))
+    (chainLines (read (t .links)))
     (heldLines (take (g .tracks .count) (g .tracks .holders)))
     (numberLines (g .numbers .count) (take (g .numbers .count) (g .numbers .resources)))
     (entry (text "end") (text "page"))

@@ -5,24 +5,25 @@ use native.Mathlib.Omega.{arith}
 use native.Mathlib.Decide.{ℕ-discrete}
 use mathlib.Core.Path.{_≡_, refl}
 use mathlib.Core.Bool.{Bool, true, false, not, _&&_, _||_}
-use mathlib.Core.List.{List, [], _∷_, map}
+use mathlib.Core.List.{List, [], _∷_}
 use lib.ListN.{length, length-append}
 use lib.Dec.{eqb, ltb}
 use borrow.Author.Tests.{eqb-true}
-use Rattle.lists.specs.Lists.{count, upTo, join}
+use Rattle.lists.specs.Lists.{count, upTo}
 use Rattle.lists.proofs.Laws.{keep-in, keep-le}
 use Rattle.lists.proofs.Tests.{false-true, both, upTo-true}
 use Rattle.text.specs.Text.{text, digits, decimal}
 use Rattle.text.proofs.Laws.{entry-length, decimal-length}
 use Rattle.clock.specs.Clock.{ceiling, farthest}
+use Rattle.records.specs.declared.Program.{Program}
 use Rattle.records.specs.declared.Why.{Why}
 use Rattle.records.specs.declared.Why.the-variants.{Nothing, Tracks, Son, Lock, Number}
 use Rattle.records.specs.Names.{letter, rest, blank, legal, bare}
-use Rattle.records.specs.Records.{Known, known, all}
+use Rattle.records.specs.Records.{Known, known, all, recordAt}
 use Rattle.rules.specs.Book.{Book, at}
 use Rattle.rules.specs.Sound.{suits, Names, Whys, Limits, Dues}
 use Rattle.rules.proofs.Places.{all-in}
-use Rattle.page.specs.Page.{orDash, reason, usedOnes, recorded}
+use Rattle.page.specs.Page.{orDash, reason, usedIn, recorded, recordLines}
 use Rattle.page.proofs.Widths.{figure-length, orDash-length}
 use Rattle.page.proofs.Weights.{weigh, weigh-fewer, lines-weigh, keep-length}
 
@@ -64,13 +65,13 @@ due-most b L D p P = go (ℕ-discrete (at b p .due) 0)
 
 -- RECORDS
 -- a used one is one of all and is used; no more than there are
-used-in : (b : Book) (p : ℕ) → 1 ≤ count p (usedOnes b) → Known p × (at b p .used ≡ true)
-unfolding usedOnes
-used-in b p h = let k = keep-in (λ q. at b q .used) p all h in (all-in p (k .1), k .0)
+used-in : (ps : List Program) (p : ℕ) → 1 ≤ count p (usedIn ps) → Known p × (recordAt ps p .used ≡ true)
+unfolding usedIn
+used-in ps p h = let k = keep-in (λ q. recordAt ps q .used) p all h in (all-in p (k .1), k .0)
 
-used-fewer : (b : Book) (p : ℕ) → count p (usedOnes b) ≤ count p all
-unfolding usedOnes
-used-fewer b p = keep-le (λ q. at b q .used) p all
+used-fewer : (ps : List Program) (p : ℕ) → count p (usedIn ps) ≤ count p all
+unfolding usedIn
+used-fewer ps p = keep-le (λ q. recordAt ps q .used) p all
 
 abbrev weight : ℕ → ℕ
 weight p = 91 + length (decimal p)
@@ -100,13 +101,14 @@ module _ (b : Book) (N : Names b) (W : Whys b) (L : Limits b) (D : Dues b) where
         orDash-length timer 9 (r .interval) (omega (arith, D .steps p P)),
       ))
 
-  pub record-room : length (join (map (λ p. recorded p (at b p)) (usedOnes b))) ≤ 2967
+  pub record-room : length (recordLines (b .programs)) ≤ 2967
+  unfolding recordLines
   record-room = omega (
     arith,
-    lines-weigh weight (λ p. recorded p (at b p)) (usedOnes b) each,
-    weigh-fewer weight (usedOnes b) all (used-fewer b),
+    lines-weigh weight (λ p. recorded p (at b p)) (usedIn (b .programs)) each,
+    weigh-fewer weight (usedIn (b .programs)) all (used-fewer (b .programs)),
     records-weigh,
   )
     where
-      each : (p : ℕ) → 1 ≤ count p (usedOnes b) → length (recorded p (at b p)) ≤ weight p
-      each p h = let k = used-in b p h in recorded-most p (k .0) (k .1)
+      each : (p : ℕ) → 1 ≤ count p (usedIn (b .programs)) → length (recorded p (at b p)) ≤ weight p
+      each p h = let k = used-in (b .programs) p h in recorded-most p (k .0) (k .1)

@@ -2,37 +2,40 @@
 -- Assumes nothing.
 use Prim.Native.Nat.{_≤_}
 use native.Mathlib.Omega.{arith}
+use mathlib.Core.List.{List}
 use lib.ListN.{length, length-append}
 use Rattle.text.specs.Text.{text}
 use Rattle.text.proofs.Laws.{entry-length}
-use Rattle.records.specs.Records.{all}
-use Rattle.rules.specs.Book.{Book, at}
+use Rattle.records.specs.declared.Program.{Program}
+use Rattle.records.specs.Records.{all, recordAt}
+use Rattle.rules.specs.Book.{Book}
 use Rattle.rules.specs.Keeper.{lists, State}
 use Rattle.rules.specs.Sound.{Sound, Limits}
-use Rattle.page.specs.Page.{usedOnes, heading, page}
+use Rattle.page.specs.Page.{headLines, usedIn, page}
 use Rattle.page.proofs.Widths.{figure-length}
 use Rattle.page.proofs.Weights.{keep-length}
+use Rattle.page.proofs.Writing.{heading-length}
 use Rattle.page.proofs.RecordRoom.{record-room}
 use Rattle.page.proofs.ChainRoom.{chain-room}
 use Rattle.page.proofs.HeldRoom.{held-room}
 use Rattle.page.proofs.NumberRoom.{number-room}
 
-used-length : (b : Book) → length (usedOnes b) ≤ 32
-unfolding usedOnes all
-used-length b = keep-length (λ p. at b p .used) all
+used-length : (ps : List Program) → length (usedIn ps) ≤ 32
+unfolding usedIn all
+used-length ps = keep-length (λ p. recordAt ps p .used) all
 
-heading-room : (b : Book) → Limits b → length (heading b) ≤ 75
-unfolding heading
-heading-room b L =
-    simp length-append (omega (
+head-room : (b : Book) → Limits b → length (headLines (b .clock) (b .tracks) (b .system) (b .numbers) (length (usedIn (b .programs)))) ≤ 75
+head-room b L =
+    omega (
       arith,
+      heading-length (b .clock) (b .tracks) (b .system) (b .numbers) (length (usedIn (b .programs))),
       entry-length (text "page") (text "rte2"),
       figure-length "clock" 12 (b .clock) (omega (arith, L .time)),
       figure-length "tracks" 2 (b .tracks) (omega (arith, L .most)),
       figure-length "system" 2 (b .system) (omega (arith, L .most, L .first)),
       figure-length "numbers" 1 (b .numbers) (omega (arith, L .few)),
-      figure-length "programs" 1 (length (usedOnes b)) (omega (arith, used-length b)),
-    ))
+      figure-length "programs" 1 (length (usedIn (b .programs))) (omega (arith, used-length (b .programs))),
+    )
 
 pub page-length : (a : State lists) → Sound a → length (page a) ≤ 7871
 unfolding page
@@ -40,7 +43,7 @@ page-length a S =
     let b : Book = a .book in
     simp length-append (omega (
       arith,
-      heading-room b (S .limits),
+      head-room b (S .limits),
       record-room b (S .names) (S .whys) (S .limits) (S .dues),
       chain-room b (a .kept) (S .chains),
       held-room (b .holders) (omega (arith, S .shape .holders, S .limits .most)) (λ i h. S .limits .holder i (omega (arith, S .shape .holders))),

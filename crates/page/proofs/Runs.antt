@@ -12,8 +12,8 @@ use lib.Seq.{drop-cons, drop-length}
 use borrow.Author.Tests.{eq-eqb, ne-eqb}
 use Rattle.lists.specs.Lists.{join}
 use Rattle.tracks.specs.Tracks.{nobody}
-use Rattle.page.specs.Page.{Run, joined, runsOf, heldLine}
-use Rattle.page.specs.Inner.{runFrom, heldLines, RunEnd}
+use Rattle.page.specs.Page.{Run, joined, runsOf, heldLine, heldLines}
+use Rattle.page.specs.Inner.{runFrom, RunEnd}
 
 -- the run of h from i to j, and the runs gs behind it: one with the first of them where that is h's too
 abbrev pub grown : ℕ → ℕ → ℕ → List Run → List Run

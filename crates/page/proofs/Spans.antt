@@ -1,6 +1,6 @@
 -- Laws of the parts of a page that repeat: what is left of the used records from program p on, and of the resource numbers behind the first i.
 -- Assumes nothing.
-use Prim.Native.Nat.{ℕ, suc, _+_, _-_, _<_, _≤_}
+use Prim.Native.Nat.{ℕ, _+_, _-_, _<_, _≤_}
 use native.Mathlib.Omega.{arith}
 use mathlib.Core.Path.{_≡_, refl, sym, ap, _∙_}
 use mathlib.Core.Bool.{Bool, true, false, cond}
@@ -14,8 +14,7 @@ use Rattle.records.specs.Records.{all, missing, recordAt}
 use Rattle.records.specs.Numbers.{free, numberAt}
 use Rattle.records.proofs.Find.{at-place}
 use Rattle.records.proofs.Search.{span, span-all, span-next, span-none}
-use Rattle.page.specs.Page.{recorded, numberLine}
-use Rattle.page.specs.Inner.{usedIn, recordLines, numberLines}
+use Rattle.page.specs.Page.{usedIn, recorded, recordLines, numberLine, numberLines}
 
 -- the used records from p on, and their lines
 abbrev pub usedFrom : List Program → ℕ → List ℕ

@@ -6,10 +6,10 @@ use native.Mathlib.Omega.{arith}
 use native.Mathlib.Decide.{decLt}
 use mathlib.Core.Path.{_≡_, ap}
 use mathlib.Core.Bool.{Bool, true, false, cond}
-use mathlib.Core.List.{List, [], _∷_, _++_}
+use mathlib.Core.List.{[], _∷_}
 use lib.ListN.{length, length-append}
 use lib.Dec.{eqb}
-use Rattle.text.specs.Text.{text, digits, decimal, entry}
+use Rattle.text.specs.Text.{text, digits, decimal}
 use Rattle.text.proofs.Laws.{entry-length, ten, digits-small, digits-step, decimal-length}
 use Rattle.records.specs.Numbers.{globally}
 use Rattle.page.specs.Page.{figure, party, orDash}

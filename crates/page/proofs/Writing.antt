@@ -20,8 +20,8 @@ use Rattle.records.specs.declared.Resource.{Resource}
 use Rattle.records.specs.Names.{bare}
 use Rattle.records.specs.Numbers.{globally}
 use Rattle.tracks.specs.Tracks.{nobody, system}
-use Rattle.page.specs.Page.{figure, party, orDash, recorded, heldLine, numberLine}
-use Rattle.page.specs.Inner.{headLines, nameLine, whyLine, runFrom}
+use Rattle.page.specs.Page.{figure, party, orDash, reason, headLines, recorded, heldLine, numberLine}
+use Rattle.page.specs.Inner.{runFrom}
 
 -- what is written, under another name
 pub wrote-as : {l x y l′ : List ℕ} {at n : ℕ} → x ≡ y → Wrote l at y l′ n → Wrote l at x l′ n
@@ -155,13 +155,13 @@ heading-length c T S R n = simp length-append refl
 
 -- a program's lines before its timer's, and one of these
 abbrev pub untimed : ℕ → Program → List ℕ
-untimed p r = figure "id" p ++ nameLine (r .name) ++ figure "priority" (r .priority) ++ figure "state" (r .state) ++ whyLine (r .why)
+untimed p r = figure "id" p ++ entry (text "name") (bare (r .name)) ++ figure "priority" (r .priority) ++ figure "state" (r .state) ++ entry (text "why") (reason (r .why))
 
 abbrev pub timed : String → Program → ℕ → List ℕ
 timed key r n = entry (text key) (orDash (ltb 0 (r .due)) n)
 
 pub recorded-length : (p : ℕ) (r : Program) → length (recorded p r)
-    ≡ length (figure "id" p) + length (nameLine (r .name)) + length (figure "priority" (r .priority)) + length (figure "state" (r .state))
-    + length (whyLine (r .why)) + length (timed "due" r (r .due)) + length (timed "interval" r (r .interval))
-unfolding recorded nameLine whyLine
+    ≡ length (figure "id" p) + length (entry (text "name") (bare (r .name))) + length (figure "priority" (r .priority)) + length (figure "state" (r .state))
+    + length (entry (text "why") (reason (r .why))) + length (timed "due" r (r .due)) + length (timed "interval" r (r .interval))
+unfolding recorded
 recorded-length p r = simp length-append refl

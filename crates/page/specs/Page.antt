@@ -1,8 +1,8 @@
 -- The page of a plain state: lines of key=value, each ended by byte 10, in the outline's order (01, "The page and the console line").
 -- Assumes nothing.
-use Prim.Native.Nat.{ℕ, zero, suc, _+_}
+use Prim.Native.Nat.{ℕ, suc}
 use Prim.Native.String.{String}
-use mathlib.Core.Bool.{Bool, true, false, cond, not, _&&_, _||_}
+use mathlib.Core.Bool.{Bool, cond, _||_}
 use mathlib.Core.List.{List, [], _∷_, _++_, map}
 use lib.ListN.{length, getD}
 use lib.Dec.{eqb, ltb}
@@ -13,10 +13,10 @@ use Rattle.records.specs.declared.Resource.{Resource}
 use Rattle.records.specs.declared.Why.{Why}
 use Rattle.records.specs.declared.Why.the-variants.{Nothing, Tracks, Son, Lock, Number}
 use Rattle.records.specs.Names.{bare}
-use Rattle.records.specs.Records.{all}
+use Rattle.records.specs.Records.{all, recordAt}
 use Rattle.records.specs.Numbers.{globally, numberAt}
 use Rattle.tracks.specs.Tracks.{nobody, system}
-use Rattle.rules.specs.Book.{Book, at}
+use Rattle.rules.specs.Book.{Book}
 use Rattle.rules.specs.Keeper.{lists, State}
 
 -- a line with a number
@@ -38,16 +38,13 @@ reason (Son k) = text "son:" ++ decimal k
 reason (Lock r) = text "lock:" ++ decimal r
 reason Number = text "number"
 
--- the used records, upward
-unfoldable pub usedOnes : Book → List ℕ
-unfolding all
-usedOnes b = keep (λ p. at b p .used) all
+unfoldable pub headLines : ℕ → ℕ → ℕ → ℕ → ℕ → List ℕ
+headLines clock T S R n =
+    entry (text "page") (text "rte2") ++ figure "clock" clock ++ figure "tracks" T ++ figure "system" S ++ figure "numbers" R ++ figure "programs" n
 
-unfoldable pub heading : Book → List ℕ
-unfolding usedOnes
-heading b =
-    entry (text "page") (text "rte2") ++ figure "clock" (b .clock) ++ figure "tracks" (b .tracks) ++ figure "system" (b .system)
-    ++ figure "numbers" (b .numbers) ++ figure "programs" (length (usedOnes b))
+-- the numbers of the used records, upward
+unfoldable pub usedIn : List Program → List ℕ
+usedIn ps = keep (λ p. recordAt ps p .used) all
 
 unfoldable pub recorded : ℕ → Program → List ℕ
 recorded p r =
@@ -55,9 +52,15 @@ recorded p r =
     figure "id" p ++ entry (text "name") (bare (r .name)) ++ figure "priority" (r .priority) ++ figure "state" (r .state)
     ++ entry (text "why") (reason (r .why)) ++ entry (text "due") (orDash timer (r .due)) ++ entry (text "interval") (orDash timer (r .interval))
 
+unfoldable pub recordLines : List Program → List ℕ
+recordLines ps = join (map (λ p. recorded p (recordAt ps p)) (usedIn ps))
+
 -- numbers joined by commas
 unfoldable pub chained : String → List ℕ → List ℕ
 chained key c = entry (text key) (between 44 (map decimal c))
+
+unfoldable pub chainLines : List (List ℕ) → List ℕ
+chainLines m = chained "chain1" (getD m 1 []) ++ chained "chain3" (getD m 3 []) ++ chained "chain5" (getD m 5 []) ++ chained "chain6" (getD m 6 [])
 
 -- the longest runs of one holder, upward
 pub record Run : Type 0 where
@@ -80,18 +83,19 @@ heldLine g =
     cond (eqb (g .holder) nobody || eqb (g .holder) system) []
     (entry (text "held") (decimal (g .first) ++ text "-" ++ decimal (g .last) ++ text ":" ++ party (g .holder)))
 
+unfoldable pub heldLines : List ℕ → List ℕ
+heldLines hs = join (map heldLine (runsOf 0 hs))
+
 -- `number=r:owner:lock` for each allocated one
 unfoldable pub numberLine : ℕ → Resource → List ℕ
 numberLine r x =
-    cond (eqb (x .owner) 0) []
-    (entry (text "number") (decimal r ++ text ":" ++ party (x .owner) ++ text ":" ++ orDash (ltb 0 (x .lock)) (x .lock)))
+    cond (eqb (x .owner) 0) [] (entry (text "number") (decimal r ++ text ":" ++ party (x .owner) ++ text ":" ++ orDash (ltb 0 (x .lock)) (x .lock)))
+
+unfoldable pub numberLines : ℕ → List Resource → List ℕ
+numberLines n xs = join (map (λ r. numberLine r (numberAt xs r)) (from 1 n))
 
 unfoldable pub page : State lists → List ℕ
 page a =
     let b : Book = a .book in
-    heading b ++ join (map (λ p. recorded p (at b p)) (usedOnes b))
-    ++ chained "chain1" (getD (a .kept) 1 []) ++ chained "chain3" (getD (a .kept) 3 [])
-    ++ chained "chain5" (getD (a .kept) 5 []) ++ chained "chain6" (getD (a .kept) 6 [])
-    ++ join (map heldLine (runsOf 0 (b .holders)))
-    ++ join (map (λ r. numberLine r (numberAt (b .resources) r)) (from 1 (b .numbers)))
-    ++ entry (text "end") (text "page")
+    headLines (b .clock) (b .tracks) (b .system) (b .numbers) (length (usedIn (b .programs))) ++ recordLines (b .programs) ++ chainLines (a .kept)
+    ++ heldLines (b .holders) ++ numberLines (b .numbers) (b .resources) ++ entry (text "end") (text "page")

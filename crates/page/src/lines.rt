@@ -2,10 +2,11 @@
 ghost use Prim.Native.Nat.{_+_, _≤_};
 ghost use mathlib.Core.List.{map};
 ghost use lib.ListN.{length, take};
-ghost use Rattle.text.specs.Text.{decimal, between, entry};
+ghost use Rattle.records.specs.Names.{bare};
+ghost use Rattle.text.specs.Text.{text, decimal, between, entry};
 ghost use Rattle.text.specs.Inner.{Wrote};
-ghost use Rattle.page.specs.Page.{orDash, recorded, heldLine, numberLine};
-ghost use Rattle.page.specs.Inner.{headLines, nameLine, whyLine, runFrom};
+ghost use Rattle.page.specs.Page.{reason, orDash, headLines, recorded, heldLine, numberLine};
+ghost use Rattle.page.specs.Inner.{runFrom};
 use super::keys;
 use super::values;
 use records::Program;
@@ -35,8 +36,8 @@ pub(crate) fn put_heading(
 }
 
 fn put_name_line(buf: &mut [u8], at: usize, name: [u8; 5]) -> usize
-    requires { ⌜ at + length (nameLine name) ≤ length (now buf) ⌝ }
-    ensures { λ r. ⌜ Wrote (now (buf .entry)) at (nameLine name) (now (buf .exit)) r ⌝ }
+    requires { ⌜ at + length (entry (text "name") (bare name)) ≤ length (now buf) ⌝ }
+    ensures { λ r. ⌜ Wrote (now (buf .entry)) at (entry (text "name") (bare name)) (now (buf .exit)) r ⌝ }
 {
     let a = text::put_bytes(buf, at, &keys::NAME);
     let b = text::put_byte(buf, a, b'=');
@@ -45,8 +46,8 @@ fn put_name_line(buf: &mut [u8], at: usize, name: [u8; 5]) -> usize
 }
 
 fn put_why_line(buf: &mut [u8], at: usize, why: Why) -> usize
-    requires { ⌜ at + length (whyLine why) ≤ length (now buf) ⌝ }
-    ensures { λ r. ⌜ Wrote (now (buf .entry)) at (whyLine why) (now (buf .exit)) r ⌝ }
+    requires { ⌜ at + length (entry (text "why") (reason why)) ≤ length (now buf) ⌝ }
+    ensures { λ r. ⌜ Wrote (now (buf .entry)) at (entry (text "why") (reason why)) (now (buf .exit)) r ⌝ }
 {
     let a = text::put_bytes(buf, at, &keys::WHY);
     let b = text::put_byte(buf, a, b'=');

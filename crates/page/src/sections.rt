@@ -3,10 +3,11 @@ ghost use mathlib.Core.Path.{_≡_};
 ghost use Prim.Native.Nat.{_+_, _≤_, _<_};
 ghost use mathlib.Core.List.{map};
 ghost use lib.ListN.{length, take};
-ghost use Rattle.chains.specs.Links.{walk};
+ghost use Rattle.chains.specs.Links.{walk, read};
 ghost use Rattle.text.specs.Text.{decimal, between, entry};
 ghost use Rattle.text.specs.Inner.{Wrote};
-ghost use Rattle.page.specs.Inner.{usedIn, recordLines, chainLines, heldLines, numberLines, RunEnd};
+ghost use Rattle.page.specs.Page.{usedIn, recordLines, chainLines, heldLines, numberLines};
+ghost use Rattle.page.specs.Inner.{RunEnd};
 use super::keys;
 use super::lines;
 use records::Numbers;
@@ -63,8 +64,8 @@ fn put_chain_of(buf: &mut [u8], at: usize, links: [u8; 40], state: usize, key: &
 
 // The chains of states 1, 3, 5 and 6.
 pub(crate) fn put_chains(buf: &mut [u8], at: usize, links: [u8; 40]) -> usize
-    requires { ⌜ at + length (chainLines links) ≤ length (now buf) ⌝ }
-    ensures { λ r. ⌜ Wrote (now (buf .entry)) at (chainLines links) (now (buf .exit)) r ⌝ }
+    requires { ⌜ at + length (chainLines (read links)) ≤ length (now buf) ⌝ }
+    ensures { λ r. ⌜ Wrote (now (buf .entry)) at (chainLines (read links)) (now (buf .exit)) r ⌝ }
 {
     let a = put_chain_of(buf, at, links, 1, &keys::CHAIN1);
     let b = put_chain_of(buf, a, links, 3, &keys::CHAIN3);

@@ -9,8 +9,7 @@ use lib.ListN.{length, take, drop}
 use lib.Seq.{length-take-le}
 use Rattle.text.proofs.Laws.{left-start, Parts, parts-step, parts-room, parts-end}
 use Rattle.tables.specs.Tables.{plain}
-use Rattle.page.specs.Page.{page}
-use Rattle.page.specs.Inner.{headLines, heldLines}
+use Rattle.page.specs.Page.{headLines, heldLines, page}
 use Rattle.page.proofs.Writing.{left-as, wrote-as}
 use Rattle.page.proofs.Paged.{sheets, page-sheets}
 use Rattle.page.proofs.put_page.Statement.{statement}

@@ -2,7 +2,7 @@
 use native.Mathlib.Omega.{arith}
 use borrow.Author.Needs.{needs}
 use Rattle.text.proofs.Laws.{wrote-then, wrote-length}
-use Rattle.page.specs.Inner.{headLines}
+use Rattle.page.specs.Page.{headLines}
 use Rattle.page.proofs.Writing.{heading-length}
 use Rattle.page.proofs.lines.put_heading.Statement.{statement}
 use Rattle.page.proofs.lines.put_heading.Tie as tie

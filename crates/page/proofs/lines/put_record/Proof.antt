@@ -6,7 +6,6 @@ use mathlib.Core.List.{_++_}
 use Rattle.text.specs.Inner.{Wrote}
 use Rattle.text.proofs.Laws.{wrote-then, wrote-length}
 use Rattle.page.specs.Page.{recorded}
-use Rattle.page.specs.Inner.{nameLine, whyLine}
 use Rattle.page.proofs.Writing.{wrote-room, append-room, untimed, timed, recorded-length}
 use Rattle.page.proofs.lines.put_record.Statement.{statement}
 use Rattle.page.proofs.lines.put_record.Tie as tie
@@ -85,7 +84,7 @@ slice-aggregate-put-or-dash-line : tie.Need-slice-aggregate-put-or-dash-line
 slice-aggregate-put-or-dash-line c = search needs
 
 put-or-dash-line-requires : tie.Need-put-or-dash-line-requires
-unfolding recorded nameLine whyLine
+unfolding recorded
 put-or-dash-line-requires c κs =
     let w = c .before .before .before .before in
     let s = past-why w in
@@ -99,7 +98,7 @@ slice-aggregate-put-or-dash-line-2 : tie.Need-slice-aggregate-put-or-dash-line-2
 slice-aggregate-put-or-dash-line-2 c = search needs
 
 put-or-dash-line-requires-2 : tie.Need-put-or-dash-line-requires-2
-unfolding recorded nameLine whyLine
+unfolding recorded
 put-or-dash-line-requires-2 c κs =
     let d = c .before .before .before .before in
     let w = d .before .before .before .before .before in
@@ -108,7 +107,7 @@ put-or-dash-line-requires-2 c κs =
     wrote-room (timed "interval" r (r .interval)) (wrote-then _ _ (untimed-wrote w) (d .put-or-dash-line .ensures)) (s .pre)
 
 returns : tie.Need-returns
-unfolding recorded nameLine whyLine
+unfolding recorded
 returns c =
     let interval = c .before .before in
     let due = interval .before .before .before .before .before in

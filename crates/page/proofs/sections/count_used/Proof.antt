@@ -6,7 +6,7 @@ use borrow.Author.Needs.{needs}
 use mathlib.Core.Path.{_≡_, ap}
 use mathlib.Core.Logic.{⊎-elim}
 use lib.ListN.{length}
-use Rattle.page.specs.Inner.{usedIn}
+use Rattle.page.specs.Page.{usedIn}
 use Rattle.page.proofs.Spans.{usedFrom, used-all, used-here, used-on, used-past}
 use Rattle.page.proofs.sections.count_used.Statement.{statement}
 use Rattle.page.proofs.sections.count_used.Tie as tie

@@ -5,7 +5,8 @@ use borrow.Author.Needs.{needs}
 use mathlib.Core.List.{List}
 use lib.ListN.{drop}
 use Rattle.text.proofs.Laws.{left-start, Parts, parts-step, parts-room, parts-end}
-use Rattle.page.specs.Inner.{chainLines}
+use Rattle.chains.specs.Links.{read}
+use Rattle.page.specs.Page.{chainLines}
 use Rattle.page.proofs.Writing.{left-as}
 use Rattle.page.proofs.Paged.{rows, chain-rows}
 use Rattle.page.proofs.sections.put_chains.Statement.{statement}
@@ -13,7 +14,7 @@ use Rattle.page.proofs.sections.put_chains.Tie as tie
 
 -- the chains from k on are left
 abbrev From : ℕ → tie.Start → List ℕ → ℕ → Type 0
-From k s l at = Parts (s .args .buf .now) (s .args .at) (chainLines (s .args .links)) l at (drop k (rows (s .args .links)))
+From k s l at = Parts (s .args .buf .now) (s .args .at) (chainLines (read (s .args .links))) l at (drop k (rows (s .args .links)))
 
 abbrev S1 : tie.After-put-chain-of → tie.Start
 S1 c = c .before .before .before .before

@@ -7,8 +7,7 @@ use mathlib.Core.Logic.{⊎-elim}
 use lib.ListN.{getD}
 use Rattle.text.proofs.Laws.{Left, left-start, left-step, left-room, left-end}
 use Rattle.records.specs.Records.{missing}
-use Rattle.page.specs.Page.{recorded}
-use Rattle.page.specs.Inner.{recordLines}
+use Rattle.page.specs.Page.{recorded, recordLines}
 use Rattle.page.proofs.Writing.{left-as, left-at}
 use Rattle.page.proofs.Spans.{recordsFrom, records-all, records-here, records-on, records-past}
 use Rattle.page.proofs.sections.put_records.Statement.{statement}

@@ -9,8 +9,7 @@ use lib.ListN.{length, getD, take}
 use Rattle.text.proofs.Laws.{Left, left-start, left-step, left-room, left-end}
 use Rattle.records.specs.declared.Resource.{Resource}
 use Rattle.records.specs.Numbers.{free}
-use Rattle.page.specs.Page.{numberLine}
-use Rattle.page.specs.Inner.{numberLines}
+use Rattle.page.specs.Page.{numberLine, numberLines}
 use Rattle.page.proofs.Writing.{wrote-as, left-as}
 use Rattle.page.proofs.Spans.{numbersFrom, numbers-all, numbers-here, numbers-past}
 use Rattle.page.proofs.sections.put_resources.Statement.{statement}

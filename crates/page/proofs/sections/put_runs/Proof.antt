@@ -6,8 +6,8 @@ use borrow.Author.Needs.{needs}
 use lib.ListN.{length, getD}
 use Rattle.text.proofs.Laws.{Left, left-start, left-step, left-room, left-end}
 use Rattle.tracks.specs.Tracks.{nobody}
-use Rattle.page.specs.Page.{heldLine}
-use Rattle.page.specs.Inner.{runFrom, heldLines}
+use Rattle.page.specs.Page.{heldLine, heldLines}
+use Rattle.page.specs.Inner.{runFrom}
 use Rattle.page.proofs.Writing.{left-as}
 use Rattle.page.proofs.Runs.{heldFrom, held-all, held-here, held-past}
 use Rattle.page.proofs.sections.put_runs.Statement.{statement}
