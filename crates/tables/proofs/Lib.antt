@@ -6,6 +6,8 @@ pub mod Serving
 pub mod Readied
 pub mod OneOutcome
 pub mod Demanded
+pub mod Removal
+pub mod TickRecords
 pub mod Turns
 pub mod Wakes
 pub mod Walking
