@@ -31,9 +31,8 @@ use Rattle.console.specs.declared.Asked.{Asked}
 use Rattle.console.specs.declared.Asked.the-variants as c
 use Rattle.console.specs.declared.Command.{Command}
 use Rattle.console.specs.Line.{Line, bad, PAGE, asks, lineOf}
-use Rattle.console.specs.Commands.{said, saying}
 use Rattle.console.specs.Console.{obeyed, keyed, keyedIn}
-use Rattle.console.specs.Inner.{obeys, refusing, isPage}
+use Rattle.console.specs.Inner.{obeys, refusing, isPage, said, saying}
 use Rattle.console.proofs.Asked as asked
 
 -- a line keyed in is obeyed as what it says

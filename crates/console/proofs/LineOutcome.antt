@@ -2,9 +2,11 @@
 -- Assumes nothing.
 use Prim.Native.Nat.{ℕ}
 use mathlib.Core.Path.{_≡_, sym, ap, _∙_}
+use mathlib.Core.Bool.{Bool}
 use mathlib.Core.List.{List}
 use Rattle.tables.specs.declared.Tables.{Tables}
 use Rattle.tables.specs.declared.Outcome.{Outcome}
+use Rattle.tables.specs.Sound.{sound}
 use Rattle.tables.specs.Calls.{Result, told}
 use Rattle.tables.proofs.OneOutcome.{determined}
 use Rattle.rules.specs.Engine.{beside}
@@ -24,3 +26,7 @@ line-determined t l buf = written-determined (keyed t l buf)
 
 pub print-determined : (t : Tables) (l out : List ℕ) (r s : Outcome) (b c : List ℕ) → beside b (told r) ≡ lineShown t l out → beside c (told s) ≡ lineShown t l out → (r ≡ s) × (b ≡ c)
 print-determined t l out = written-determined (lineShown t l out)
+
+-- the test of soundness
+pub test-determined : (t : Tables) (r s : Bool) → r ≡ sound t → s ≡ sound t → r ≡ s
+test-determined t r s e f = e ∙ sym f

@@ -15,8 +15,7 @@ use Rattle.text.proofs.Read.{upTo-under, upTo-over}
 use Rattle.console.specs.declared.Asked.{Asked}
 use Rattle.console.specs.declared.Command.{Command}
 use Rattle.console.specs.Line.{Line, bad, Form, Entry, lookUp, word, unknown, forms, lineOf}
-use Rattle.console.specs.Commands.{saying, said}
-use Rattle.console.specs.Inner.{fieldsFrom}
+use Rattle.console.specs.Inner.{fieldsFrom, saying, said}
 use Rattle.console.proofs.FieldLaws.{fields-past, fields-cut, fields-all}
 
 -- l is what the table says of the field f, with the fields fs behind it

@@ -7,29 +7,62 @@ use mathlib.Core.List.{List, [], _∷_, _++_, map}
 use lib.ListN.{length, drop}
 use lib.Dec.{leb}
 use Rattle.text.specs.Text.{text, decimal, between, parts}
-use Rattle.rules.specs.Requests.{PR, OF, EXEC5, EXEC5ALL, EXEC12, LOAD, operator}
+use Rattle.rules.specs.Requests.{PR, OF, EXEC5, EXEC5ALL, EXEC12, LOAD, operator, RU, SS, GO, EXEC4, EXEC15, EXEC16, EXEC6, EXEC7, EXEC11, EXEC9, EXEC10, ALLOC, LOCK, CLEAR, FREE, FRESH, TICK, running}
 use Rattle.rules.specs.declared.Answer.{Answer}
-use Rattle.rules.specs.Answers as answers
 use Rattle.tables.specs.declared.Tables.{Tables}
 use Rattle.tables.specs.Sound.{sound}
 use Rattle.tables.specs.Calls.{Result}
 use Rattle.rules.specs.Engine.{beside, notSound}
 use Rattle.page.specs.Paging.{Written}
 use Rattle.console.specs.declared.Asked.{Asked}
-use Rattle.console.specs.Commands.{saying}
 use Rattle.console.specs.declared.fields.NumberField.{NumberField}
-use Rattle.console.specs.declared.fields.NumberField.the-variants as numberField
 use Rattle.console.specs.declared.fields.NameField.{NameField}
-use Rattle.console.specs.declared.fields.NameField.the-variants as nameField
 use Rattle.console.specs.declared.fields.One.{One}
-use Rattle.console.specs.declared.fields.One.the-variants as one
 use Rattle.console.specs.declared.fields.Two.{Two}
-use Rattle.console.specs.declared.fields.Two.the-variants as two
 use Rattle.console.specs.declared.fields.Three.{Three}
-use Rattle.console.specs.declared.fields.Three.the-variants as three
 use Rattle.console.specs.declared.fields.NameNumber.{NameNumber}
 use Rattle.console.specs.Line.{Line, bad, PAGE, asks, Form, over, number, name, word, _↝_, calls}
 use Rattle.console.specs.Console.{obeyed}
+use Rattle.console.specs.declared.Command.{Command}
+use Rattle.rules.specs.Answers as answers
+use Rattle.console.specs.declared.fields.NumberField.the-variants as numberField
+use Rattle.console.specs.declared.fields.NameField.the-variants as nameField
+use Rattle.console.specs.declared.fields.One.the-variants as one
+use Rattle.console.specs.declared.fields.Two.the-variants as two
+use Rattle.console.specs.declared.fields.Three.the-variants as three
+use Rattle.console.specs.declared.Asked.the-variants as c
+
+-- what the code's commands say, in the grammar's terms: with a name, where the line has one
+abbrev pub saying : List ℕ → Asked → Line
+saying nm c.Bad = bad
+saying nm c.Page = PAGE
+saying nm (c.Fresh t s r) = asks (FRESH t s r)
+saying nm (c.Load n) = asks (LOAD nm n)
+saying nm c.Ru = asks (operator RU nm)
+saying nm c.Ss = asks (operator SS nm)
+saying nm c.Go = asks (operator GO nm)
+saying nm (c.Pr n) = asks (operator (PR n) nm)
+saying nm (c.Of k) = asks (operator (OF k) nm)
+saying nm c.Tick = asks TICK
+saying nm (c.Exec4 n w) = asks (running (EXEC4 n w))
+saying nm (c.Exec5 n s) = asks (running (EXEC5 n s))
+saying nm c.Exec5All = asks (running EXEC5ALL)
+saying nm c.Exec6 = asks (running EXEC6)
+saying nm c.Exec7 = asks (running EXEC7)
+saying nm c.Exec9 = asks (running (EXEC9 nm))
+saying nm c.Exec10 = asks (running (EXEC10 nm))
+saying nm c.Exec11 = asks (running EXEC11)
+saying nm (c.Exec12 r m o) = asks (running (EXEC12 nm r m o))
+saying nm (c.Exec15 n w) = asks (running (EXEC15 n w))
+saying nm (c.Exec16 n s) = asks (running (EXEC16 n s))
+saying nm (c.AllocLocal w) = asks (running (ALLOC false w))
+saying nm (c.AllocGlobal w) = asks (running (ALLOC true w))
+saying nm (c.Lock r w) = asks (running (LOCK r w))
+saying nm (c.Clear r) = asks (running (CLEAR r))
+saying nm (c.Free r) = asks (running (FREE r))
+
+abbrev pub said : Command → Line
+said x = saying (x .name) (x .asked)
 
 -- the fields from a place on; past the end there is none
 unfoldable pub fieldsFrom : List ℕ → ℕ → List (List ℕ)

@@ -1,5 +1,4 @@
 pub mod Line
-pub mod Commands
 pub mod Console
 pub mod Sheet
 pub mod Inner

@@ -4,6 +4,7 @@
 use Prim.Native.Nat.{ℕ, _≤_}
 use native.Mathlib.Omega.{arith}
 use mathlib.Core.Path.{_≡_, refl, ap}
+use mathlib.Core.Logic.{_≢_}
 use mathlib.Core.Bool.{Bool, true, false}
 use mathlib.Core.List.{List, [], _∷_}
 use lib.ListN.{length}
@@ -111,3 +112,15 @@ fresh-accepted T S R e = rw (e, madeBy)
 pub fresh-refused : (T S R : ℕ) → sizes T S R ≡ false → made T S R ≡ record { number = 3; values = 0 ∷ []; tables = smallest }
 unfolding madeBy
 fresh-refused T S R e = rw (e, madeBy)
+
+-- Tables that are not sound: every call but FRESH, which takes none, is 14 with value 0, and they come back as they were.
+pub unsound-refused : (t : Tables) → sound t ≡ false → (c : Made) → ((T S R : ℕ) → c ≢ calls.request (FRESH T S R))
+    → step linked t c ≡ record { number = 14; values = 0 ∷ []; tables = t; buffer = calls.lentTo c }
+unfolding step asked pagedIn keyedIn
+unsound-refused t e (calls.request (FRESH T S R)) n = absurd (n T S R refl)
+unsound-refused t e (calls.request (LOAD nm m)) n = rw (e, asked)
+unsound-refused t e (calls.request (operator o nm)) n = rw (e, asked)
+unsound-refused t e (calls.request TICK) n = rw (e, asked)
+unsound-refused t e (calls.request (running r)) n = rw (e, asked)
+unsound-refused t e (calls.page buf) n = rw (e, pagedIn)
+unsound-refused t e (calls.line bytes buf) n = rw (e, keyedIn)

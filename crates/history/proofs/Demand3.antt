@@ -103,7 +103,7 @@ module _ (t : Tables) (n : State entries) (K : Kept t n) where
       let e : asked t q ≡ planned t (asks lists (plain t) q) = asked-planned t (K .test) q in
       rw e
       (record {
-        told = ap (λ (x : Plan). record { number = numberOf x; values = valuesOf x; buffer = buf }) (asks-alike (plain t) n (K .alike) q);
+        told = ap (λ (x : Plan). record { number = numberOf x; values = valuesOf x; tables = tt; buffer = buf }) (asks-alike (plain t) n (K .alike) q);
         answers = not-14 (numberOf (asks lists (plain t) q)) (λ i. omega (arith, answered lists (plain t) q .highest));
         kept = kept-laid-out (eventsOf (view lists (plain t)) (asks lists (plain t) q)) (sound-after (plain t) (K .plainly) q) (after entries n q) (after-alike (plain t) n (K .alike) q);
       })
@@ -124,9 +124,9 @@ module _ (t : Tables) (n : State entries) (K : Kept t n) where
       go : (b : Bool) → leb (length (page (plain t))) (length buf) ≡ b → leb (length (page (sortedOut n))) (length buf) ≡ b
           → Alongside (written t buf) (writtenIn replaying n buf)
       go true e f = rw (e, f)
-          (record { told = λ i. record { number = 0; values = length (same-page i) ∷ []; buffer = front (same-page i) buf }; answers = refl; kept = K })
+          (record { told = λ i. record { number = 0; values = length (same-page i) ∷ []; tables = tt; buffer = front (same-page i) buf }; answers = refl; kept = K })
       go false e f = rw (e, f)
-          (record { told = λ i. record { number = 12; values = length (same-page i) ∷ []; buffer = buf }; answers = refl; kept = K })
+          (record { told = λ i. record { number = 12; values = length (same-page i) ∷ []; tables = tt; buffer = buf }; answers = refl; kept = K })
 
   along-paged : (buf : List ℕ) → Alongside (paged t buf) (pagedIn replaying n buf)
   unfolding pagedIn

@@ -48,14 +48,9 @@ replaying = record {
   page = λ n. page (sortedOut n);
 }
 
--- what a call is told: its number, its values, and the buffer that was lent to it
-pub record Told : Type 0 where
-  pub number : ℕ
-  pub values : List ℕ
-  pub buffer : List ℕ
-
-abbrev pub toldOf : {S : Type 0} → Handed S → Told
-toldOf w = record { number = w .number; values = w .values; buffer = w .buffer }
+-- what a call is told: its number, its values, and the buffer that was lent to it, without the tables
+abbrev pub toldOf : {S : Type 0} → Handed S → Handed (Unit {0})
+toldOf w = record { number = w .number; values = w .values; tables = tt; buffer = w .buffer }
 
 -- a call of the running program on tables t: refused with 2 where the replay has no program scheduled; else it acts for the program that the replay has first
 pub data ActsFor (t : Tables) (n : State entries) (c : Call) : Type 0 where

@@ -7,8 +7,7 @@ use Rattle.tables.specs.Calls.{told, asked}
 use Rattle.rules.specs.Engine.{beside}
 use Rattle.console.specs.declared.Asked.{Asked}
 use Rattle.console.specs.Line.{asks}
-use Rattle.console.specs.Commands.{said, saying}
-use Rattle.console.specs.Inner.{obeys}
+use Rattle.console.specs.Inner.{obeys, said, saying}
 use Rattle.console.proofs.KeyLaws.{obeys-told, obeys-page, obeys-bad}
 use Rattle.console.proofs.keying.obey.Statement.{statement}
 use Rattle.console.proofs.keying.obey.Tie as tie

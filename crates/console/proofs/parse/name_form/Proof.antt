@@ -4,7 +4,7 @@ use mathlib.Core.List.{List, [], _∷_}
 use Prim.Native.Nat.{ℕ}
 use borrow.Author.Needs.{needs}
 use Rattle.console.specs.Line.{over}
-use Rattle.console.specs.Commands.{saying}
+use Rattle.console.specs.Inner.{saying}
 use Rattle.console.proofs.FieldLaws.{name-told, over-told}
 use Rattle.console.proofs.Words.{nameless-says}
 use Rattle.console.proofs.parse.name_form.Statement.{statement}

@@ -1,7 +1,7 @@
 -- `console::parse::over_form` meets its contract: whether a field is left decides. Assumes nothing.
 use lib.ListN.{replicate}
 use borrow.Author.Needs.{needs}
-use Rattle.console.specs.Commands.{saying}
+use Rattle.console.specs.Inner.{saying}
 use Rattle.console.proofs.FieldLaws.{over-told}
 use Rattle.console.proofs.Words.{nameless-says}
 use Rattle.console.proofs.parse.over_form.Statement.{statement}
