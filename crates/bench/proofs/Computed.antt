@@ -6,18 +6,18 @@ use Rattle.text.specs.Text.{digits, decimal, numberOf, parts, entry}
 use Rattle.clock.specs.Clock.{timeOf}
 use Rattle.records.specs.Names.{nameOf}
 use Rattle.records.specs.Records.{all, find, lowestUnused}
-use Rattle.rules.specs.Plans.{need, either, found, woken}
-use Rattle.rules.specs.Rules.{named, inside, waits, frees, clears, ends, order, dueAt, takes, gives, allocated, call, asCaller, plan}
+use Rattle.rules.specs.Plans.{woken, need, either, found}
+use Rattle.rules.specs.Rules.{named, inside, waits, frees, clears, endsIn, order, dueAt, takes, gives, allocated, call, asCaller, plan}
 use Rattle.rules.specs.Keeper.{act, step}
+use Rattle.rules.specs.Engine.{madeBy, writtenIn, pagedIn}
 use Rattle.rules.specs.Test.{testNames, testZeros, testChains, testWhys, testSystem, testUsers, testUnlocked, testLimits, testDues}
 use Rattle.chains.specs.Links.{walk, read, testLinks, linksOf}
 use Rattle.ledger.specs.Ledger.{testBlank}
 use Rattle.tables.specs.Sound.{sound}
-use Rattle.tables.specs.Calls.{served, asked, made}
-use Rattle.page.specs.Page.{usedOnes, heading, recorded, chained, heldLine, numberLine, page}
-use Rattle.page.specs.Paging.{written, paged}
+use Rattle.tables.specs.Calls.{served, asked}
+use Rattle.page.specs.Page.{headLines, usedIn, recorded, recordLines, chained, chainLines, heldLine, heldLines, numberLine, numberLines, page}
 use Rattle.console.specs.Line.{execsOn, execs, allocs, numbers, others, forms, lineOf}
-use Rattle.console.specs.Console.{keyed}
+use Rattle.console.specs.Console.{keyedIn}
 use Rattle.console.specs.Sheet.{answerLine, linesOf, printed, sheet}
 use Rattle.history.specs.Runs as history
 use Rattle.bench.specs.Case.{tell, tellAll, printAll, toldAnew}
@@ -25,5 +25,5 @@ use Rattle.bench.specs.Cases.{bench}
 
 pub computed : toldAnew bench ≡ bench
 unfolding
-    same digits decimal numberOf parts entry timeOf nameOf all find lowestUnused need either found named inside waits woken frees clears ends order dueAt takes gives allocated call asCaller plan act step testNames testZeros testChains testWhys testSystem testUsers testUnlocked testLimits testDues walk read testLinks linksOf testBlank sound served asked made usedOnes heading recorded chained heldLine numberLine page written paged execsOn execs allocs numbers others forms lineOf keyed answerLine linesOf printed sheet history.step tell tellAll printAll toldAnew bench
+    same digits decimal numberOf parts entry timeOf nameOf all find lowestUnused need either found named inside waits woken frees clears endsIn order dueAt takes gives allocated call asCaller plan act step testNames testZeros testChains testWhys testSystem testUsers testUnlocked testLimits testDues walk read testLinks linksOf testBlank sound served asked madeBy headLines usedIn recorded recordLines chained chainLines heldLine heldLines numberLine numberLines page writtenIn pagedIn execsOn execs allocs numbers others forms lineOf keyedIn answerLine linesOf printed sheet history.step tell tellAll printAll toldAnew bench
 computed = refl

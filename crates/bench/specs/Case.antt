@@ -11,7 +11,7 @@ use Rattle.rules.specs.Book.{Book, at}
 use Rattle.rules.specs.Test.{sonOf}
 use Rattle.tables.specs.declared.Tables.{Tables}
 use Rattle.tables.specs.Tables.{plain, smallest}
-use Rattle.page.specs.Paging.{Written}
+use Rattle.page.specs.Paging.{Written, linked}
 use Rattle.console.specs.Sheet.{sheet}
 use Rattle.history.specs.Runs.{Made, request, page, line, step}
 
@@ -38,14 +38,14 @@ pub record Bench : Type 0 where
 
 unfoldable pub tell : Tables → List Step → List Step
 tell t [] = []
-tell t (key s a vs ∷ ss) = let r : Written = step t (line (text s) []) in key s (r .number) (r .values) ∷ tell (r .tables) ss
-tell t (ask q a vs ∷ ss) = let r : Written = step t (request q) in ask q (r .number) (r .values) ∷ tell (r .tables) ss
+tell t (key s a vs ∷ ss) = let r : Written = step linked t (line (text s) []) in key s (r .number) (r .values) ∷ tell (r .tables) ss
+tell t (ask q a vs ∷ ss) = let r : Written = step linked t (request q) in ask q (r .number) (r .values) ∷ tell (r .tables) ss
 tell t (chain s c ∷ ss) = chain s (getD (plain t .kept) s []) ∷ tell t ss
 tell t (noted p s k d i ∷ ss) =
     noted p (at (plain t .book) p .state) (sonOf (at (plain t .book) p .why)) (at (plain t .book) p .due) (at (plain t .book) p .interval) ∷ tell t ss
 tell t (clock c ∷ ss) = clock (plain t .book .clock) ∷ tell t ss
 tell t (written n a vs buf ∷ ss) =
-    let r : Written = step t (page (replicate n 0)) in
+    let r : Written = step linked t (page (replicate n 0)) in
     written n (r .number) (r .values) (r .buffer) ∷ tell (r .tables) ss
 
 unfoldable pub tellAll : List Case → List Case
