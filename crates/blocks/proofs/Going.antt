@@ -1,0 +1,153 @@
+-- A turn, line by line: what is left of it while lines are printed for. Where a line with room before it comes first, it is printed for and the turn goes on behind it.
+-- Assumes nothing.
+use Prim.Native.Nat.{ℕ, _+_, _-_, _≤_, _<_}
+use native.Mathlib.Decide.{decLt}
+use native.Mathlib.Omega.{arith}
+use mathlib.Core.Path.{_≡_, refl, sym, ap, _∙_}
+use mathlib.Core.List.{List, [], _∷_, _++_, append-nil, append-assoc}
+use lib.ListN.{length, take, drop, length-append, length-drop, drop-of-length-le}
+use lib.Seq.{slice, take-at, drop-at, drop-drop, length-slice}
+use borrow.Author.Tests.{le-leb, lt-leb}
+use Rattle.text.specs.Text.{parts}
+use Rattle.rules.specs.Answers as answers
+use Rattle.tables.specs.declared.Tables.{Tables}
+use Rattle.tables.specs.declared.Outcome.{Outcome}
+use Rattle.tables.specs.Calls.{told}
+use Rattle.page.specs.Paging.{Written, beside, front}
+use Rattle.console.specs.Line.{lineOf}
+use Rattle.console.specs.Console.{keyed}
+use Rattle.console.specs.Sheet.{room, lent, shown, printedBytes, lineShown}
+use Rattle.console.proofs.OneLine.{shown-long, printed-fits}
+use Rattle.console.proofs.LineEnds.{LineEnd}
+use Rattle.blocks.specs.Blocks.{ended, Turn, turn, Turned, turned}
+use Rattle.blocks.proofs.Cuts.{ended-next}
+
+-- what a line prints
+abbrev pub lineBytes : Tables → List ℕ → List ℕ
+lineBytes t l = shown (lineOf l) t (keyed t l lent)
+
+-- bytes and then a turn; a turn that is over
+abbrev pub behind : List ℕ → Turn → Turn
+behind bytes x = record { tables = x .tables; place = x .place; bytes = bytes ++ x .bytes }
+
+abbrev pub over : Tables → ℕ → Turn
+over t at = record { tables = t; place = at; bytes = [] }
+
+pub turn-next : (t : Tables) (l : List ℕ) (ls : List (List ℕ)) (at n : ℕ) → room ≤ n
+    → turn t (l ∷ ls) at n ≡ behind (lineBytes t l) (turn (keyed t l lent .tables) ls (at + length l + 1) (n - length (lineBytes t l)))
+unfolding turn
+turn-next t l ls at n h = rw (le-leb room n h, turn)
+
+pub turn-full : (t : Tables) (ls : List (List ℕ)) (at n : ℕ) → n < room → turn t ls at n ≡ over t at
+unfolding turn
+turn-full t [] at n h = refl
+turn-full t (l ∷ ls) at n h = rw (lt-leb room n h, turn)
+
+pub turn-none : (t : Tables) (ls : List (List ℕ)) (at n : ℕ) → ls ≡ [] → turn t ls at n ≡ over t at
+unfolding turn
+turn-none t ls at n e = rw e
+
+-- no line ends from here on
+pub no-lines : (s : List ℕ) (from e : ℕ) → LineEnd s from e → e ≡ length s → ended (parts 10 (drop from s)) ≡ []
+unfolding parts
+no-lines s from e E h = go (decLt (length s) from)
+  where
+    go : Dec (length s < from) → ended (parts 10 (drop from s)) ≡ []
+    go (yes p) = ap (λ (r : List ℕ). ended (parts 10 r)) (drop-of-length-le s {i = from} (omega arith))
+    go (no p) = ap ended (E .line (omega arith) .last h)
+
+-- a line ends at e
+pub one-line : (s : List ℕ) (from e : ℕ) → LineEnd s from e → from ≤ length s → e < length s
+    → ended (parts 10 (drop from s)) ≡ slice from e s ∷ ended (parts 10 (drop (e + 1) s))
+one-line s from e E p h = ap ended (E .line p .more h) ∙ ended-next (slice from e s) (drop (e + 1) s)
+
+-- the turn over a block, from place `at` on: some bytes are printed, and from place `from` on the turn is to go on
+pub record Going (t₀ : Tables) (block : List ℕ) (at : ℕ) (out₀ out : List ℕ) (t : Tables) (from used : ℕ) : Type 0 where
+  pub bytes : List ℕ
+  pub many : used ≡ length bytes
+  pub fits : used ≤ length out₀
+  pub buffer : out ≡ front bytes out₀
+  pub left : turn t₀ (ended (parts 10 (drop at block))) at (length out₀) ≡ behind bytes (turn t (ended (parts 10 (drop from block))) from (length out₀ - used))
+
+pub going-start : (t : Tables) (block : List ℕ) (at : ℕ) (out : List ℕ) → Going t block at out out t at 0
+going-start t block at out =
+    let n : length out ≡ length out - 0 = omega arith in
+    record { bytes = []; many = refl; fits = omega arith; buffer = refl; left = ap (turn t (ended (parts 10 (drop at block))) at) n }
+
+module _ {t₀ t : Tables} {block out₀ out : List ℕ} {at from used : ℕ} (g : Going t₀ block at out₀ out t from used) where
+  -- the turn is over
+  pub going-over : turn t (ended (parts 10 (drop from block))) from (length out₀ - used) ≡ over t from
+      → record { tables = t; place = from; used = used; buffer = out } ≡ turned t₀ block at out₀
+  unfolding turned
+  going-over h =
+      let e : turn t₀ (ended (parts 10 (drop at block))) at (length out₀) ≡ record { tables = t; place = from; bytes = g .bytes } =
+          g .left ∙ ap (behind (g .bytes)) h ∙ (λ i. record { tables = t; place = from; bytes = append-nil (g .bytes) i })
+      in
+      (λ i. record { tables = t; place = from; used = g .many i; buffer = g .buffer i })
+      ∙ ap (λ (x : Turn). record { tables = x .tables; place = x .place; used = length (x .bytes); buffer = front (x .bytes) out₀ }) (sym e)
+
+  -- what the buffer has at its front, and behind it
+  going-front : take used out ≡ g .bytes
+  going-front = ap (take used) (g .buffer) ∙ take-at (g .bytes) (drop (length (g .bytes)) out₀) used (sym (g .many))
+
+  going-behind : drop used out ≡ drop used out₀
+  going-behind =
+      ap (drop used) (g .buffer) ∙ drop-at (g .bytes) (drop (length (g .bytes)) out₀) used (sym (g .many)) ∙ ap (λ (k : ℕ). drop k out₀) (sym (g .many))
+
+  -- a line is printed for
+  module _ (e : ℕ) (E : LineEnd block from e) (in-block : from ≤ length block) (ends : e < length block) (big : room ≤ length out₀ - used)
+      (r : Outcome) (after : List ℕ) (same : length after ≡ length (drop used out)) (says : beside after (told r) ≡ lineShown t (slice from e block) (drop used out)) where
+    abbrev line : List ℕ
+    line = slice from e block
+
+    abbrev put : List ℕ
+    put = lineBytes t line
+
+    abbrev n : ℕ
+    n = printedBytes (answers.number (r .answer)) (answers.values (r .answer))
+
+    behind-length : length (drop used out) ≡ length out₀ - used
+    behind-length = ap length going-behind ∙ length-drop used out₀
+
+    printing : beside after (told r) ≡ record { number = 0; values = length put ∷ []; tables = keyed t line lent .tables; buffer = front put (drop used out) }
+    printing = says ∙ shown-long t line (drop used out) (omega (arith, behind-length))
+
+    pub going-many : n ≡ length put
+    going-many = ap (λ (w : Written). printedBytes (w .number) (w .values)) printing
+
+    pub going-fits : used + n ≤ length out₀
+    going-fits = omega (arith, printed-fits t line (drop used out) after r says same, behind-length, g .fits)
+
+    going-buffer : take used out ++ after ≡ front (g .bytes ++ put) out₀
+    going-buffer =
+        ap (λ (xs : List ℕ). xs ++ after) going-front
+        ∙ ap (λ (xs : List ℕ). g .bytes ++ xs) (ap (λ (w : Written). w .buffer) printing ∙ ap (λ (xs : List ℕ). put ++ drop (length put) xs) going-behind)
+        ∙ ap (λ (xs : List ℕ). g .bytes ++ (put ++ xs)) (drop-drop (length put) used out₀ ∙ ap (λ (k : ℕ). drop k out₀) (omega-sum))
+        ∙ sym (append-assoc (g .bytes) put (drop (length (g .bytes ++ put)) out₀))
+      where
+        omega-sum : used + length put ≡ length (g .bytes ++ put)
+        omega-sum = omega (arith, length-append (g .bytes) put, g .many)
+
+    pub going-line : Going t₀ block at out₀ (take used out ++ after) (r .tables) (e + 1) (used + n)
+    going-line =
+        let len : length line ≡ e - from = length-slice from e block (omega arith) in
+        let place : from + length line + 1 ≡ e + 1 = omega (arith, E .line in-block .low) in
+        let rest : length out₀ - used - length put ≡ length out₀ - (used + n) = omega (arith, going-many) in
+        let ls : List (List ℕ) = ended (parts 10 (drop (e + 1) block)) in
+        let t′ : r .tables ≡ keyed t line lent .tables = ap (λ (w : Written). w .tables) printing in
+        record {
+          bytes = g .bytes ++ put;
+          many = omega (arith, length-append (g .bytes) put, g .many, going-many);
+          fits = going-fits;
+          buffer = going-buffer;
+          left =
+              g .left
+              ∙ ap (λ (xs : List (List ℕ)). behind (g .bytes) (turn t xs from (length out₀ - used))) (one-line block from e E in-block ends)
+              ∙ ap (behind (g .bytes)) (turn-next t line ls from (length out₀ - used) big)
+              ∙ (λ i. behind (g .bytes) (behind put (turn (sym t′ i) ls (place i) (rest i))))
+              ∙ (λ i. record {
+                tables = turn (r .tables) ls (e + 1) (length out₀ - (used + n)) .tables;
+                place = turn (r .tables) ls (e + 1) (length out₀ - (used + n)) .place;
+                bytes = sym (append-assoc (g .bytes) put (turn (r .tables) ls (e + 1) (length out₀ - (used + n)) .bytes)) i;
+              });
+        }

@@ -1,0 +1,5 @@
+pub mod Copying
+pub mod Cuts
+pub mod Arriving
+pub mod Going
+pub mod AllTurns

@@ -1,0 +1,96 @@
+-- A text that comes in blocks. The lines that end in a block are printed for, and what stands behind the last of them is held until the next block comes (OUTLINE, "The page and the console line").
+-- Assumes nothing.
+use Prim.Native.Nat.{ℕ, zero, suc, _+_, _-_}
+use mathlib.Core.Bool.{Bool, true, false, _&&_}
+use mathlib.Core.List.{List, [], _∷_, _++_}
+use lib.ListN.{length, take, drop}
+use lib.Seq.{slice}
+use lib.Dec.{leb, eqb}
+use Rattle.text.specs.Text.{parts}
+use Rattle.tables.specs.declared.Tables.{Tables}
+use Rattle.tables.specs.Tables.{smallest}
+use Rattle.page.specs.Paging.{Written, front}
+use Rattle.console.specs.Line.{lineOf}
+use Rattle.console.specs.Console.{keyed}
+use Rattle.console.specs.Sheet.{room, lent, shown, printed, dropEmpty}
+
+-- of the parts of a block, those that byte 10 ended; and the last, which it did not
+abbrev pub ended : List (List ℕ) → List (List ℕ)
+ended [] = []
+ended (l ∷ []) = []
+ended (l ∷ m ∷ ls) = l ∷ ended (m ∷ ls)
+
+abbrev pub unended : List (List ℕ) → List ℕ
+unended [] = []
+unended (l ∷ []) = l
+unended (l ∷ m ∷ ls) = unended (m ∷ ls)
+
+-- the tables after some lines; what they print is `printed`
+unfoldable pub tablesAfter : Tables → List (List ℕ) → Tables
+tablesAfter t [] = t
+tablesAfter t (l ∷ ls) = tablesAfter (keyed t l lent .tables) ls
+
+-- One turn, from place `at` of a block on, with n bytes left of the lent buffer: line after line is printed for while `room` bytes are left.
+-- What comes of it: the tables, the place of the next line, and the bytes printed.
+pub record Turn : Type 0 where
+  pub tables : Tables
+  pub place : ℕ
+  pub bytes : List ℕ
+
+unfoldable pub turn : Tables → List (List ℕ) → ℕ → ℕ → Turn
+turn t [] at n = record { tables = t; place = at; bytes = [] }
+turn t (l ∷ ls) at n =
+    let r : Written = keyed t l lent in
+    let put : List ℕ = shown (lineOf l) t r in
+    let next : Turn = turn (r .tables) ls (at + length l + 1) (n - length put) in
+    elim (leb room n) [
+      | true ↦ record { tables = next .tables; place = next .place; bytes = put ++ next .bytes }
+      | false ↦ record { tables = t; place = at; bytes = [] }
+    ]
+
+-- the same of a block's bytes and a lent buffer: how many bytes were put, and the buffer
+pub record Turned : Type 0 where
+  pub tables : Tables
+  pub place : ℕ
+  pub used : ℕ
+  pub buffer : List ℕ
+
+unfoldable pub turned : Tables → List ℕ → ℕ → List ℕ → Turned
+turned t block at out =
+    let x : Turn = turn t (ended (parts 10 (drop at block))) at (length out) in
+    record { tables = x .tables; place = x .place; used = length (x .bytes); buffer = front (x .bytes) out }
+
+-- what is held of a line that goes on behind the block: 73 bytes are enough, since a line of more than 72 is not understood whatever they are
+abbrev pub most : ℕ
+most = 73
+
+-- The bytes of a block from one place to another go to its front, `most` of them at most; the rest is untouched. Places that are no part of the block move nothing.
+pub record Carried : Type 0 where
+  pub held : ℕ
+  pub block : List ℕ
+
+unfoldable pub carried : List ℕ → ℕ → ℕ → Carried
+carried s from to =
+    let kept : List ℕ = take most (slice from to s) in
+    elim (leb from to && leb to (length s)) [
+      | true ↦ record { held = length kept; block = front kept s }
+      | false ↦ record { held = 0; block = s }
+    ]
+
+-- What is printed for a text that comes in blocks, from tables t on, `held` being what is held of an unfinished line. At the end of the text a line without byte 10 counts.
+unfoldable pub arriving : Tables → List ℕ → List (List ℕ) → List ℕ
+arriving t held [] = printed t (dropEmpty (held ∷ []))
+arriving t held (b ∷ bs) =
+    let ls : List (List ℕ) = parts 10 (held ++ b) in
+    printed t (ended ls) ++ arriving (tablesAfter t (ended ls)) (take most (unended ls)) bs
+
+-- Turn after turn over one block, each into n emptied bytes, until one prints nothing; k turns at most
+unfoldable pub turns : ℕ → Tables → List ℕ → ℕ → ℕ → Turn
+turns zero t block at n = record { tables = t; place = at; bytes = [] }
+turns (suc k) t block at n =
+    let x : Turn = turn t (ended (parts 10 (drop at block))) at n in
+    let y : Turn = turns k (x .tables) block (x .place) n in
+    elim (eqb (length (x .bytes)) 0) [
+      | true ↦ x
+      | false ↦ record { tables = y .tables; place = y .place; bytes = x .bytes ++ y .bytes }
+    ]

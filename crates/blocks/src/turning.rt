@@ -1,0 +1,35 @@
+// A turn over the lines that end in a block.
+ghost use mathlib.Core.Path.{_≡_};
+ghost use Rattle.blocks.specs.Blocks.{turned};
+use super::Turn;
+use tables::Tables;
+
+// Prints for line after line, from place `at` on, while 8,192 bytes are left of the lent buffer.
+pub fn print_block(tables: Tables, block: &[u8], at: usize, out: &mut [u8]) -> Turn
+    ensures { λ r. ⌜ record { tables = r .tables; place = r .place; used = r .used; buffer = now (out .exit) } ≡ turned tables (now (block .entry)) at (now (out .entry)) ⌝ }
+{
+    let mut t = tables;
+    let mut from = at;
+    let mut used: usize = 0;
+    let mut end = console::line_end(block, from);
+    while end < block.len() {
+        if out.len() - used < 8192 {
+            return Turn {
+                tables: t,
+                place: from,
+                used: used,
+            };
+        }
+        let printed = console::print_line(t, &block[from..end], &mut out[used..]);
+        t = printed.tables;
+        let answer = printed.answer;
+        used += console::bytes_printed(answer);
+        from = end + 1;
+        end = console::line_end(block, from);
+    }
+    Turn {
+        tables: t,
+        place: from,
+        used: used,
+    }
+}

@@ -1,0 +1,83 @@
+// Reads and writes that wait for the other end. A call that was interrupted, or found the other end not ready, is tried again after a short sleep.
+ghost use Prim.Native.Nat.{_<_, _≤_};
+ghost use lib.ListN.{length};
+use libc::EAGAIN;
+use libc::EINTR;
+use libc::STDERR_FILENO;
+use libc::STDIN_FILENO;
+use libc::STDOUT_FILENO;
+use libc::types::timespec;
+
+// What a read comes to: so many bytes, the end of the input, or a failure.
+pub enum Got {
+    Bytes(usize),
+    End,
+    Failed,
+}
+
+// Sleeps for a millisecond.
+fn pause() {
+    let asked = timespec {
+        tv_sec: 0,
+        tv_nsec: 1000000,
+    };
+    let mut left = timespec {
+        tv_sec: 0,
+        tv_nsec: 0,
+    };
+    libc::nanosleep(&asked, &mut left);
+}
+
+// Whether a call that failed may succeed when it is tried again.
+fn is_passing(error: i32) -> bool {
+    error == EINTR || error == EAGAIN
+}
+
+// Reads behind the first `have` bytes of the block. A read that fails is not the end of the input.
+pub fn read_behind(block: &mut [u8], have: usize) -> Got
+    requires { ⌜ have < length (now block) ⌝ }
+{
+    let mut tries = u64::MAX;
+    while tries > 0 {
+        let got = libc::read(STDIN_FILENO, &mut block[have..]);
+        if got > 0 {
+            return Got::Bytes(io::count(got, &block[have..]));
+        }
+        if got == 0 {
+            return Got::End;
+        }
+        if !is_passing(os::errno()) {
+            os::fail(b"sheet: input stopped");
+            return Got::Failed;
+        }
+        pause();
+        tries -= 1;
+    }
+    Got::Failed
+}
+
+// Writes the first n bytes of the output, and answers whether all went out. After a write that fails nothing more is written, so what went out is a front of
+// the whole; and so after one that takes no byte and does not fail.
+pub fn write_front(out: &[u8], n: usize) -> bool
+    requires { ⌜ n ≤ length (now out) ⌝ }
+{
+    let mut from: usize = 0;
+    let mut tries = u64::MAX;
+    while from < n && tries > 0 {
+        let put = libc::write(STDOUT_FILENO, &out[from..n]);
+        if put < 0 {
+            if !is_passing(os::errno()) {
+                os::fail(b"sheet: output stopped");
+                return false;
+            }
+            pause();
+        }
+        if put == 0 {
+            io::write_all(STDERR_FILENO, b"sheet: output stopped: a write took no byte\n");
+            return false;
+        }
+        from += io::count(put, &out[from..n]);
+        tries -= 1;
+    }
+    true
+}
