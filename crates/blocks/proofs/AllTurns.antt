@@ -66,34 +66,34 @@ module _ (s : List ℕ) where
   at-end : PartEnd 10 s 0 (0 + until 10 (drop 0 s))
   at-end = part-end 10 s 0 (omega arith)
 
-  abbrev e : ℕ
-  e = 0 + until 10 (drop 0 s)
+  abbrev stop : ℕ
+  stop = 0 + until 10 (drop 0 s)
 
-  last-cut : e ≡ length s → parts 10 s ≡ s ∷ []
+  last-cut : stop ≡ length s → parts 10 s ≡ s ∷ []
   last-cut h = at-end .last h ∙ ap (λ (xs : List ℕ). xs ∷ []) (ap (λ (k : ℕ). take k s) h ∙ take-length s)
 
-  more-cut : e < length s → ended (parts 10 s) ≡ slice 0 e s ∷ ended (parts 10 (drop (e + 1) s))
-  more-cut h = ap ended (at-end .more h) ∙ ended-next (slice 0 e s) (drop (e + 1) s)
+  more-cut : stop < length s → ended (parts 10 s) ≡ slice 0 stop s ∷ ended (parts 10 (drop (stop + 1) s))
+  more-cut h = ap ended (at-end .more h) ∙ ended-next (slice 0 stop s) (drop (stop + 1) s)
 
   pub first-line : (l : List ℕ) (ls : List (List ℕ)) → ended (parts 10 s) ≡ l ∷ ls → First s l ls
-  first-line l ls q = go (decLt e (length s))
+  first-line l ls q = go (decLt stop (length s))
     where
-      go : Dec (e < length s) → First s l ls
+      go : Dec (stop < length s) → First s l ls
       go (no h) = absurd (omega (arith, ap length (sym (ap ended (last-cut (omega (arith, at-end .high)))) ∙ q)))
       go (yes h) =
           let m = sym (more-cut h) ∙ q in
-          let is : slice 0 e s ≡ l = cc in
-          let rest : ended (parts 10 (drop (e + 1) s)) ≡ ls = cc in
-          let n : e ≡ length l = omega (arith, length-slice 0 e s (at-end .high), ap length is) in
+          let is : slice 0 stop s ≡ l = cc in
+          let rest : ended (parts 10 (drop (stop + 1) s)) ≡ ls = cc in
+          let n : stop ≡ length l = omega (arith, length-slice 0 stop s (at-end .high), ap length is) in
           record {
             cut = at-end .more h ∙ ap₂ (λ (xs : List ℕ) (k : ℕ). xs ∷ parts 10 (drop (k + 1) s)) is n;
             others = ap (λ (k : ℕ). ended (parts 10 (drop (k + 1) s))) (sym n) ∙ rest;
           }
 
   pub none-ends : ended (parts 10 s) ≡ [] → unended (parts 10 s) ≡ s
-  none-ends q = go (decLt e (length s))
+  none-ends q = go (decLt stop (length s))
     where
-      go : Dec (e < length s) → unended (parts 10 s) ≡ s
+      go : Dec (stop < length s) → unended (parts 10 s) ≡ s
       go (yes h) = absurd (omega (arith, ap length (sym (more-cut h) ∙ q)))
       go (no h) = ap unended (last-cut (omega (arith, at-end .high)))
 
@@ -203,7 +203,7 @@ ended-few (x ∷ xs) = go (eqb x 10) (ended-few xs)
     go false ih = omega (arith, first (parts 10 xs))
 
 turns-all : (k : ℕ) (t : Tables) (block : List ℕ) (at n : ℕ) → room ≤ n → length (ended (parts 10 (drop at block))) ≤ k → All t block at (turns k t block at n)
-unfolding turns
+unfolding turns took-none
 turns-all zero t block at n big few = let e = no-length (ended (parts 10 (drop at block))) (omega arith) in none-left t block at n (over t at) (took-none t (drop at block) at n (λ b. e)) refl e
   where
     no-length : (ls : List (List ℕ)) → length ls ≡ 0 → ls ≡ []

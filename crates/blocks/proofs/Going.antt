@@ -3,11 +3,13 @@
 use Prim.Native.Nat.{ℕ, _+_, _-_, _≤_, _<_}
 use native.Mathlib.Decide.{decLt}
 use native.Mathlib.Omega.{arith}
-use mathlib.Core.Path.{_≡_, refl, sym, ap, _∙_}
+use mathlib.Core.Path.{_≡_, refl, sym, ap, ap₂, _∙_}
 use mathlib.Core.List.{List, [], _∷_, _++_, append-nil, append-assoc}
 use lib.ListN.{length, take, drop, length-append, length-drop, drop-of-length-le}
 use lib.Seq.{slice, take-at, drop-at, drop-drop, length-slice}
 use borrow.Author.Tests.{le-leb, lt-leb}
+use borrow.Rule.Slice.PartAt.{part-to-end}
+use borrow.Rule.Slice.PartMut.{putMid, post-is}
 use Rattle.text.specs.Text.{parts}
 use Rattle.rules.specs.Answers as answers
 use Rattle.tables.specs.declared.Tables.{Tables}
@@ -18,7 +20,7 @@ use Rattle.console.specs.Line.{lineOf}
 use Rattle.console.specs.Console.{keyed}
 use Rattle.console.specs.Sheet.{room, lent, shown, printedBytes, lineShown}
 use Rattle.console.proofs.OneLine.{shown-long, printed-fits}
-use Rattle.console.proofs.LineEnds.{LineEnd}
+use Rattle.console.proofs.LineEnds.{LineEnd, line-within, line-taken}
 use Rattle.blocks.specs.Blocks.{ended, Turn, turn, Turned, turned}
 use Rattle.blocks.proofs.Cuts.{ended-next}
 
@@ -94,60 +96,77 @@ module _ {t₀ t : Tables} {block out₀ out : List ℕ} {at from used : ℕ} (g
   going-behind =
       ap (drop used) (g .buffer) ∙ drop-at (g .bytes) (drop (length (g .bytes)) out₀) used (sym (g .many)) ∙ ap (λ (k : ℕ). drop k out₀) (sym (g .many))
 
-  -- a line is printed for
-  module _ (e : ℕ) (E : LineEnd block from e) (in-block : from ≤ length block) (ends : e < length block) (big : room ≤ length out₀ - used)
-      (r : Outcome) (after : List ℕ) (same : length after ≡ length (drop used out)) (says : beside after (told r) ≡ lineShown t (slice from e block) (drop used out)) where
+  pub going-length : length out ≡ length out₀
+  going-length = ap length (g .buffer) ∙ omega (arith, length-append (g .bytes) (drop (length (g .bytes)) out₀), length-drop (length (g .bytes)) out₀, g .fits, g .many)
+
+  -- a line is printed for, into the part of the buffer that is left, which then comes back
+  module _ (e : ℕ) (E : LineEnd block from e) (ends : e < length block) (big : room ≤ length out₀ - used) (r : Outcome) (after : List ℕ)
+      (same : length after ≡ length out - used)
+      (says : beside after (told r) ≡ lineShown t (take (e - from) (drop from block)) (take (length out - used) (drop used out)))
+      (n : ℕ) (counts : n ≡ printedBytes (answers.number (r .answer)) (answers.values (r .answer))) where
     abbrev line : List ℕ
     line = slice from e block
 
     abbrev put : List ℕ
     put = lineBytes t line
 
-    abbrev n : ℕ
-    n = printedBytes (answers.number (r .answer)) (answers.values (r .answer))
+    low : from ≤ e
+    low = E .line (line-within E ends) .low
 
     behind-length : length (drop used out) ≡ length out₀ - used
     behind-length = ap length going-behind ∙ length-drop used out₀
 
-    printing : beside after (told r) ≡ record { number = 0; values = length put ∷ []; tables = keyed t line lent .tables; buffer = front put (drop used out) }
-    printing = says ∙ shown-long t line (drop used out) (omega (arith, behind-length))
+    said : beside after (told r) ≡ lineShown t line (drop used out)
+    said = says ∙ ap₂ (λ (l : List ℕ) (o : List ℕ). lineShown t l o) (line-taken block from e low) (part-to-end out used)
 
-    pub going-many : n ≡ length put
-    going-many = ap (λ (w : Written). printedBytes (w .number) (w .values)) printing
+    printing : beside after (told r) ≡ record { number = 0; values = length put ∷ []; tables = keyed t line lent .tables; buffer = front put (drop used out) }
+    printing = said ∙ shown-long t line (drop used out) (omega (arith, behind-length))
+
+    many : n ≡ length put
+    many = counts ∙ ap (λ (w : Written). printedBytes (w .number) (w .values)) printing
 
     pub going-fits : used + n ≤ length out₀
-    going-fits = omega (arith, printed-fits t line (drop used out) after r says same, behind-length, g .fits)
+    going-fits = omega (arith, printed-fits t line (drop used out) after r said (same ∙ sym (length-drop used out)), behind-length, g .fits)
 
-    going-buffer : take used out ++ after ≡ front (g .bytes ++ put) out₀
-    going-buffer =
-        ap (λ (xs : List ℕ). xs ++ after) going-front
+    all : used + length put ≡ length (g .bytes ++ put)
+    all = omega (arith, length-append (g .bytes) put, g .many)
+
+    back : putMid used (length out - used) out after ≡ take used out ++ after
+    back =
+        ap (λ (xs : List ℕ). take used out ++ (after ++ xs)) (post-is used (length out) out (omega (arith, g .fits, going-length)) ∙ drop-of-length-le out {i = length out} (omega arith))
+        ∙ ap (λ (xs : List ℕ). take used out ++ xs) (append-nil after)
+
+    buffer : putMid used (length out - used) out after ≡ front (g .bytes ++ put) out₀
+    buffer =
+        back
+        ∙ ap (λ (xs : List ℕ). xs ++ after) going-front
         ∙ ap (λ (xs : List ℕ). g .bytes ++ xs) (ap (λ (w : Written). w .buffer) printing ∙ ap (λ (xs : List ℕ). put ++ drop (length put) xs) going-behind)
-        ∙ ap (λ (xs : List ℕ). g .bytes ++ (put ++ xs)) (drop-drop (length put) used out₀ ∙ ap (λ (k : ℕ). drop k out₀) (omega-sum))
+        ∙ ap (λ (xs : List ℕ). g .bytes ++ (put ++ xs)) (drop-drop (length put) used out₀ ∙ ap (λ (k : ℕ). drop k out₀) all)
         ∙ sym (append-assoc (g .bytes) put (drop (length (g .bytes ++ put)) out₀))
-      where
-        omega-sum : used + length put ≡ length (g .bytes ++ put)
-        omega-sum = omega (arith, length-append (g .bytes) put, g .many)
 
-    pub going-line : Going t₀ block at out₀ (take used out ++ after) (r .tables) (e + 1) (used + n)
-    going-line =
+    -- the turn from the next line on
+    abbrev next : Turn
+    next = turn (r .tables) (ended (parts 10 (drop (e + 1) block))) (e + 1) (length out₀ - (used + n))
+
+    left : turn t (ended (parts 10 (drop from block))) from (length out₀ - used) ≡ behind put next
+    left =
         let len : length line ≡ e - from = length-slice from e block (omega arith) in
-        let place : from + length line + 1 ≡ e + 1 = omega (arith, E .line in-block .low) in
-        let rest : length out₀ - used - length put ≡ length out₀ - (used + n) = omega (arith, going-many) in
+        let place : from + length line + 1 ≡ e + 1 = omega (arith, low) in
+        let rest : length out₀ - used - length put ≡ length out₀ - (used + n) = omega (arith, many) in
         let ls : List (List ℕ) = ended (parts 10 (drop (e + 1) block)) in
-        let t′ : r .tables ≡ keyed t line lent .tables = ap (λ (w : Written). w .tables) printing in
-        record {
-          bytes = g .bytes ++ put;
-          many = omega (arith, length-append (g .bytes) put, g .many, going-many);
-          fits = going-fits;
-          buffer = going-buffer;
-          left =
-              g .left
-              ∙ ap (λ (xs : List (List ℕ)). behind (g .bytes) (turn t xs from (length out₀ - used))) (one-line block from e E in-block ends)
-              ∙ ap (behind (g .bytes)) (turn-next t line ls from (length out₀ - used) big)
-              ∙ (λ i. behind (g .bytes) (behind put (turn (sym t′ i) ls (place i) (rest i))))
-              ∙ (λ i. record {
-                tables = turn (r .tables) ls (e + 1) (length out₀ - (used + n)) .tables;
-                place = turn (r .tables) ls (e + 1) (length out₀ - (used + n)) .place;
-                bytes = sym (append-assoc (g .bytes) put (turn (r .tables) ls (e + 1) (length out₀ - (used + n)) .bytes)) i;
-              });
-        }
+        let t′ : keyed t line lent .tables ≡ r .tables = sym (ap (λ (w : Written). w .tables) printing) in
+        ap (λ (xs : List (List ℕ)). turn t xs from (length out₀ - used)) (one-line block from e E (line-within E ends) ends)
+        ∙ turn-next t line ls from (length out₀ - used) big
+        ∙ (λ i. behind put (turn (t′ i) ls (place i) (rest i)))
+
+    pub going-line : Going t₀ block at out₀ (putMid used (length out - used) out after) (r .tables) (e + 1) (used + n)
+    going-line = record {
+      bytes = g .bytes ++ put;
+      many = ap (λ (k : ℕ). used + k) many ∙ all;
+      fits = going-fits;
+      buffer = buffer;
+      left =
+          g .left
+          ∙ ap (behind (g .bytes)) left
+          ∙ (λ i. record { tables = next .tables; place = next .place; bytes = sym (append-assoc (g .bytes) put (next .bytes)) i });
+    }

@@ -3,3 +3,4 @@ pub mod Cuts
 pub mod Arriving
 pub mod Going
 pub mod AllTurns
+pub mod Determined

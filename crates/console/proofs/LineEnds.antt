@@ -1,17 +1,17 @@
 -- Where a line ends: at a place of the block, where the part that begins with it ends. So a search for the part's end finds it.
 -- Assumes nothing.
-use Prim.Native.Nat.{ℕ, _+_, _≤_, _<_}
+use Prim.Native.Nat.{ℕ, _+_, _-_, _≤_, _<_}
 use native.Mathlib.Decide.{decLt}
 use native.Mathlib.Omega.{arith}
 use mathlib.Core.Path.{_≡_, sym, ap, _∙_}
 use mathlib.Core.Bool.{Bool, cond}
 use mathlib.Core.List.{List, []}
-use lib.ListN.{length, getD, drop}
+use lib.ListN.{length, getD, take, drop}
 use lib.Seq.{slice, length-slice}
 use borrow.Author.Tests.{le-leb, lt-leb}
 use Rattle.text.specs.Text.{parts}
 use Rattle.text.specs.Inner.{PartEnd}
-use Rattle.text.proofs.Fields.{until, part-end}
+use Rattle.text.proofs.Fields.{drop-take, until, part-end}
 use Rattle.console.specs.Sheet.{lineEnd}
 
 pub end-past : (s : List ℕ) (from : ℕ) → length s < from → length s ≡ lineEnd s from
@@ -46,3 +46,17 @@ line-end s from = go (decLt (length s) from)
       where
         found : PartEnd 10 s from (from + until 10 (drop from s)) → LineEnd s from (from + until 10 (drop from s))
         found p = record { high = p .high; past = λ k. absurd (omega arith); line = λ k. p }
+
+-- where a line ends in the block, it begins in it
+pub line-within : {s : List ℕ} {from e : ℕ} → LineEnd s from e → e < length s → from ≤ length s
+line-within {s} {from} {e} E h = go (decLt (length s) from)
+  where
+    go : Dec (length s < from) → from ≤ length s
+    go (yes k) = absurd (omega (arith, E .past k))
+    go (no k) = omega arith
+
+-- a line, as the code takes it
+pub line-taken : (s : List ℕ) (from e : ℕ) → from ≤ e → take (e - from) (drop from s) ≡ slice from e s
+line-taken s from e h =
+    let k : from + (e - from) ≡ e = omega arith in
+    sym (drop-take from (e - from) s) ∙ ap (λ (n : ℕ). slice from n s) k

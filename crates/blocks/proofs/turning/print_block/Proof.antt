@@ -1,58 +1,81 @@
--- `blocks::turning::print_block` meets its contract. Assumes nothing.
-use Prim.Native.Nat.{ℕ, _≤_, _<_, _-_}
+-- `blocks::turning::print_block` meets its contract. The invariant: `end` is where the line at `from` ends, and the turn is what was printed and then the turn that is left.
+-- The measure is how much of the block is left. Assumes nothing.
+use Prim.Native.Nat.{ℕ, _+_, _-_, _≤_, _<_}
 use native.Mathlib.Omega.{arith}
-use mathlib.Core.Path.{_≡_, refl}
+use mathlib.Core.Path.{_≡_, sym, subst}
 use lib.ListN.{length}
 use borrow.Author.Needs.{needs}
-use Rattle.console.specs.Sheet.{lineEnd}
-use Rattle.blocks.proofs.Going.{Going, going-start, going-over, going-line, going-fits}
+use Rattle.console.specs.Sheet.{room, lineEnd}
+use Rattle.console.proofs.LineEnds.{LineEnd, line-end, line-within}
+use Rattle.blocks.proofs.Going.{Going, going-start, going-over, going-length, going-fits, going-line, turn-full, turn-none, no-lines}
 use Rattle.blocks.proofs.turning.print_block.Statement.{statement}
 use Rattle.blocks.proofs.turning.print_block.Tie as tie
-use Rattle.blocks.proofs.turning.print_block.Reads as reads
-use Rattle.blocks.proofs.turning.print_block.Lts as lts
-use Rattle.console.proofs.bytes_printed.Reads as bytes-printed-reads
-use Rattle.console.proofs.print_line.Reads as print-line-reads
-use Rattle.console.proofs.line_end.Reads as line-end-reads
 
 abbrev Inv-loop : tie.InvT-loop
-Inv-loop block at out₀ t₀ from₀ used₀ end₀ out t from used end =
-    (end ≡ lineEnd block from) × (length out ≡ length out₀) × Going t₀ block at out₀ out t from used
+Inv-loop block at out₀ t₀ from₀ used₀ end₀ out t from used end = (end ≡ lineEnd block from) × Going t₀ block at out₀ out t from used
 
 abbrev μ-loop : tie.MeasureT-loop
 μ-loop block at out₀ t₀ from₀ used₀ end₀ out t from used end = length block - from
+
+abbrev S : tie.At-loop Inv-loop μ-loop → tie.Start Inv-loop μ-loop
+S c = c .before .before .before .before
+
+ends : (c : tie.At-loop Inv-loop μ-loop) → LineEnd (S c .args .block .now) (c .loop .from) (c .loop .end)
+ends c = subst (LineEnd (S c .args .block .now) (c .loop .from)) (sym (c .loop .inv .0)) (line-end (S c .args .block .now) (c .loop .from))
+
+low : (c : tie.In-loop Inv-loop μ-loop) → c .before .loop .from ≤ c .before .loop .end
+low c = ends (c .before) .line (line-within (ends (c .before)) (c .loop-test .taken)) .low
+
+room-left : (c : tie.Else1 Inv-loop μ-loop) → room ≤ length (S (c .before .before) .args .out .now) - c .before .before .loop .used
+room-left c = omega (arith, going-length (c .before .before .loop .inv .1))
+
+small : (c : tie.After-slice-known Inv-loop μ-loop) → length (c .before .before .args .out .now) < 18446744073709551616
+small c = search needs
+
+abbrev Entered : tie.After-bytes-printed Inv-loop μ-loop → tie.Else1 Inv-loop μ-loop
+Entered c = c .before .before .before .before .before .before .before
+
+fitting : (c : tie.After-bytes-printed Inv-loop μ-loop) → Entered c .before .before .loop .used + c .bytes-printed .result ≤ length (S (Entered c .before .before) .args .out .now)
+fitting c =
+    let i = Entered c .before in
+    let p = c .before .before .before .before in
+    going-fits (i .before .loop .inv .1) (i .before .loop .end) (ends (i .before)) (i .loop-test .taken) (room-left (Entered c))
+    (p .print-line .result) (p .print-line .last .1 .1 .0) (search needs) (p .print-line .ensures) (c .bytes-printed .result) (c .bytes-printed .ensures)
 
 line-end-requires : tie.Need-line-end-requires Inv-loop μ-loop
 line-end-requires c κs = search needs
 
 loop-holds : tie.Need-loop-holds Inv-loop μ-loop
-loop-holds c = ?
+loop-holds c = let a = c .before .before .before .args in (c .line-end .ensures, going-start (a .tables) (a .block .now) (a .at) (a .out .now))
 
 sub-if1 : tie.Need-sub-if1 Inv-loop μ-loop
-sub-if1 c = ?
+sub-if1 c = omega (arith, going-length (c .before .loop .inv .1))
 
 same-length : tie.Need-same-length Inv-loop μ-loop
-same-length c = ?
+same-length c = going-length (c .before .before .loop .inv .1)
 
 returns : tie.Need-returns Inv-loop μ-loop
-returns c = ?
+returns c =
+    let l = c .before .before in
+    going-over (l .loop .inv .1) (turn-full (l .loop .t) _ (l .loop .from) _ (omega (arith, going-length (l .loop .inv .1))))
 
 sub-print-line : tie.Need-sub-print-line Inv-loop μ-loop
-sub-print-line c = ?
+sub-print-line c = low (c .before)
 
 part-print-line-start : tie.Need-part-print-line-start Inv-loop μ-loop
-part-print-line-start c = ?
+part-print-line-start c = low (c .before)
 
 part-print-line-end : tie.Need-part-print-line-end Inv-loop μ-loop
-part-print-line-end c = ?
+part-print-line-end c = search needs
 
 sub-print-line-2 : tie.Need-sub-print-line-2 Inv-loop μ-loop
-sub-print-line-2 c = ?
+sub-print-line-2 c = omega (arith, going-length (c .before .before .before .loop .inv .1))
 
 part-print-line-start-2 : tie.Need-part-print-line-start-2 Inv-loop μ-loop
-part-print-line-start-2 c = ?
+part-print-line-start-2 c = omega (arith, going-length (c .before .before .before .loop .inv .1))
 
 part-print-line-end-2 : tie.Need-part-print-line-end-2 Inv-loop μ-loop
-part-print-line-end-2 c = ?
+part-print-line-end-2 c = search needs
 
 print-line-requires : tie.Need-print-line-requires Inv-loop μ-loop
 print-line-requires c κs = search needs
@@ -61,25 +84,34 @@ bytes-printed-requires : tie.Need-bytes-printed-requires Inv-loop μ-loop
 bytes-printed-requires c κs = search needs
 
 add-used : tie.Need-add-used Inv-loop μ-loop
-add-used c = ?
+add-used c = record { fits = omega (arith, fitting c, small (Entered c .before .before .before .before)) }
 
 add-from : tie.Need-add-from Inv-loop μ-loop
-add-from c = ?
+add-from c = search needs
 
 line-end-requires-2 : tie.Need-line-end-requires-2 Inv-loop μ-loop
 line-end-requires-2 c κs = search needs
 
 loop-less : tie.Need-loop-less Inv-loop μ-loop
-loop-less c = ?
+loop-less c = omega (arith, low (Entered (c .before) .before))
 
 loop-again : tie.Need-loop-again Inv-loop μ-loop
-loop-again c = ?
+loop-again c =
+    let i = Entered (c .before) .before in
+    let p = c .before .before .before .before .before in (
+      c .line-end2 .ensures,
+      going-line (i .before .loop .inv .1) (i .before .loop .end) (ends (i .before)) (i .loop-test .taken) (room-left (Entered (c .before)))
+          (p .print-line .result) (p .print-line .last .1 .1 .0) (search needs) (p .print-line .ensures) (c .before .bytes-printed .result) (c .before .bytes-printed .ensures),
+    )
 
 same-length-2 : tie.Need-same-length-2 Inv-loop μ-loop
-same-length-2 c = ?
+same-length-2 c = going-length (c .before .loop .inv .1)
 
 returns-2 : tie.Need-returns-2 Inv-loop μ-loop
-returns-2 c = ?
+returns-2 c =
+    let l = c .before in
+    going-over (l .loop .inv .1) (turn-none (l .loop .t) _ (l .loop .from) _
+        (no-lines (S l .args .block .now) (l .loop .from) (l .loop .end) (ends l) (omega (arith, ends l .high))))
 
 pub print-block-spec : {M : Type 1} → statement M
 print-block-spec =
