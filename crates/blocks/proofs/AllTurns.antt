@@ -22,7 +22,7 @@ use Rattle.page.specs.Paging.{Written}
 use Rattle.console.specs.Line.{Line, bad, PAGE, asks, lineOf}
 use Rattle.console.specs.Console.{keyed}
 use Rattle.console.specs.Sheet.{room, lent, answerLine, shown, printed}
-use Rattle.blocks.specs.Blocks.{ended, unended, tablesAfter, Turn, turn, turns}
+use Rattle.blocks.specs.Blocks.{ended, unended, tablesAfter, Turn, turn, Turned, turned, turns}
 use Rattle.blocks.proofs.Cuts.{ended-next, unended-next}
 use Rattle.blocks.proofs.Arriving.{printed-append, after-append}
 use Rattle.blocks.proofs.Going.{lineBytes, behind, over, turn-next, turn-full}
@@ -240,3 +240,16 @@ turns-all (suc k) t block at n big few =
 
 pub all-turns : (k : ℕ) (t : Tables) (block : List ℕ) (at n : ℕ) → room ≤ n → length block ≤ k → All t block at (turns k t block at n)
 all-turns k t block at n big few = turns-all k t block at n big (omega (arith, ended-few (drop at block), length-drop at block))
+
+-- what a turn printed fits what was lent
+pub turned-fits : (t : Tables) (block : List ℕ) (at : ℕ) (out : List ℕ) (x : Turned) → x ≡ turned t block at out → length (x .buffer) ≡ length out → x .used ≤ length out
+unfolding turned
+turned-fits t block at out x e same =
+    let bytes : List ℕ = turn t (ended (parts 10 (drop at block))) at (length out) .bytes in
+    omega (
+      arith,
+      ap (λ (y : Turned). y .used) e,
+      ap (λ (y : Turned). length (y .buffer)) e,
+      length-append bytes (drop (length bytes) out),
+      length-drop (length bytes) out,
+    )

@@ -5,9 +5,11 @@ use native.Mathlib.Numerals.{add-one}
 use native.Mathlib.Omega.{arith}
 use native.Mathlib.Decide.{decLt}
 use mathlib.Core.Path.{_≡_, refl, sym, ap, ap₂, _∙_}
+use mathlib.Core.Bool.{Bool, true, false, _&&_}
 use mathlib.Core.List.{List, [], _∷_, _++_}
-use lib.ListN.{length, getD, take, drop, set, length-set, take-append-drop}
+use lib.ListN.{length, getD, take, drop, set, length-set, take-append-drop, length-take}
 use lib.Seq.{slice, take-suc, take-suc-set, drop-set-lt, drop-drop, getD-drop, getD-take, take-all, length-slice, length-take-le}
+use lib.Dec.{leb}
 use borrow.Author.Tests.{le-leb, lt-leb}
 use Rattle.page.specs.Paging.{front}
 use Rattle.blocks.specs.Blocks.{most, Carried, carried}
@@ -34,6 +36,21 @@ carried-turned s from to a = rw (lt-leb from to a, carried)
 pub carried-past : (s : List ℕ) (from to : ℕ) → from ≤ to → length s < to → record { held = 0; block = s } ≡ carried s from to
 unfolding carried
 carried-past s from to a e = rw (le-leb from to a, lt-leb to (length s) e, carried)
+
+-- `most` bytes are held at most
+pub held-few : (s : List ℕ) (from to : ℕ) (x : Carried) → x ≡ carried s from to → x .held ≤ most
+unfolding carried
+held-few s from to x e = rw (ap (λ (y : Carried). y .held) e) (go (leb from to && leb to (length s)))
+  where
+    kept : List ℕ
+    kept = take most (slice from to s)
+
+    carrying : Bool → Carried
+    carrying b = elim b [ true ↦ record { held = length kept; block = front kept s } | false ↦ record { held = 0; block = s } ]
+
+    go : (b : Bool) → carrying b .held ≤ most
+    go true = omega (arith, length-take most (slice from to s))
+    go false = omega arith
 
 module _ {l₀ l : List ℕ} {from to i : ℕ} (h : Copied l₀ from to i l) where
   -- the byte to be copied is as it was

@@ -1,10 +1,9 @@
 // The program `sheet`: reads lines from standard input and prints what each comes to, from the smallest tables on. The work on bytes is done by `blocks` and
 // `console`; here is only the order of the reads and writes.
-ghost use Prim.Native.Nat.{_<_, _≤_};
+ghost use Prim.Native.Nat.{_<_};
 ghost use lib.ListN.{length};
 mod moving;
 
-use moving::Got;
 use tables::Tables;
 
 // The tables after the lines that end in a block, where the line begins that does not, and whether all was written.
@@ -65,12 +64,13 @@ fn print_all(block: &mut [u8], out: &mut [u8])
     let mut left = u64::MAX;
     while left > 0 {
         let got = moving::read_behind(block, have);
-        let Got::Bytes(n) = got else {
-            if let Got::End = got {
+        let n = got.count;
+        if n == 0 {
+            if !got.is_failed {
                 print_last(tables, &block[..have], out);
             }
             return;
-        };
+        }
         let end = have + n;
         let printed = print_turns(tables, &block[..end], out);
         if !printed.is_written {

@@ -1,5 +1,5 @@
 // Reads and writes that wait for the other end. A call that was interrupted, or found the other end not ready, is tried again after a short sleep.
-ghost use Prim.Native.Nat.{_<_, _≤_};
+ghost use Prim.Native.Nat.{_+_, _<_, _≤_};
 ghost use lib.ListN.{length};
 use libc::EAGAIN;
 use libc::EINTR;
@@ -8,11 +8,10 @@ use libc::STDIN_FILENO;
 use libc::STDOUT_FILENO;
 use libc::types::timespec;
 
-// What a read comes to: so many bytes, the end of the input, or a failure.
-pub enum Got {
-    Bytes(usize),
-    End,
-    Failed,
+// What a read comes to: how many bytes; none at the end of the input, and where it failed.
+pub struct Got {
+    pub count: usize,
+    pub is_failed: bool,
 }
 
 // Sleeps for a millisecond.
@@ -36,24 +35,28 @@ fn is_passing(error: i32) -> bool {
 // Reads behind the first `have` bytes of the block. A read that fails is not the end of the input.
 pub fn read_behind(block: &mut [u8], have: usize) -> Got
     requires { ⌜ have < length (now block) ⌝ }
+    ensures { λ r. ⌜ have + r .count ≤ length (now (block .entry)) ⌝ }
 {
     let mut tries = u64::MAX;
     while tries > 0 {
         let got = libc::read(STDIN_FILENO, &mut block[have..]);
-        if got > 0 {
-            return Got::Bytes(io::count(got, &block[have..]));
-        }
-        if got == 0 {
-            return Got::End;
+        if got >= 0 {
+            return Got {
+                count: io::count(got, &block[have..]),
+                is_failed: false,
+            };
         }
         if !is_passing(os::errno()) {
             os::fail(b"sheet: input stopped");
-            return Got::Failed;
+            break;
         }
         pause();
         tries -= 1;
     }
-    Got::Failed
+    Got {
+        count: 0,
+        is_failed: true,
+    }
 }
 
 // Writes the first n bytes of the output, and answers whether all went out. After a write that fails nothing more is written, so what went out is a front of
@@ -63,8 +66,16 @@ pub fn write_front(out: &[u8], n: usize) -> bool
 {
     let mut from: usize = 0;
     let mut tries = u64::MAX;
-    while from < n && tries > 0 {
+    while from < n {
+        if tries == 0 {
+            return false;
+        }
+        tries -= 1;
         let put = libc::write(STDOUT_FILENO, &out[from..n]);
+        if put == 0 {
+            io::write_all(STDERR_FILENO, b"sheet: output stopped: a write took no byte\n");
+            return false;
+        }
         if put < 0 {
             if !is_passing(os::errno()) {
                 os::fail(b"sheet: output stopped");
@@ -72,12 +83,7 @@ pub fn write_front(out: &[u8], n: usize) -> bool
             }
             pause();
         }
-        if put == 0 {
-            io::write_all(STDERR_FILENO, b"sheet: output stopped: a write took no byte\n");
-            return false;
-        }
         from += io::count(put, &out[from..n]);
-        tries -= 1;
     }
     true
 }
