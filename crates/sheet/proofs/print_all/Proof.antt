@@ -83,7 +83,7 @@ loop-less : tie.Need-loop-less Inv-loop μ-loop
 loop-less c = search needs
 
 loop-again : tie.Need-loop-again Inv-loop μ-loop
-loop-again c = (held-few _ _ _ _ (c .carry .ensures), search needs, search needs)
+loop-again c = (held-few _ _ _ _ (c .before .before .carry .ensures), search needs, search needs)
 
 same-length-7 : tie.Need-same-length-7 Inv-loop μ-loop
 same-length-7 c = search needs
