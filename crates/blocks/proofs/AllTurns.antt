@@ -22,7 +22,7 @@ use Rattle.page.specs.Paging.{Written}
 use Rattle.console.specs.Line.{Line, bad, PAGE, asks, lineOf}
 use Rattle.console.specs.Console.{keyed}
 use Rattle.console.specs.Sheet.{room, lent, answerLine, shown, printed}
-use Rattle.blocks.specs.Blocks.{ended, unended, tablesAfter, Turn, turn, Turned, turned, turns}
+use Rattle.blocks.specs.Blocks.{All, ended, unended, tablesAfter, Turn, turn, Turned, turned, turns}
 use Rattle.blocks.proofs.Cuts.{ended-next, unended-next}
 use Rattle.blocks.proofs.Arriving.{printed-append, after-append}
 use Rattle.blocks.proofs.Going.{lineBytes, behind, over, turn-next, turn-full}
@@ -148,12 +148,6 @@ pub turn-ends : (t : Tables) (s : List ℕ) (at n : ℕ) → room ≤ n → leng
 turn-ends t s at n big e =
     let h = turn-took (ended (parts 10 s)) t s at n refl in
     h .some big (printed-some t (h .lines) (ap length (sym (h .bytes)) ∙ e))
-
--- all of the lines from a place on
-pub record All (t : Tables) (block : List ℕ) (at : ℕ) (x : Turn) : Type 0 where
-  pub bytes : x .bytes ≡ printed t (ended (parts 10 (drop at block)))
-  pub tables : x .tables ≡ tablesAfter t (ended (parts 10 (drop at block)))
-  pub rest : drop (x .place) block ≡ unended (parts 10 (drop at block))
 
 -- from the place that a turn comes to
 took-there : (t : Tables) (block : List ℕ) (at n : ℕ) (x : Turn) (h : Took t (drop at block) at n x) → drop (h .past) (drop at block) ≡ drop (x .place) block

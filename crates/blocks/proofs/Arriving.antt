@@ -12,10 +12,10 @@ use Rattle.text.proofs.Fields.{parts-cut}
 use Rattle.tables.specs.declared.Tables.{Tables}
 use Rattle.tables.specs.Tables.{smallest}
 use Rattle.tables.specs.Sound.{sound}
-use Rattle.tables.specs.Calls.{notSound}
-use Rattle.page.specs.Paging.{Written, beside}
+use Rattle.rules.specs.Engine.{beside, notSound}
+use Rattle.page.specs.Paging.{Written}
 use Rattle.console.specs.Line.{Line, lineOf}
-use Rattle.console.specs.Console.{obeyed, keyed}
+use Rattle.console.specs.Console.{obeyed, keyed, keyedIn}
 use Rattle.console.specs.Sheet.{lent, shown, dropEmpty, linesOf, printed, sheet}
 use Rattle.console.proofs.LongLines.{cut-line}
 use Rattle.blocks.specs.Blocks.{ended, unended, tablesAfter, most, arriving}
@@ -50,7 +50,7 @@ drop-empty (l ∷ k ∷ ls) m ms = head l ∙ ap (λ (xs : List (List ℕ)). l �
 
 -- what a line does hangs on what it says
 keyed-says : (t : Tables) (l m : List ℕ) → lineOf l ≡ lineOf m → keyed t l lent ≡ keyed t m lent
-unfolding keyed
+unfolding keyedIn
 keyed-says t l m e = ap (λ (x : Line). doing (sound t) x) e
   where
     doing : Bool → Line → Written

@@ -11,7 +11,7 @@ use lib.ListN.{length, getD, take, drop, set, length-set, take-append-drop, leng
 use lib.Seq.{slice, take-suc, take-suc-set, drop-set-lt, drop-drop, getD-drop, getD-take, take-all, length-slice, length-take-le}
 use lib.Dec.{leb}
 use borrow.Author.Tests.{le-leb, lt-leb}
-use Rattle.page.specs.Paging.{front}
+use Rattle.rules.specs.Engine.{front}
 use Rattle.blocks.specs.Blocks.{most, Carried, carried}
 
 -- i of the bytes between two places stand at the front

@@ -15,7 +15,8 @@ use Rattle.rules.specs.Answers as answers
 use Rattle.tables.specs.declared.Tables.{Tables}
 use Rattle.tables.specs.declared.Outcome.{Outcome}
 use Rattle.tables.specs.Calls.{told}
-use Rattle.page.specs.Paging.{Written, beside, front}
+use Rattle.rules.specs.Engine.{beside, front}
+use Rattle.page.specs.Paging.{Written}
 use Rattle.console.specs.Line.{lineOf}
 use Rattle.console.specs.Console.{keyed}
 use Rattle.console.specs.Sheet.{room, lent, shown, printedBytes, lineShown}

@@ -1,6 +1,7 @@
 -- A text that comes in blocks. The lines that end in a block are printed for, and what stands behind the last of them is held until the next block comes (OUTLINE, "The page and the console line").
 -- Assumes nothing.
 use Prim.Native.Nat.{ℕ, zero, suc, _+_, _-_}
+use mathlib.Core.Path.{_≡_}
 use mathlib.Core.Bool.{Bool, true, false, _&&_}
 use mathlib.Core.List.{List, [], _∷_, _++_}
 use lib.ListN.{length, take, drop}
@@ -9,7 +10,8 @@ use lib.Dec.{leb, eqb}
 use Rattle.text.specs.Text.{parts}
 use Rattle.tables.specs.declared.Tables.{Tables}
 use Rattle.tables.specs.Tables.{smallest}
-use Rattle.page.specs.Paging.{Written, front}
+use Rattle.rules.specs.Engine.{front}
+use Rattle.page.specs.Paging.{Written}
 use Rattle.console.specs.Line.{lineOf}
 use Rattle.console.specs.Console.{keyed}
 use Rattle.console.specs.Sheet.{room, lent, shown, printed, dropEmpty}
@@ -94,3 +96,9 @@ turns (suc k) t block at n =
       | true ↦ x
       | false ↦ record { tables = y .tables; place = y .place; bytes = x .bytes ++ y .bytes }
     ]
+
+-- that is what the lines which end in the block from a place on print, the tables after them, and the place behind the last of them
+pub record All (t : Tables) (block : List ℕ) (at : ℕ) (x : Turn) : Type 0 where
+  pub bytes : x .bytes ≡ printed t (ended (parts 10 (drop at block)))
+  pub tables : x .tables ≡ tablesAfter t (ended (parts 10 (drop at block)))
+  pub rest : drop (x .place) block ≡ unended (parts 10 (drop at block))
