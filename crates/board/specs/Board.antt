@@ -5,7 +5,7 @@ use mathlib.Core.Bool.{Bool, true, false, cond, _&&_}
 use mathlib.Core.List.{List, [], _∷_, _++_, map}
 use lib.ListN.{length, take, replicate}
 use lib.Dec.{leb, eqb}
-use Rattle.lists.specs.Lists.{hit, join}
+use Rattle.lists.specs.Lists.{hit, alike, join}
 use Rattle.tables.specs.declared.Tables.{Tables}
 use Rattle.tables.specs.Tables.{smallest}
 use Rattle.tables.specs.Sound.{sound}
@@ -24,39 +24,67 @@ filled t (l ∷ ls) n =
     let bytes : List ℕ = shown (lineOf l) t r in
     elim (leb (length bytes) n) [ true ↦ bytes ++ filled (r .tables) ls (n - length bytes) | false ↦ [] ]
 
--- a text of at most 2 ^ 48 bytes, run from the smallest tables: how many bytes its output has in all, and the buffer
-pub record Ran : Type 0 where
-  pub length : ℕ
-  pub buffer : List ℕ
-
-abbrev pub longest : ℕ
-longest = 281474976710656
-
-unfoldable pub ran : List ℕ → List ℕ → Ran
-ran s out =
-    elim (leb (length s) longest) [
-      | true ↦ record { length = length (sheet s); buffer = front (filled smallest (linesOf s) (length out)) out }
-      | false ↦ record { length = 0; buffer = out }
-    ]
-
 -- the number of an answer and five values, those that it does not have 0, each in 8 bytes
 unfoldable pub figures : ℕ → List ℕ → List ℕ
 figures a vs = join (map (inBytes 8) (a ∷ take 5 (vs ++ replicate 5 0)))
 
--- a line keyed in on tables in bytes: 1, the tables after it, the lent buffer and the answer; or 0 where a length is not as agreed, and nothing is done
+abbrev pub figuresLength : ℕ
+figuresLength = 48
+
+-- an answer at the front of the bytes lent for it; where these are too few it is told by its number alone
+abbrev pub answering : ℕ → List ℕ → List ℕ → List ℕ
+answering a vs buf = cond (leb figuresLength (length buf)) (front (figures a vs) buf) buf
+
+-- A text run from the smallest tables. 0, how many bytes its output has in all, and how many of them were put; 3 where the text has more than 2 ^ 48 bytes; 12 where too few bytes
+-- are lent for the answer. A refusal leaves the buffer as it was.
+pub record Ran : Type 0 where
+  pub number : ℕ
+  pub buffer : List ℕ
+  pub answer : List ℕ
+
+abbrev pub longest : ℕ
+longest = 281474976710656
+
+abbrev pub notRun : ℕ → List ℕ → List ℕ → Ran
+notRun a out buf = record { number = a; buffer = out; answer = answering a (0 ∷ []) buf }
+
+unfoldable pub ran : List ℕ → List ℕ → List ℕ → Ran
+ran s out buf =
+    let put : List ℕ = filled smallest (linesOf s) (length out) in
+    elim (leb (length s) longest) [
+      | true ↦ elim (leb figuresLength (length buf)) [
+        | true ↦ record { number = 0; buffer = front put out; answer = answering 0 (length (sheet s) ∷ length put ∷ []) buf }
+        | false ↦ notRun 12 out buf
+      ]
+      | false ↦ notRun 3 out buf
+    ]
+
+-- bytes are tables in packed form: they are what packing the tables that they say gives
+unfoldable pub isPacked : List ℕ → Bool
+isPacked s = eqb (length s) packedLength && alike (packed (unpacked s)) s
+
+-- A line keyed in on tables in bytes: the answer's number, the tables after it, the lent buffer, and the answer. 14, first, where the bytes are no tables or these are not sound; 12 where
+-- too few bytes are lent for the answer.
 pub record Boarded : Type 0 where
-  pub accepted : ℕ
+  pub number : ℕ
   pub tables : List ℕ
   pub page : List ℕ
   pub answer : List ℕ
 
+abbrev pub notBoarded : ℕ → List ℕ → List ℕ → List ℕ → Boarded
+notBoarded a s page buf = record { number = a; tables = s; page = page; answer = answering a (0 ∷ []) buf }
+
 unfoldable pub boarded : List ℕ → List ℕ → List ℕ → List ℕ → Boarded
-boarded s line buf a =
-    elim (eqb (length s) packedLength && eqb (length a) 48) [
-      | true ↦ let w : Written = keyed (unpacked s) line buf in record { accepted = 1; tables = packed (w .tables); page = w .buffer; answer = figures (w .number) (w .values) }
-      | false ↦ record { accepted = 0; tables = s; page = buf; answer = a }
+boarded s line page buf =
+    let w : Written = keyed (unpacked s) line page in
+    elim (isPacked s) [
+      | true ↦ elim (leb figuresLength (length buf)) [
+        | true ↦ record { number = w .number; tables = packed (w .tables); page = w .buffer; answer = answering (w .number) (w .values) buf }
+        | false ↦ notBoarded (cond (sound (unpacked s)) 12 14) s page buf
+      ]
+      | false ↦ notBoarded 14 s page buf
     ]
 
--- whether tables in bytes are sound: 1 or 0
+-- whether bytes are tables in packed form that are sound: 1 or 0
 unfoldable pub soundly : List ℕ → ℕ
-soundly s = cond (eqb (length s) packedLength) (hit (sound (unpacked s))) 0
+soundly s = hit (isPacked s && sound (unpacked s))
