@@ -1,6 +1,7 @@
 //! A console line for given tables: requests of every kind, so that each is now accepted and now
 //! refused, and lines that are none.
 
+use crate::ffi::ANSWER;
 use comparer::prng::Prng;
 use comparer::profile::{Profile, Topic};
 use comparer::{spoil, wish};
@@ -97,4 +98,13 @@ fn strange(prng: &mut Prng, good: &str) -> Vec<u8> {
 pub fn buffer(prng: &mut Prng, page: usize) -> usize {
     let shorter = prng.below(page as u64) as usize;
     prng.pick(&[0, shorter, page - 1, page, page, page + 1, page + 100, 8_192.max(page)])
+}
+
+/// Lengths of the bytes lent for an answer: mostly as many as it has, now and then too few or more.
+pub fn answer(prng: &mut Prng) -> usize {
+    match prng.below(16) {
+        0 => prng.pick(&[0, 1, 8, ANSWER - 1]),
+        1 => prng.pick(&[ANSWER + 1, ANSWER + 8, 100]),
+        _ => ANSWER,
+    }
 }

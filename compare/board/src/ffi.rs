@@ -7,9 +7,6 @@ pub const TABLES: usize = 1_237;
 /// An answer as bytes: its number and five values.
 pub const ANSWER: usize = 48;
 
-/// The longest text that `board_run` takes.
-const LONGEST_TEXT: u64 = 1 << 48;
-
 /// What a line was answered with; absent values are 0.
 #[derive(Clone, Copy, Debug, PartialEq, Eq)]
 pub struct Reply {
@@ -28,11 +25,34 @@ impl Reply {
         let [number, values @ ..] = words;
         Reply { number, values }
     }
+
+    pub fn bytes(&self) -> [u8; ANSWER] {
+        let mut bytes = [0; ANSWER];
+        let words = std::iter::once(&self.number).chain(&self.values);
+        for (part, word) in bytes.chunks_exact_mut(8).zip(words) {
+            part.copy_from_slice(&word.to_le_bytes());
+        }
+        bytes
+    }
+}
+
+/// How many bytes the output of a text has in all, and how many of them were put.
+#[derive(Clone, Copy, Debug, PartialEq, Eq)]
+pub struct Counts {
+    pub all: u64,
+    pub put: u64,
 }
 
 mod library {
     extern "C" {
-        pub fn board_run(text: *const u8, text_len: usize, out: *mut u8, out_len: usize) -> u64;
+        pub fn board_run(
+            text: *const u8,
+            text_len: usize,
+            out: *mut u8,
+            out_len: usize,
+            answer: *mut u8,
+            answer_len: usize,
+        ) -> u64;
         pub fn board_ask(
             tables: *mut u8,
             tables_len: usize,
@@ -47,33 +67,41 @@ mod library {
     }
 }
 
-/// Runs a whole console text, into `out` as far as it fits. How many bytes the whole output has;
-/// none for a text that the library does not take.
-pub fn run(text: &[u8], out: &mut [u8]) -> Option<u64> {
-    if text.len() as u64 > LONGEST_TEXT {
-        return None;
-    }
-    // The pointers and lengths are those of slices, and `out`, being lent alone, overlaps nothing.
-    let size =
-        unsafe { library::board_run(text.as_ptr(), text.len(), out.as_mut_ptr(), out.len()) };
-    Some(size)
-}
-
-/// One console line on tables, which become the tables after it. None where there are not so many
-/// bytes as tables have, or where the library does not take them.
-pub fn ask(tables: &mut [u8], line: &[u8], page: &mut [u8]) -> Option<Reply> {
-    if tables.len() != TABLES {
-        return None;
-    }
+/// Runs a whole console text, into `out` as far as it fits; none for a text that the library does
+/// not take.
+pub fn run(text: &[u8], out: &mut [u8]) -> Option<Counts> {
     let mut answer = [0; ANSWER];
-    if ask_bytes(tables, line, page, &mut answer) != 1 {
+    if run_bytes(text, out, &mut answer) != 0 {
         return None;
     }
-    Some(Reply::of_bytes(&answer))
+    let [all, put, ..] = Reply::of_bytes(&answer).values;
+    Some(Counts { all, put })
 }
 
-/// The same with every length as it is given: the library itself tests two of them, and hands back
-/// 0, with nothing done, where they are wrong.
+/// The same with an answer of any length, and the number that is handed back.
+pub fn run_bytes(text: &[u8], out: &mut [u8], answer: &mut [u8]) -> u64 {
+    // The pointers and lengths are those of slices, and two of them are lent alone, so that no two
+    // overlap.
+    unsafe {
+        library::board_run(
+            text.as_ptr(),
+            text.len(),
+            out.as_mut_ptr(),
+            out.len(),
+            answer.as_mut_ptr(),
+            answer.len(),
+        )
+    }
+}
+
+/// One console line on tables, which become the tables after it.
+pub fn ask(tables: &mut [u8], line: &[u8], page: &mut [u8]) -> Reply {
+    let mut answer = [0; ANSWER];
+    ask_bytes(tables, line, page, &mut answer);
+    Reply::of_bytes(&answer)
+}
+
+/// The same with an answer of any length, and the number that is handed back.
 pub fn ask_bytes(tables: &mut [u8], line: &[u8], page: &mut [u8], answer: &mut [u8]) -> u64 {
     // The pointers and lengths are those of slices, and three of them are lent alone, so that no
     // two overlap.
@@ -91,21 +119,12 @@ pub fn ask_bytes(tables: &mut [u8], line: &[u8], page: &mut [u8], answer: &mut [
     }
 }
 
-/// Whether these tables are sound. None where there are not so many bytes as tables have, or where
-/// the library says neither.
+/// Whether these bytes are sound tables; none where the library says neither.
 pub fn sound(tables: &[u8]) -> Option<bool> {
-    if tables.len() != TABLES {
-        return None;
-    }
-    match sound_bytes(tables) {
+    // The pointer and the length are those of a slice, of which the library only reads.
+    match unsafe { library::board_sound(tables.as_ptr(), tables.len()) } {
         0 => Some(false),
         1 => Some(true),
         _ => None,
     }
-}
-
-/// The same with the length as it is given: the library itself tests it.
-pub fn sound_bytes(tables: &[u8]) -> u64 {
-    // The pointer and the length are those of a slice, of which the library only reads.
-    unsafe { library::board_sound(tables.as_ptr(), tables.len()) }
 }

@@ -1,8 +1,8 @@
 //! What a caller could hand in instead of sound tables: a byte or a bit changed, fields exchanged,
-//! noise. Some of it is still sound, and has to work.
+//! another form, another length, noise. Some of it is still sound, and has to work.
 
 use crate::ffi::TABLES;
-use crate::pack::{narrow, Bytes};
+use crate::pack::{narrow, Bytes, AT_RECORDS, RECORD};
 use comparer::damage::damage;
 use comparer::prng::Prng;
 use engine::raw::{Raw, RawWhy, LINKS, SLOTS};
@@ -41,6 +41,33 @@ pub fn noise(prng: &mut Prng, bytes: &mut Bytes) {
     for byte in &mut bytes[start..end] {
         *byte = prng.below(most) as u8;
     }
+}
+
+/// One byte of a record such that the same tables are read in the bytes, and yet they are not in
+/// packed form: a `used` above 1, a kind of why above 4, a number where the why has none, a son or
+/// a lock of 256 and more.
+pub fn reform(prng: &mut Prng, bytes: &mut Bytes) {
+    let at = AT_RECORDS + RECORD * prng.below(RECORDS as u64) as usize;
+    let kind = bytes[at + 9];
+    let any = prng.between(1, 255) as u8;
+    let more = prng.between(1, 251) as u8;
+    let (place, value) = match prng.below(4) {
+        0 if bytes[at] == 1 => (0, prng.pick(&[2, 1 + more])),
+        1 if kind == 4 => (9, prng.pick(&[5, 4 + more])),
+        2 if kind == 0 || kind == 4 => (10, prng.pick(&[1, any])),
+        _ if kind != 1 => (11, prng.pick(&[1, any])),
+        _ if bytes[at] == 1 => (0, prng.pick(&[2, 255])),
+        _ => return,
+    };
+    bytes[at + place] = value;
+}
+
+/// Bytes of another length: some taken off the end, all of them, or some more put behind.
+pub fn resize(prng: &mut Prng, bytes: &mut Vec<u8>) {
+    let fewer = prng.below(TABLES as u64) as usize;
+    let size = prng.pick(&[0, 1, 12, fewer, TABLES - 1, TABLES + 1, TABLES + 28, 2 * TABLES]);
+    let more = prng.below(256) as u8;
+    bytes.resize(size, more);
 }
 
 /// One to three fields change places, or one takes the value of another.

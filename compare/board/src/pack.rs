@@ -12,9 +12,10 @@
 //! | 301 | 40 | links |
 //! | 341 | 32 x 28 | records: used, name 5, priority 2, state, why kind, why number 2, due 8, interval 8 |
 //!
-//! Some bytes are read the same as others (a `used` of 2 as 1, a why kind of 9 as 4), so that
-//! `pack` of `unpack` is not always the bytes one began with; `unpack` of `pack` always is the
-//! tables.
+//! A why has the kind 0 (nothing), 1 (tracks), 2 (son), 3 (lock) or 4 (number); only 1 to 3 have a
+//! number, a son and a lock one below 256. `used` is 0 or 1. The library answers 14 to other bytes.
+//! `unpack` reads any bytes, some the same as others, so that `in_form` is a test of its own;
+//! `unpack` of `pack` always is the tables.
 
 use crate::ffi::TABLES;
 use engine::raw::{Raw, RawNumber, RawRecord, RawWhy, BLANK_NUMBER, SLOTS, UNUSED};
@@ -88,7 +89,32 @@ fn two(number: u64) -> [u8; 2] {
     u16::try_from(number).expect("a number that fits its two bytes").to_le_bytes()
 }
 
-/// The tables that the library reads in these bytes.
+/// Whether bytes are tables in packed form, by the table above: seen byte by byte, with no packing
+/// and no reading.
+pub fn in_form(bytes: &[u8]) -> bool {
+    bytes.len() == TABLES && bytes[AT_RECORDS..].chunks_exact(RECORD).all(record_in_form)
+}
+
+fn record_in_form(record: &[u8]) -> bool {
+    let (used, kind, low, high) = (record[0], record[9], record[10], record[11]);
+    let number = match kind {
+        NOTHING | NUMBER => low == 0 && high == 0,
+        TRACKS => true,
+        SON | LOCK => high == 0,
+        _ => false,
+    };
+    used <= 1 && number
+}
+
+/// The tables in bytes that are in packed form.
+pub fn formed(bytes: &[u8]) -> Option<Raw> {
+    if !in_form(bytes) {
+        return None;
+    }
+    Bytes::try_from(bytes).ok().map(|bytes| unpack(&bytes))
+}
+
+/// The tables that are read in these bytes, whatever they are.
 pub fn unpack(bytes: &Bytes) -> Raw {
     let mut rest: &[u8] = bytes;
     let mut raw = Raw {

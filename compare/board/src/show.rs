@@ -1,11 +1,12 @@
 //! Tables and answers in print, for the report of a difference.
 
-use crate::ffi::Reply;
+use crate::ffi::{Reply, ANSWER};
 use crate::pack::{pack, unpack, Bytes};
 use comparer::report::shown;
 use engine::raw::{Raw, RawRecord, RawWhy, GLOBAL, LINKS, SLOTS, SYSTEM, UNUSED};
 use engine::sheet::lines;
 use engine::tables::RECORDS;
+use std::convert::TryFrom;
 
 /// A line for each field, in an order that does not depend on the values, so that two tables can be
 /// compared line by line. What is blank is left empty.
@@ -98,42 +99,61 @@ fn runs(tracks: &[u8]) -> Vec<String> {
     list
 }
 
-/// The tables that are read in these bytes, and each byte that is read as another.
-pub fn tables(bytes: &Bytes) -> Vec<String> {
-    let raw = unpack(bytes);
+/// The tables that are read in these bytes, and each byte that is not in packed form.
+pub fn tables(bytes: &[u8]) -> Vec<String> {
+    let bytes = match Bytes::try_from(bytes) {
+        Ok(bytes) => bytes,
+        Err(_) => return vec![format!("{} bytes, which are no tables", bytes.len())],
+    };
+    let raw = unpack(&bytes);
     let mut list: Vec<String> =
         fields(&raw).into_iter().filter(|field| !field.is_empty()).collect();
-    for (place, (given, read)) in bytes.iter().zip(pack(&raw).iter()).enumerate() {
-        if given != read {
-            list.push(format!("byte {} is {}, read as {}", place, given, read));
-        }
-    }
+    list.extend(unformed(&bytes));
     list
 }
 
+/// Bytes that are read the same as those of the packed form and yet are others.
+fn unformed(bytes: &Bytes) -> Vec<String> {
+    let form = pack(&unpack(bytes));
+    let pairs = bytes.iter().zip(form.iter()).enumerate();
+    pairs
+        .filter(|(_, (given, formed))| given != formed)
+        .map(|(place, (given, formed))| format!("byte {} is {}, not {}", place, given, formed))
+        .collect()
+}
+
 /// The fields in which the tables after a call differ from those before it.
-pub fn changes(before: &Bytes, after: &Bytes) -> Vec<String> {
-    let (old, new) = (fields(&unpack(before)), fields(&unpack(after)));
+pub fn changes(before: &[u8], after: &[u8]) -> Vec<String> {
+    if before == after {
+        return vec![String::from("as before")];
+    }
+    let (old, new) = match (Bytes::try_from(before), Bytes::try_from(after)) {
+        (Ok(old), Ok(new)) => (old, new),
+        _ => return vec![String::from("other bytes")],
+    };
     let mut list = Vec::new();
-    for (old, new) in old.iter().zip(&new) {
+    for (old, new) in fields(&unpack(&old)).iter().zip(&fields(&unpack(&new))) {
         if old != new {
             list.push(if new.is_empty() { format!("{} -> blank", old) } else { new.clone() });
         }
     }
-    // Bytes that are read the same and yet differ from the packed form.
-    for (place, (given, read)) in after.iter().zip(pack(&unpack(after)).iter()).enumerate() {
-        if given != read {
-            list.push(format!("byte {} is {}, not {}", place, given, read));
-        }
-    }
+    list.extend(unformed(&new));
     if list.is_empty() {
-        list.push(String::from("as before"));
+        list.push(String::from("the same, in packed form"));
     }
     list
 }
 
-pub fn reply(reply: &Reply) -> String {
-    format!("answer {}, values {:?}", reply.number, reply.values)
+/// The answer in the bytes lent for it, and how many there are.
+pub fn answer(bytes: &[u8]) -> String {
+    match bytes.get(..ANSWER).and_then(|front| <[u8; ANSWER]>::try_from(front).ok()) {
+        Some(front) => {
+            let Reply { number, values } = Reply::of_bytes(&front);
+            let rest = &bytes[ANSWER..];
+            format!("answer {}, values {:?}, and behind it {:?}", number, values, rest)
+        }
+        None => format!("{} bytes for the answer: {:?}", bytes.len(), bytes),
+    }
 }
 
 /// How a buffer differs from another of its length: the lines from the first byte that differs to

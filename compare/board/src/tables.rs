@@ -4,7 +4,7 @@ use crate::ask;
 use crate::ffi::{self, Reply, ANSWER, TABLES};
 use crate::harm;
 use crate::make;
-use crate::pack::{pack, unpack, Bytes};
+use crate::pack::{formed, in_form, pack};
 use crate::show;
 use comparer::prng::Prng;
 use comparer::report::shown;
@@ -20,6 +20,8 @@ pub enum Kind {
     Byte,
     Bit,
     Exchanged,
+    Reformed,
+    Resized,
     Noise,
 }
 
@@ -31,35 +33,42 @@ impl Kind {
             Kind::Byte => "one byte changed",
             Kind::Bit => "one bit changed",
             Kind::Exchanged => "fields exchanged",
+            Kind::Reformed => "sound, in another form",
+            Kind::Resized => "of another length",
             Kind::Noise => "noise",
         }
     }
 }
 
 /// Of twenty tables, five are reached, four not, and so on.
-const KINDS: [(Kind, u64); 6] = [
+const KINDS: [(Kind, u64); 8] = [
     (Kind::Reached, 5),
     (Kind::Unreached, 4),
-    (Kind::Byte, 4),
+    (Kind::Byte, 3),
     (Kind::Bit, 2),
-    (Kind::Exchanged, 4),
+    (Kind::Exchanged, 3),
+    (Kind::Reformed, 1),
+    (Kind::Resized, 1),
     (Kind::Noise, 1),
 ];
 
 pub struct Case {
     pub kind: Kind,
-    /// As they are handed to the library: not always in the packed form.
-    pub tables: Bytes,
+    /// As they are handed to the library: not always in packed form, nor of the right length.
+    pub tables: Vec<u8>,
     pub line: Vec<u8>,
     pub page: Vec<u8>,
+    /// Mostly as long as an answer.
+    pub answer: Vec<u8>,
 }
 
-/// What a call leaves.
+/// What a call hands back, and what it leaves.
 #[derive(Clone, PartialEq, Eq)]
 pub struct Outcome {
-    pub reply: Reply,
-    pub tables: Bytes,
+    pub number: u64,
+    pub tables: Vec<u8>,
     pub page: Vec<u8>,
+    pub answer: Vec<u8>,
 }
 
 /// Cases without end; the same ones for the same seed.
@@ -116,9 +125,17 @@ impl Cases {
             Kind::Byte => harm::change_byte(prng, &mut tables),
             Kind::Bit => harm::change_bit(prng, &mut tables),
             Kind::Noise => harm::noise(prng, &mut tables),
-            Kind::Reached | Kind::Unreached | Kind::Exchanged => {}
+            Kind::Reformed => harm::reform(prng, &mut tables),
+            Kind::Reached | Kind::Unreached | Kind::Exchanged | Kind::Resized => {}
         }
-        Case { kind, tables, line, page }
+        let mut tables = tables.to_vec();
+        if kind == Kind::Resized {
+            harm::resize(prng, &mut tables);
+        }
+        let size = ask::answer(prng);
+        // No byte that is there beforehand is one that an absent value has.
+        let answer = (0..size).map(|_| prng.between(1, 255) as u8).collect();
+        Case { kind, tables, line, page, answer }
     }
 }
 
@@ -130,12 +147,37 @@ pub fn reply_of(answer: Answer) -> Reply {
     Reply { number: answer.number, values }
 }
 
-/// The engine's side: the tables as the library reads them, and what follows in the packed form.
+/// The bytes lent for an answer after it: at their front the answer, if they are enough for it.
+pub fn answered(reply: &Reply, lent: &[u8]) -> Vec<u8> {
+    let mut bytes = lent.to_vec();
+    if let Some(front) = bytes.get_mut(..ANSWER) {
+        front.copy_from_slice(&reply.bytes());
+    }
+    bytes
+}
+
+/// Nothing done but the answer told.
+fn refused(case: &Case, number: u64) -> Outcome {
+    let (tables, page) = (case.tables.clone(), case.page.clone());
+    let answer = answered(&Reply { number, values: [0; 5] }, &case.answer);
+    Outcome { number, tables, page, answer }
+}
+
+/// The engine's side: whether the bytes are sound tables, and what the line comes to.
 pub fn engine_side(case: &Case) -> (bool, Outcome) {
-    let raw = unpack(&case.tables);
+    let raw = match formed(&case.tables) {
+        Some(raw) => raw,
+        None => return (false, refused(case, 14)),
+    };
+    let sound = raw.sound();
+    if case.answer.len() < ANSWER {
+        return (sound, refused(case, if sound { 12 } else { 14 }));
+    }
     let mut page = case.page.clone();
     let (after, answer) = raw.line(&case.line, &mut page);
-    (raw.sound(), Outcome { reply: reply_of(answer), tables: pack(&after), page })
+    let reply = reply_of(answer);
+    let answer = answered(&reply, &case.answer);
+    (sound, Outcome { number: reply.number, tables: pack(&after).to_vec(), page, answer })
 }
 
 /// Around each buffer lent to the library, to see whether it keeps within.
@@ -164,22 +206,15 @@ pub fn library_side(case: &Case) -> Result<(bool, Outcome), String> {
     };
     let mut tables = with_margins(&case.tables);
     let mut page = with_margins(&case.page);
-    // Cleared beforehand with a byte that no absent value has.
-    let mut answer = with_margins(&[FILL; ANSWER]);
-    let back =
+    let mut answer = with_margins(&case.answer);
+    let number =
         ffi::ask_bytes(within(&mut tables), &case.line, within(&mut page), within(&mut answer));
-    if back != 1 {
-        return Err(format!("board_ask hands back {}", back));
-    }
     if ![&tables, &page, &answer].iter().all(|bytes| margins_kept(bytes)) {
         return Err(String::from("board_ask writes outside its buffers"));
     }
-    let mut bytes = [0; TABLES];
-    bytes.copy_from_slice(within(&mut tables));
-    let mut words = [0; ANSWER];
-    words.copy_from_slice(within(&mut answer));
-    let page = within(&mut page).to_vec();
-    Ok((sound, Outcome { reply: Reply::of_bytes(&words), tables: bytes, page }))
+    let [tables, page, answer] =
+        [&mut tables, &mut page, &mut answer].map(|bytes| within(bytes).to_vec());
+    Ok((sound, Outcome { number, tables, page, answer }))
 }
 
 /// How much of what was compared.
@@ -191,8 +226,11 @@ pub struct Count {
     answers: [u64; 15],
     /// Of each request on sound tables: accepted and refused.
     requests: BTreeMap<String, (u64, u64)>,
-    /// Tables whose bytes are not in the packed form.
-    read_anew: u64,
+    /// Tables whose bytes are not in packed form.
+    no_form: u64,
+    /// Answers with too little room, and with more than they need.
+    short: u64,
+    longer: u64,
 }
 
 impl Count {
@@ -200,17 +238,19 @@ impl Count {
         let kind = self.kinds.entry(case.kind).or_default();
         kind.0 += 1;
         kind.1 += u64::from(sound);
-        if let Some(count) = self.answers.get_mut(outcome.reply.number as usize) {
+        if let Some(count) = self.answers.get_mut(outcome.number as usize) {
             *count += 1;
         }
-        self.read_anew += u64::from(pack(&unpack(&case.tables)) != case.tables);
-        if sound {
+        self.no_form += u64::from(!in_form(&case.tables));
+        self.short += u64::from(case.answer.len() < ANSWER);
+        self.longer += u64::from(case.answer.len() > ANSWER);
+        if sound && case.answer.len() >= ANSWER {
             // The name of the request without its fields.
             let text = parse(&case.line, Fault::None)
                 .map_or(String::from("not understood"), |request| format!("{:?}", request));
             let name = text.split('(').next().unwrap_or_default();
             let request = self.requests.entry(name.to_string()).or_default();
-            if outcome.reply.number <= 1 {
+            if outcome.number <= 1 {
                 request.0 += 1;
             } else {
                 request.1 += 1;
@@ -227,7 +267,9 @@ impl Count {
         for (kind, (all, sound)) in &self.kinds {
             text += &format!("{:28}{:>10}{:>10}\n", kind.what(), all, sound);
         }
-        text += &format!("{:28}{:>10}\n", "not in the packed form", self.read_anew);
+        text += &format!("{:28}{:>10}\n", "not in packed form", self.no_form);
+        text += &format!("{:28}{:>10}\n", "too few bytes for the answer", self.short);
+        text += &format!("{:28}{:>10}\n", "more bytes than it needs", self.longer);
         text +=
             &format!("\n{:28}{:>10}{:>10}\n", "request, on sound tables", "accepted", "refused");
         for (name, (accepted, refused)) in &self.requests {
@@ -270,10 +312,13 @@ fn block(text: &mut String, title: &str, list: &[String]) {
 }
 
 fn side(text: &mut String, name: &str, case: &Case, (sound, outcome): (bool, &Outcome)) {
-    let before = pack(&unpack(&case.tables));
-    let list = [if sound { "sound" } else { "not sound" }.to_string(), show::reply(&outcome.reply)];
+    let list = [
+        if sound { "sound" } else { "not sound" }.to_string(),
+        format!("number {}", outcome.number),
+        show::answer(&outcome.answer),
+    ];
     block(text, &format!("{} says", name), &list);
-    block(text, "  tables after it", &show::changes(&before, &outcome.tables));
+    block(text, "  tables after it", &show::changes(&case.tables, &outcome.tables));
 }
 
 fn report(
@@ -299,36 +344,23 @@ fn report(
     text
 }
 
-/// Wrong lengths: the library hands back 0 and does nothing. Each slice is a part of a longer
-/// buffer, so that not even a wrong library leaves it.
+/// Every pair of a length of tables and one of the answer, right and wrong.
 pub fn lengths() -> Result<(), String> {
-    let raw = make::unreached(&mut Prng::new(1));
-    let tables = with_margins(&pack(&raw));
-    let answer = [FILL; ANSWER + 2 * MARGIN];
-    for size in [0, 1, 12, TABLES - 1, TABLES, TABLES + 1, TABLES + MARGIN] {
-        let part = MARGIN..MARGIN + size;
-        let sound = ffi::sound_bytes(&tables[part.clone()]);
-        if sound != u64::from(size == TABLES) {
-            return Err(format!("board_sound hands back {} for {} bytes\n", sound, size));
-        }
-        for answer_size in [0, 8, ANSWER - 1, ANSWER, ANSWER + 1] {
-            let (mut tables_after, mut answer_after) = (tables.clone(), answer);
-            let answer_part = &mut answer_after[MARGIN..MARGIN + answer_size];
-            let back = ffi::ask_bytes(
-                &mut tables_after[part.clone()],
-                b"FRESH,1,1,1",
-                &mut [],
-                answer_part,
-            );
-            let right = size == TABLES && answer_size == ANSWER;
-            let untouched = tables_after == tables && answer_after == answer;
-            if back != u64::from(right) || untouched == right {
-                let sizes = format!("{} bytes of tables and {} of answer", size, answer_size);
-                let done = if untouched { "does nothing" } else { "does something" };
-                return Err(format!(
-                    "board_ask, with {}, hands back {} and {}\n",
-                    sizes, back, done
-                ));
+    let tables = [pack(&make::unreached(&mut Prng::new(1))).to_vec(), vec![0; TABLES]].concat();
+    for size in [0, 1, 12, TABLES - 1, TABLES, TABLES + 1, 2 * TABLES] {
+        for answer_size in [0, 8, ANSWER - 1, ANSWER, ANSWER + 1, 2 * ANSWER] {
+            let case = Case {
+                kind: Kind::Resized,
+                tables: tables[..size].to_vec(),
+                line: b"FRESH,1,1,1".to_vec(),
+                page: vec![FILL; 4],
+                answer: vec![FILL; answer_size],
+            };
+            let (sound, expected) = engine_side(&case);
+            let got = library_side(&case);
+            if got != Ok((sound, expected.clone())) {
+                let title = format!("{} bytes of tables, {} of answer:\n", size, answer_size);
+                return Err(title + &report(&case, sound, &expected, &got));
             }
         }
     }

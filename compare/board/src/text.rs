@@ -1,7 +1,9 @@
 //! A whole console text: what the library puts into buffers of several lengths, against what the
 //! engine prints.
 
-use crate::ffi;
+use crate::ffi::{self, Reply, ANSWER};
+use crate::show;
+use crate::tables::answered;
 use comparer::corners::corners;
 use comparer::prng::Prng;
 use comparer::report::shown;
@@ -30,8 +32,8 @@ pub fn pieces(text: &[u8]) -> Vec<Vec<u8>> {
 }
 
 /// What a buffer of this length holds: the output of the lines up to the first that does not fit.
-/// What is behind it stays.
-fn held(pieces: &[Vec<u8>], size: usize) -> Vec<u8> {
+/// What is behind it stays. And how many bytes that is.
+fn held(pieces: &[Vec<u8>], size: usize) -> (Vec<u8>, usize) {
     let mut buffer = Vec::new();
     for piece in pieces {
         if buffer.len() + piece.len() > size {
@@ -39,8 +41,9 @@ fn held(pieces: &[Vec<u8>], size: usize) -> Vec<u8> {
         }
         buffer.extend_from_slice(piece);
     }
+    let put = buffer.len();
     buffer.resize(size, FILL);
-    buffer
+    (buffer, put)
 }
 
 /// Lengths of buffers: exact, longer, and too short by one byte, by much, and around the end of
@@ -56,19 +59,58 @@ fn sizes(prng: &mut Prng, pieces: &[Vec<u8>]) -> Vec<usize> {
     sizes
 }
 
+/// What is handed back, and what is left in the buffer and in the bytes lent for the answer, each
+/// with a margin behind it.
+#[derive(PartialEq, Eq)]
+struct Outcome {
+    number: u64,
+    buffer: Vec<u8>,
+    answer: Vec<u8>,
+}
+
+/// The engine's side, by what each line prints.
+fn engine_side(pieces: &[Vec<u8>], size: usize, answer_size: usize) -> Outcome {
+    let all: usize = pieces.iter().map(Vec::len).sum();
+    let (mut buffer, put) = held(pieces, size);
+    let mut answer = vec![FILL; answer_size];
+    let number = if answer_size < ANSWER {
+        buffer = vec![FILL; size];
+        12
+    } else {
+        let values = [all as u64, put as u64, 0, 0, 0];
+        answer = answered(&Reply { number: 0, values }, &answer);
+        0
+    };
+    buffer.extend([FILL; MARGIN]);
+    answer.extend([FILL; MARGIN]);
+    Outcome { number, buffer, answer }
+}
+
+fn library_side(text: &[u8], size: usize, answer_size: usize) -> Outcome {
+    let mut buffer = vec![FILL; size + MARGIN];
+    let mut answer = vec![FILL; answer_size + MARGIN];
+    let number = ffi::run_bytes(text, &mut buffer[..size], &mut answer[..answer_size]);
+    Outcome { number, buffer, answer }
+}
+
 /// What differs on this text; the same buffers for the same text and seed.
 fn difference(seed: u64, text: &[u8], count: &mut Count) -> Option<String> {
     let pieces = pieces(text);
-    let whole: usize = pieces.iter().map(Vec::len).sum();
-    for size in sizes(&mut Prng::new(seed), &pieces) {
-        count.buffers += 1;
-        let mut buffer = vec![FILL; size + MARGIN];
-        let told = ffi::run(text, &mut buffer[..size]);
-        let mut expected = held(&pieces, size);
-        expected.extend([FILL; MARGIN]);
-        if told != Some(whole as u64) || buffer != expected {
-            let told = told.map_or(String::from("none"), |told| told.to_string());
-            return Some(report(text, &told, whole, &expected, &buffer));
+    let prng = &mut Prng::new(seed);
+    for (place, size) in sizes(prng, &pieces).into_iter().enumerate() {
+        // The first buffer once with too few bytes for the answer, the second with more.
+        let answers = match place {
+            0 => vec![ANSWER, prng.below(ANSWER as u64) as usize, ANSWER - 1],
+            1 => vec![ANSWER + 1, 100],
+            _ => vec![ANSWER],
+        };
+        for answer_size in answers {
+            count.buffers += 1;
+            let expected = engine_side(&pieces, size, answer_size);
+            let got = library_side(text, size, answer_size);
+            if got != expected {
+                return Some(report(text, &expected, &got));
+            }
         }
     }
     count.texts += 1;
@@ -76,13 +118,16 @@ fn difference(seed: u64, text: &[u8], count: &mut Count) -> Option<String> {
     None
 }
 
-fn report(text: &[u8], told: &str, whole: usize, expected: &[u8], got: &[u8]) -> String {
-    let (right, wrong) = (lines(put(expected)), lines(put(got)));
+fn report(text: &[u8], expected: &Outcome, got: &Outcome) -> String {
+    let (right, wrong) = (lines(put(&expected.buffer)), lines(put(&got.buffer)));
     let same = right.iter().zip(&wrong).take_while(|(one, two)| one == two).count();
     let mut report = String::from("text:\n");
     block(&mut report, &lines(text), usize::MAX);
-    report += &format!("its output has {} bytes; the library says {}\n", whole, told);
-    report += &format!("a buffer of {} bytes has to hold:\n", expected.len() - MARGIN);
+    for (title, outcome) in [("the engine", expected), ("the library", got)] {
+        let answer = show::answer(&outcome.answer[..outcome.answer.len() - MARGIN]);
+        report += &format!("{} hands back {}; {}\n", title, outcome.number, answer);
+    }
+    report += &format!("a buffer of {} bytes has to hold:\n", expected.buffer.len() - MARGIN);
     block(&mut report, &right, same);
     report += "it holds:\n";
     block(&mut report, &wrong, same);

@@ -2,7 +2,7 @@
 //! and the engine's own test.
 
 use board::ffi::{Reply, TABLES};
-use board::pack::{pack, unpack, AT_LINKS, AT_NUMBERS, AT_RECORDS, RECORD};
+use board::pack::{in_form, pack, unpack, Bytes, AT_LINKS, AT_NUMBERS, AT_RECORDS, RECORD};
 use board::tables::{engine_side, Cases, Kind};
 use board::{load, make, natural};
 use comparer::prng::Prng;
@@ -42,7 +42,7 @@ fn places() {
     assert_eq!(unpack(&bytes), raw);
 }
 
-/// Bytes that are read as others.
+/// Bytes that are read as others, which are in packed form.
 #[test]
 fn read_as_others() {
     let mut bytes = [0; TABLES];
@@ -59,13 +59,43 @@ fn read_as_others() {
     }
 }
 
+/// The form of each byte of a record that is not free, worked out by hand.
+#[test]
+fn forms() {
+    let with = |changes: &[(usize, u8)]| {
+        let mut bytes = [0; TABLES];
+        for (place, value) in changes {
+            bytes[AT_RECORDS + 31 * RECORD + place] = *value;
+        }
+        in_form(&bytes)
+    };
+    assert!(with(&[]) && with(&[(0, 1)]) && !with(&[(0, 2)]) && !with(&[(0, 255)]));
+    for (kind, low, high) in
+        [(0, false, false), (1, true, true), (2, true, false), (3, true, false), (4, false, false)]
+    {
+        assert!(with(&[(9, kind)]));
+        assert_eq!(with(&[(9, kind), (10, 255)]), low);
+        assert_eq!(with(&[(9, kind), (11, 1)]), high);
+    }
+    assert!(!with(&[(9, 5)]) && !with(&[(9, 9)]) && !with(&[(9, 255)]));
+    assert!([0, 1, TABLES - 1, TABLES + 1].iter().all(|size| !in_form(&vec![0; *size])));
+    for place in [0, 11, 12, 13, 268, 300, 340, AT_RECORDS + 1, AT_RECORDS + 8, AT_RECORDS + 12] {
+        let mut bytes = [0; TABLES];
+        bytes[place] = 255;
+        assert!(in_form(&bytes));
+    }
+}
+
 #[test]
 fn there_and_back() {
     let mut cases = Cases::new(3);
     for _ in 0..3_000 {
         let case = cases.next_case();
-        let raw = unpack(&case.tables);
-        assert_eq!(unpack(&pack(&raw)), raw);
+        if let Ok(bytes) = Bytes::try_from(case.tables) {
+            let raw = unpack(&bytes);
+            assert_eq!(unpack(&pack(&raw)), raw);
+            assert_eq!(in_form(&bytes), pack(&raw) == bytes);
+        }
     }
 }
 
@@ -77,20 +107,26 @@ fn an_answer() {
     }
     let reply = Reply::of_bytes(&bytes);
     assert_eq!(reply, Reply { number: 12, values: [513, 0, 0, 0, (128 << 56) + 5] });
+    assert_eq!(reply.bytes(), bytes);
 }
 
 /// Every answer number occurs, and what no run reaches is there.
 #[test]
 fn the_cases_go_everywhere() {
     let mut cases = Cases::new(1);
-    let mut answers = [0; 15];
+    let (mut answers, mut reformed) = ([0; 15], 0);
     for _ in 0..20_000 {
         let case = cases.next_case();
         let (sound, outcome) = engine_side(&case);
         assert!(sound || !matches!(case.kind, Kind::Reached | Kind::Unreached));
-        answers[outcome.reply.number as usize] += 1;
+        answers[outcome.number as usize] += 1;
+        // Read leniently they would be sound.
+        let other_form = !in_form(&case.tables)
+            && Bytes::try_from(case.tables).map_or(false, |bytes| unpack(&bytes).sound());
+        reformed += u32::from(case.kind == Kind::Reformed && other_form);
     }
     assert!(answers.iter().all(|times| *times > 0), "{:?}", answers);
+    assert!(reformed > 500, "{}", reformed);
     let mut prng = Prng::new(1);
     let (mut dormant_owner, mut mutual, mut beyond, mut full) = (0, 0, 0, 0);
     for _ in 0..5_000 {

@@ -22,7 +22,7 @@ use Rattle.console.specs.Console.{keyed}
 use Rattle.console.specs.Sheet.{room, lent, shown, printedBytes, lineShown}
 use Rattle.console.proofs.OneLine.{shown-long, printed-fits}
 use Rattle.console.proofs.LineEnds.{LineEnd, line-within, line-taken}
-use Rattle.blocks.specs.Blocks.{ended, Turn, turn, Turned, turned}
+use Rattle.blocks.specs.Blocks.{ended, Turn, turn, turned}
 use Rattle.blocks.proofs.Cuts.{ended-next}
 
 -- what a line prints

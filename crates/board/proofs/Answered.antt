@@ -1,22 +1,25 @@
--- Laws of an answer as bytes: five numbers of eight bytes each, and which five an answer's values are.
+-- Laws of an answer as bytes: five numbers of eight bytes each, which five an answer's values are, and the room for them.
 -- Assumes nothing.
-use Prim.Native.Nat.{ℕ, _*_}
+use Prim.Native.Nat.{ℕ, _*_, _<_, _≤_}
 use native.Mathlib.Omega.{arith}
-use mathlib.Core.Path.{_≡_, refl, sym, ap₂}
+use mathlib.Core.Path.{_≡_, refl, sym, ap, ap₂, _∙_}
+use mathlib.Core.Bool.{Bool, cond}
 use mathlib.Core.List.{List, [], _∷_, _++_, map}
 use lib.ListN.{length, getD, take, replicate}
+use borrow.Author.Tests.{le-leb, lt-leb}
 use denote.Enum.Declared.{tagOf}
 use types.Run.{OneOf, miss}
 use Rattle.lists.specs.Lists.{join}
 use Rattle.text.specs.Inner.{Wrote}
-use Rattle.text.proofs.Laws.{parts-start, parts-step, parts-end, wrote-then}
+use Rattle.text.proofs.Laws.{parts-start, parts-step, parts-end, wrote-then, wrote-front}
+use Rattle.rules.specs.Engine.{front}
 use Rattle.page.proofs.Writing.{wrote-as}
 use Rattle.rules.specs.declared.Answer.{Answer}
 use Rattle.rules.specs.declared.Answer.the-variants.{Done, Told, Waits, NoCaller, NotAllowed, NoProgram, WrongState, NameInUse, AllUsed, NoRoom, NotHolder, NotAllocated, AtCeiling, TooShort, NotUnderstood, NotSound}
 use Rattle.rules.specs.Answers.{number, values}
 use Rattle.rules.proofs.Answer.{the-type}
 use Rattle.board.specs.Packed.{inBytes}
-use Rattle.board.specs.Board.{figures}
+use Rattle.board.specs.Board.{figures, figuresLength, answering}
 
 -- an answer that holds nothing has the value 0; the places of such answers among all
 abbrev bare : List ℕ
@@ -78,6 +81,12 @@ unfolding figures
 figures-wrote a n vs e f v w =
     wrote-as (ap₂ (λ (k : ℕ) (xs : List ℕ). join (map (inBytes 8) (k ∷ xs))) (sym e) (sym f)) (wrote-then (inBytes 8 n) (join (map (inBytes 8) vs)) v w)
 
+-- the number 0, and two values
+pub counts-wrote : {l₀ l₁ l₂ : List ℕ} {at₀ at₁ at₂ : ℕ} (a b : ℕ) → Wrote l₀ at₀ (inBytes 8 0) l₁ at₁
+    → Wrote l₁ at₁ (join (map (inBytes 8) (a ∷ b ∷ 0 ∷ 0 ∷ 0 ∷ []))) l₂ at₂ → Wrote l₀ at₀ (figures 0 (a ∷ b ∷ [])) l₂ at₂
+unfolding figures
+counts-wrote a b v w = wrote-then (inBytes 8 0) (join (map (inBytes 8) (a ∷ b ∷ 0 ∷ 0 ∷ 0 ∷ []))) v w
+
 -- a number of eight bytes, and five more
 five-long : (vs : List ℕ) → length (take 5 (vs ++ replicate {A = ℕ} 5 0)) ≡ 5
 five-long [] = refl
@@ -95,3 +104,12 @@ pub figures-length : (a : ℕ) (vs : List ℕ) → length (figures a vs) ≡ 48
 unfolding figures
 figures-length a vs =
     omega (arith, longs-length (a ∷ take 5 (vs ++ replicate {A = ℕ} 5 0)), five-long vs)
+
+-- an answer goes to the bytes lent for it, where these are enough
+module _ (a : ℕ) (vs buf : List ℕ) where
+  pub answering-not : length buf < figuresLength → answering a vs buf ≡ buf
+  answering-not h = ap (λ (b : Bool). cond b (front (figures a vs) buf) buf) (lt-leb figuresLength (length buf) h)
+
+  pub answering-put : {buf′ : List ℕ} {n : ℕ} → figuresLength ≤ length buf → Wrote buf 0 (figures a vs) buf′ n → buf′ ≡ answering a vs buf
+  answering-put h w =
+      wrote-front w (omega (arith, figures-length a vs)) ∙ sym (ap (λ (b : Bool). cond b (front (figures a vs) buf) buf) (le-leb figuresLength (length buf) h))

@@ -2,8 +2,11 @@ pub mod Figures
 pub mod Fills
 pub mod Pieces
 pub mod Lossless
+pub mod OneForm
 pub mod Answered
 pub mod Agreed
+pub mod Determined
 pub mod Lines
 pub mod Whole
+pub mod Refused
 pub mod Running

@@ -11,7 +11,7 @@ use Rattle.text.specs.Text.{parts}
 use Rattle.text.specs.Inner.{PartEnd}
 use Rattle.text.proofs.Fields.{slice-next, drop-take, parts-cut}
 use Rattle.console.specs.Sheet.{dropEmpty, linesOf}
-use Rattle.console.specs.Inner.{LineEnd}
+use Rattle.console.proofs.LineEnds.{LineEnd}
 
 -- a slice, as the code takes it
 pub slice-taken : (s : List ℕ) (from e : ℕ) → from ≤ e → take (e - from) (drop from s) ≡ slice from e s

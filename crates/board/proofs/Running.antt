@@ -9,21 +9,23 @@ use mathlib.Core.List.{List, [], _∷_}
 use mathlib.Core.Logic.{_⊎_, inl, inr}
 use lib.ListN.{length, take, drop}
 use lib.Seq.{slice, take-at}
-use borrow.Author.Tests.{le-leb}
-use Rattle.rules.specs.Engine.{madeBy}
 use Rattle.text.specs.Inner.{Wrote}
 use Rattle.text.proofs.Laws.{Left, left-start, left-step, left-end, wrote-front}
 use Rattle.page.proofs.Writing.{left-as, wrote-as}
+use Rattle.rules.specs.Answers as answers
 use Rattle.rules.specs.Rules.{sizes}
 use Rattle.rules.specs.Keeper.{lists, fresh}
 use Rattle.tables.specs.declared.Tables.{Tables}
 use Rattle.tables.specs.declared.Outcome.{Outcome}
 use Rattle.tables.specs.Tables.{lay, smallest}
 use Rattle.tables.specs.Calls.{Result, told, made}
-use Rattle.console.specs.Sheet.{room, Shown, lineShown, linesOf, printed, sheet}
-use Rattle.console.specs.Inner.{LineEnd}
-use Rattle.console.proofs.OneLine.{printing}
-use Rattle.board.specs.Board.{longest, filled, ran}
+use Rattle.rules.specs.Engine.{beside, front, madeBy}
+use Rattle.page.specs.Paging.{Written}
+use Rattle.console.specs.Sheet.{room, lineShown, printedBytes, linesOf, printed, sheet}
+use Rattle.console.proofs.LineEnds.{LineEnd}
+use Rattle.console.proofs.OneLine.{shown-long, printed-fits}
+use Rattle.board.specs.Board.{figures, figuresLength, answering, longest, filled, ran}
+use Rattle.board.proofs.Answered.{answering-put}
 use Rattle.board.proofs.Lines.{lines-none, lines-next}
 use Rattle.board.proofs.Whole.{bytesOf, after, printed-length, printed-none, filled-fits, filled-over, filled-none, filled-most, ran-put}
 
@@ -44,21 +46,17 @@ pub record Shows (t : Tables) (l : List ℕ) (n : ℕ) (t′ : Tables) (space : 
   pub within : n ≤ length space
 
 module _ (t : Tables) (l space : List ℕ) (big : room ≤ length space) where
-  shown-long : lineShown t l space ≡ printing (bytesOf t l) (after t l) space
-  unfolding lineShown
-  shown-long = ap (λ (b : Bool). elim b [ true ↦ printing (bytesOf t l) (after t l) space | false ↦ record { length = 0; tables = t; buffer = space } ]) (le-leb room (length space) big)
-
-  pub line-printed : (n : ℕ) (t′ : Tables) (space′ : List ℕ) → record { length = n; tables = t′; buffer = space′ } ≡ lineShown t l space → n ≤ length space → length space′ ≡ length space
-      → Shows t l n t′ space′
-  line-printed n t′ space′ e h k =
-      let w = e ∙ shown-long in
-      let long : n ≡ length (bytesOf t l) = ap (λ (x : Shown). x .length) w in
+  pub line-printed : (r : Outcome) (n : ℕ) (space′ : List ℕ) → beside space′ (told r) ≡ lineShown t l space
+      → n ≡ printedBytes (answers.number (r .answer)) (answers.values (r .answer)) → length space′ ≡ length space → Shows t l n (r .tables) space′
+  line-printed r n space′ e m k =
+      let w = e ∙ shown-long t l space big in
+      let long : n ≡ length (bytesOf t l) = m ∙ ap (λ (x : Written). printedBytes (x .number) (x .values)) w in
       record {
         long = long;
-        tables = ap (λ (x : Shown). x .tables) w;
+        tables = ap (λ (x : Written). x .tables) w;
         begins =
-            ap (take n) (ap (λ (x : Shown). x .buffer) w) ∙ take-at (bytesOf t l) (drop (length (bytesOf t l)) space) n (sym long);
-        within = omega arith;
+            ap (take n) (ap (λ (x : Written). x .buffer) w) ∙ take-at (bytesOf t l) (drop (length (bytesOf t l)) space) n (sym long);
+        within = omega (arith, m, printed-fits t l space space′ r e k);
       }
 
 -- THE LOOP
@@ -160,15 +158,27 @@ module _ {s out₀ out : List ℕ} {t : Tables} {from used needed : ℕ} {full :
           left = left-as (ap₂ (λ (x : Tables) (k : ℕ). filled x behind k) (sym (T .shows .tables)) at) (left-step bytes here put);
         })
 
--- the text is at its end
-pub run-end : (s out₀ out : List ℕ) (t : Tables) (from used needed : ℕ) (full : Bool) → Run s out₀ out t from used needed full → length s ≤ from → length s ≤ longest
-    → record { length = needed; buffer = out } ≡ ran s out₀
-run-end s out₀ out t from used needed full R h small =
-    let ls = lines-none s from h in
-    let done : needed ≡ length (sheet s) = omega (arith, R .counted, ap (λ (x : List (List ℕ)). length (printed t x)) ls, printed-none t) in
-    let put = wrote-front (left-end (R .left) (ap (λ (x : List (List ℕ)). rest full t x (length out₀ - used)) ls ∙ nothing full)) (filled-most smallest (linesOf s) (length out₀)) in
-    (λ i. record { length = done i; buffer = put i }) ∙ sym (ran-put s out₀ small)
-  where
-    nothing : (b : Bool) → rest b t [] (length out₀ - used) ≡ []
-    nothing true = refl
-    nothing false = filled-none t (length out₀ - used)
+-- the text is at its end: the count is that of all its output, and what is put is what fits
+module _ (s out₀ buf out : List ℕ) (t : Tables) (from used needed : ℕ) (full : Bool) (R : Run s out₀ out t from used needed full) (end : length s ≤ from) where
+  abbrev all : List ℕ
+  all = filled smallest (linesOf s) (length out₀)
+
+  all-counted : needed ≡ length (sheet s)
+  all-counted = omega (arith, R .counted, ap (λ (x : List (List ℕ)). length (printed t x)) (lines-none s from end), printed-none t)
+
+  all-put : Wrote out₀ 0 all out used
+  all-put = left-end (R .left) (ap (λ (x : List (List ℕ)). rest full t x (length out₀ - used)) (lines-none s from end) ∙ nothing full)
+    where
+      nothing : (b : Bool) → rest b t [] (length out₀ - used) ≡ []
+      nothing true = refl
+      nothing false = filled-none t (length out₀ - used)
+
+  pub run-end : (buf′ : List ℕ) (n : ℕ) → length s ≤ longest → figuresLength ≤ length buf → Wrote buf 0 (figures 0 (needed ∷ used ∷ [])) buf′ n
+      → record { number = 0; buffer = out; answer = buf′ } ≡ ran s out₀ buf
+  run-end buf′ n small enough w =
+      let put = wrote-front all-put (filled-most smallest (linesOf s) (length out₀)) in
+      let used-all : used ≡ length all = omega (arith, all-put .place) in
+      let told = answering-put 0 (needed ∷ used ∷ []) buf enough w in
+      (λ i. record { number = 0; buffer = put i; answer = told i })
+      ∙ ap₂ (λ (k l : ℕ). record { number = 0; buffer = front all out₀; answer = answering 0 (k ∷ l ∷ []) buf }) all-counted used-all
+      ∙ sym (ran-put s out₀ buf small enough)

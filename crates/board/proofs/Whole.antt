@@ -14,7 +14,7 @@ use Rattle.rules.specs.Engine.{front}
 use Rattle.console.specs.Line.{lineOf}
 use Rattle.console.specs.Console.{keyed}
 use Rattle.console.specs.Sheet.{lent, shown, linesOf, printed, sheet}
-use Rattle.board.specs.Board.{longest, filled, ran}
+use Rattle.board.specs.Board.{figuresLength, answering, longest, filled, Ran, notRun, ran}
 
 -- what a line prints, and the tables after it
 abbrev pub bytesOf : Tables → List ℕ → List ℕ
@@ -78,23 +78,31 @@ filled-all t (l ∷ ls) n h =
     ∙ ap (λ (r : List ℕ). bytesOf t l ++ r) (filled-all (after t l) ls (n - length (bytesOf t l)) (omega arith))
 
 -- a whole text
-module _ (s out : List ℕ) where
+module _ (s out buf : List ℕ) where
   abbrev put : List ℕ
   put = filled smallest (linesOf s) (length out)
 
-  by-size : (b : Bool) → leb (length s) longest ≡ b
-      → ran s out ≡ elim b [ true ↦ record { length = length (sheet s); buffer = front put out } | false ↦ record { length = 0; buffer = out } ]
-  unfolding ran
-  by-size b e = ap (λ (x : Bool). elim x [ true ↦ record { length = length (sheet s); buffer = front put out } | false ↦ record { length = 0; buffer = out } ]) e
+  -- it is run, and x of its output is put
+  abbrev pub runs : List ℕ → Ran
+  runs x = record { number = 0; buffer = front x out; answer = answering 0 (length (sheet s) ∷ length x ∷ []) buf }
 
-  pub ran-over : longest < length s → ran s out ≡ record { length = 0; buffer = out }
+  abbrev pub by-answer : Bool → Ran
+  by-answer b = elim b [ true ↦ runs put | false ↦ notRun 12 out buf ]
+
+  pub by-size : (b : Bool) → leb (length s) longest ≡ b → ran s out buf ≡ elim b [ true ↦ by-answer (leb figuresLength (length buf)) | false ↦ notRun 3 out buf ]
+  unfolding ran
+  by-size b e = ap (λ (x : Bool). elim x [ true ↦ by-answer (leb figuresLength (length buf)) | false ↦ notRun 3 out buf ]) e
+
+  pub ran-over : longest < length s → ran s out buf ≡ notRun 3 out buf
   ran-over h = by-size false (lt-leb (length s) longest h)
 
-  pub ran-put : length s ≤ longest → ran s out ≡ record { length = length (sheet s); buffer = front put out }
-  ran-put h = by-size true (le-leb (length s) longest h)
+  pub ran-short : length s ≤ longest → length buf < figuresLength → ran s out buf ≡ notRun 12 out buf
+  ran-short h k = by-size true (le-leb (length s) longest h) ∙ ap by-answer (lt-leb figuresLength (length buf) k)
 
-  -- a buffer that is long enough begins with all that `sheet` prints
-  pub ran-whole : length s ≤ longest → length (sheet s) ≤ length out → ran s out ≡ record { length = length (sheet s); buffer = front (sheet s) out }
+  pub ran-put : length s ≤ longest → figuresLength ≤ length buf → ran s out buf ≡ runs put
+  ran-put h k = by-size true (le-leb (length s) longest h) ∙ ap by-answer (le-leb figuresLength (length buf) k)
+
+  -- a buffer that is long enough begins with all that `sheet` prints, and both counts are its length
+  pub ran-whole : length s ≤ longest → figuresLength ≤ length buf → length (sheet s) ≤ length out → ran s out buf ≡ runs (sheet s)
   unfolding sheet
-  ran-whole h room =
-      ran-put h ∙ ap (λ (x : List ℕ). record { length = length (sheet s); buffer = front x out }) (filled-all smallest (linesOf s) (length out) room)
+  ran-whole h k room = ran-put h k ∙ ap runs (filled-all smallest (linesOf s) (length out) room)

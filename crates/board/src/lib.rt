@@ -1,19 +1,35 @@
-// The executive for callers in other languages: functions on bytes. Each takes anything that it is handed.
+// The executive for callers in other languages: three functions on bytes. They trust nobody: whatever bytes they are handed, of whatever lengths, the
+// contracts say what comes back. In C, where a slice is a pointer and its length in bytes:
+//
+//     uint64_t board_run(const uint8_t *text, size_t, uint8_t *out, size_t, uint8_t *answer, size_t);
+//     uint64_t board_ask(uint8_t *tables, size_t, const uint8_t *line, size_t, uint8_t *page, size_t, uint8_t *answer, size_t);
+//     uint64_t board_sound(const uint8_t *tables, size_t);
+//
+// What no contract can say, the caller sees to: each pointer is valid for its length, for writing too where it is not const; bytes that are lent for
+// writing overlap no others that are handed in; and nothing else writes to any of them before the call returns.
+//
+// board_run and board_ask hand back the answer's number. The answer itself goes to the front of `answer`, in 48 bytes: its number and five values of
+// 8 bytes each, the lowest first. Fewer than 48 bytes are answered 12: nothing is done, and no byte is written.
 mod pack;
 mod telling;
 
 ghost use mathlib.Core.Path.{_≡_};
 ghost use Rattle.board.specs.Board.{ran, boarded, soundly};
+use rules::Answer;
 use tables::Tables;
 
-// Runs a whole console text from the smallest tables, as `sheet` does. It answers how many bytes the output has in all; a line's output is put where it and all
-// before it fit.
+// Runs a whole console text from the smallest tables, as `sheet` does; a line's output is put where it and all before it fit. 0, and as values how many
+// bytes the output has in all and how many were put; or 3, and `out` as it was, where the text has more than 2^48 bytes. 3 goes before 12.
 #[no_mangle]
-pub extern "C" fn board_run(text: &[u8], out: &mut [u8]) -> u64
-    ensures { λ r. ⌜ record { length = r; buffer = now (out .exit) } ≡ ran (now (text .entry)) (now (out .entry)) ⌝ }
+pub extern "C" fn board_run(text: &[u8], out: &mut [u8], answer: &mut [u8]) -> u64
+    ensures { λ r. ⌜ record { number = r; buffer = now (out .exit); answer = now (answer .exit) }
+        ≡ ran (now (text .entry)) (now (out .entry)) (now (answer .entry)) ⌝ }
 {
     if 281474976710656 < text.len() {
-        return 0;
+        return telling::tell(answer, Answer::NotAllowed);
+    }
+    if answer.len() < 48 {
+        return 12;
     }
     let first = Tables::fresh(1, 0, 0);
     let mut tables = first.tables;
@@ -26,7 +42,8 @@ pub extern "C" fn board_run(text: &[u8], out: &mut [u8]) -> u64
         let end = console::line_end(text, from);
         let printed = console::print_line(tables, &text[from..end], &mut space);
         tables = printed.tables;
-        let n = printed.length;
+        let told = printed.answer;
+        let n = console::bytes_printed(told);
         needed += n as u64;
         if out.len() - used < n {
             is_full = true;
@@ -36,15 +53,16 @@ pub extern "C" fn board_run(text: &[u8], out: &mut [u8]) -> u64
         }
         from = end + 1;
     }
-    needed
+    telling::put_counts(answer, needed, used as u64);
+    0
 }
 
-// Whether the tables in 1,237 bytes are sound.
+// 1 where the bytes are tables in packed form that are sound, else 0.
 #[no_mangle]
 pub extern "C" fn board_sound(tables: &[u8]) -> u64
     ensures { λ r. ⌜ r ≡ soundly (now (tables .entry)) ⌝ }
 {
-    if tables.len() != 1237 {
+    if !pack::is_packed(tables) {
         return 0;
     }
     let t = pack::tables_at(tables);
@@ -54,7 +72,8 @@ pub extern "C" fn board_sound(tables: &[u8]) -> u64
     0
 }
 
-// One console line on any tables, which stand in 1,237 bytes and are replaced; the answer's number and five values go to 48 bytes.
+// One console line on tables in packed form, which are replaced by those after it. The line's own answer; or 14, and every byte as it was, where the bytes
+// are no tables in packed form or these are not sound. 14 goes before 12.
 #[no_mangle]
 pub extern "C" fn board_ask(
     tables: &mut [u8],
@@ -62,20 +81,22 @@ pub extern "C" fn board_ask(
     page: &mut [u8],
     answer: &mut [u8],
 ) -> u64
-    ensures { λ r. ⌜ record { accepted = r; tables = now (tables .exit); page = now (page .exit); answer = now (answer .exit) }
+    ensures { λ r. ⌜ record { number = r; tables = now (tables .exit); page = now (page .exit); answer = now (answer .exit) }
         ≡ boarded (now (tables .entry)) (now (line .entry)) (now (page .entry)) (now (answer .entry)) ⌝ }
 {
-    if tables.len() != 1237 {
-        return 0;
-    }
-    if answer.len() != 48 {
-        return 0;
+    if !pack::is_packed(tables) {
+        return telling::tell(answer, Answer::NotSound);
     }
     let t = pack::tables_at(tables);
+    if answer.len() < 48 {
+        if t.is_sound() {
+            return 12;
+        }
+        return 14;
+    }
     let r = console::key_line(t, line, page);
     let after = r.tables;
     pack::put_tables(tables, after);
     let told = r.answer;
-    telling::put_figures(answer, told);
-    1
+    telling::tell(answer, told)
 }

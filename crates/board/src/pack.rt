@@ -6,6 +6,7 @@ ghost use lib.ListN.{length, take, drop};
 ghost use Rattle.lists.specs.Lists.{from, join};
 ghost use Rattle.text.specs.Inner.{Wrote};
 ghost use Rattle.board.specs.Packed.{inBytes, figureAt, kindOf, countOf, whyOf, packProgram, programAt, packResource, resourceAt, packed, unpacked, programsPlace, resourcesPlace, packedLength};
+ghost use Rattle.board.specs.Board.{isPacked};
 use clock::Clock;
 use ledger::Ledger;
 use records::Numbers;
@@ -268,4 +269,17 @@ pub(crate) fn put_tables(buf: &mut [u8], tables: Tables) -> usize
     let f = put_resources(buf, e, resources);
     let g = text::put_bytes(buf, f, &links);
     put_programs(buf, g, programs)
+}
+
+// Whether bytes are tables in packed form: read and packed anew they are the same bytes.
+pub(crate) fn is_packed(s: &[u8]) -> bool
+    ensures { λ r. ⌜ r ≡ isPacked (now (s .entry)) ⌝ }
+{
+    if s.len() != 1237 {
+        return false;
+    }
+    let tables = tables_at(s);
+    let mut form = [0u8; 1237];
+    put_tables(&mut form, tables);
+    text::is_word(&form, 0, 1237, s)
 }

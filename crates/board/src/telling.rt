@@ -7,7 +7,7 @@ ghost use Rattle.lists.specs.Lists.{join};
 ghost use Rattle.text.specs.Inner.{Wrote};
 ghost use Rattle.rules.specs.Answers.{number, values};
 ghost use Rattle.board.specs.Packed.{inBytes};
-ghost use Rattle.board.specs.Board.{figures};
+ghost use Rattle.board.specs.Board.{figures, figuresLength, answering};
 use super::pack;
 use rules::Answer;
 
@@ -47,7 +47,7 @@ fn put_five(buf: &mut [u8], at: usize, a: u64, b: u64, c: u64, d: u64, e: u64) -
 }
 
 pub(crate) fn put_figures(buf: &mut [u8], answer: Answer) -> usize
-    requires { ⌜ length (now buf) ≡ 48 ⌝ }
+    requires { ⌜ figuresLength ≤ length (now buf) ⌝ }
     ensures { λ r. ⌜ Wrote (now (buf .entry)) 0 (figures (number answer) (values answer)) (now (buf .exit)) r ⌝ }
 {
     let at = pack::put_long(buf, 0, console::number_of(answer));
@@ -55,4 +55,26 @@ pub(crate) fn put_figures(buf: &mut [u8], answer: Answer) -> usize
         return put_five(buf, at, t.day, t.hour, t.minute, t.second, t.hundredth);
     }
     put_five(buf, at, first_value(answer), 0, 0, 0, 0)
+}
+
+// Tells an answer: its figures at the front of the bytes lent for it, where these are enough, and its number.
+pub(crate) fn tell(buf: &mut [u8], answer: Answer) -> u64
+    ensures { λ r. ⌜ r ≡ number answer ⌝ }
+    ensures { λ r. ⌜ now (buf .exit) ≡ answering (number answer) (values answer) (now (buf .entry)) ⌝ }
+{
+    let number = console::number_of(answer);
+    if buf.len() < 48 {
+        return number;
+    }
+    put_figures(buf, answer);
+    number
+}
+
+// Tells of a text that was run how many bytes its output has in all, and how many of them were put.
+pub(crate) fn put_counts(buf: &mut [u8], all: u64, put: u64) -> usize
+    requires { ⌜ figuresLength ≤ length (now buf) ⌝ }
+    ensures { λ r. ⌜ Wrote (now (buf .entry)) 0 (figures 0 (all ∷ put ∷ [])) (now (buf .exit)) r ⌝ }
+{
+    let at = pack::put_long(buf, 0, 0);
+    put_five(buf, at, all, put, 0, 0, 0)
 }

@@ -23,7 +23,6 @@ use Rattle.tables.specs.Tables.{lay, smallest}
 use Rattle.tables.specs.Sound.{sound}
 use Rattle.tables.specs.Calls.{Result, told, asked, made, planned}
 use Rattle.tables.specs.Inner.{Ready}
-use Rattle.tables.proofs.Orderly.{orderly-lay}
 use Rattle.tables.proofs.Serving.{asked-sound, asked-unsound, served-planned}
 use Rattle.rules.specs.Engine.{beside, notSound, pagedIn, madeBy}
 use Rattle.page.specs.Paging.{Written, paged}

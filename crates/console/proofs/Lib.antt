@@ -7,3 +7,4 @@ pub mod Words
 pub mod KeyLaws
 pub mod OneLine
 pub mod LineOutcome
+pub mod Refusing

@@ -21,7 +21,7 @@ use Rattle.tables.specs.Sound.{sound}
 use Rattle.tables.specs.Calls.{told}
 use Rattle.page.specs.Page.{page}
 use Rattle.rules.specs.Engine.{beside, front, notSound, pagedIn, writtenIn}
-use Rattle.page.specs.Paging.{Written, written, paged}
+use Rattle.page.specs.Paging.{Written, paged}
 use Rattle.console.specs.Line.{Line, bad, PAGE, asks, lineOf}
 use Rattle.console.specs.Console.{keyed, keyedIn}
 use Rattle.console.specs.Sheet.{room, lent, answerLine, shown, printedBytes, lineShown}

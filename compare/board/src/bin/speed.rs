@@ -3,7 +3,7 @@
 #![forbid(unsafe_code)]
 
 use board::clock::{race, Contestant};
-use board::pack::{pack, unpack, Bytes};
+use board::pack::{formed, pack};
 use board::tables::{reply_of, Case, Cases, Kind};
 use board::{ffi, load, natural, words};
 use engine::sheet::lines;
@@ -51,7 +51,7 @@ struct Ours<'a> {
 impl<'a> Ours<'a> {
     fn new(text: &'a [u8]) -> Ours<'a> {
         // With no buffer at all it still tells how long one has to be.
-        let size = ffi::run(text, &mut []).unwrap_or(0) as usize;
+        let size = ffi::run(text, &mut []).map_or(0, |counts| counts.all) as usize;
         Ours { text, out: vec![0; size] }
     }
 }
@@ -62,7 +62,7 @@ impl Contestant for Ours<'_> {
     }
 
     fn work(&mut self) -> u64 {
-        ffi::run(self.text, &mut self.out).unwrap_or(0)
+        ffi::run(self.text, &mut self.out).map_or(0, |counts| counts.all)
     }
 }
 
@@ -183,9 +183,9 @@ fn calls(
 /// tables after it and for the page.
 struct Call<'a> {
     cases: &'a [Case],
-    tables: Bytes,
+    tables: Vec<u8>,
     page: Vec<u8>,
-    call: fn(&Case, &mut Bytes, &mut [u8]) -> u64,
+    call: fn(&Case, &mut [u8], &mut [u8]) -> u64,
 }
 
 impl Contestant for Call<'_> {
@@ -205,35 +205,38 @@ impl Contestant for Call<'_> {
 
 fn call<'a>(
     cases: &'a [Case],
-    call: fn(&Case, &mut Bytes, &mut [u8]) -> u64,
+    call: fn(&Case, &mut [u8], &mut [u8]) -> u64,
 ) -> Box<dyn Contestant + 'a> {
-    Box::new(Call { cases, tables: cases[0].tables, page: vec![0; 8_192], call })
+    Box::new(Call { cases, tables: cases[0].tables.clone(), page: vec![0; 8_192], call })
 }
 
 fn sounds(cases: &[Case]) -> Vec<Box<dyn Contestant + '_>> {
     let ours =
-        |case: &Case, _: &mut Bytes, _: &mut [u8]| ffi::sound(&case.tables).map_or(2, u64::from);
-    let rust = |case: &Case, _: &mut Bytes, _: &mut [u8]| u64::from(unpack(&case.tables).sound());
+        |case: &Case, _: &mut [u8], _: &mut [u8]| ffi::sound(&case.tables).map_or(2, u64::from);
+    let rust = |case: &Case, _: &mut [u8], _: &mut [u8]| {
+        u64::from(formed(&case.tables).map_or(false, |raw| raw.sound()))
+    };
     vec![call(cases, ours), call(cases, rust)]
 }
 
 fn asks(cases: &[Case]) -> Vec<Box<dyn Contestant + '_>> {
-    let ours = |case: &Case, tables: &mut Bytes, page: &mut [u8]| {
-        *tables = case.tables;
-        let reply = ffi::ask(tables, &case.line, page);
-        reply.map_or(u64::MAX, |reply| sum(reply, tables))
+    let ours = |case: &Case, tables: &mut [u8], page: &mut [u8]| {
+        tables.copy_from_slice(&case.tables);
+        sum(ffi::ask(tables, &case.line, page), tables)
     };
-    let rust = |case: &Case, tables: &mut Bytes, page: &mut [u8]| {
-        *tables = case.tables;
-        let (after, answer) = unpack(tables).line(&case.line, page);
-        *tables = pack(&after);
-        sum(reply_of(answer), tables)
+    let rust = |case: &Case, tables: &mut [u8], page: &mut [u8]| {
+        tables.copy_from_slice(&case.tables);
+        formed(tables).map_or(u64::MAX, |raw| {
+            let (after, answer) = raw.line(&case.line, page);
+            tables.copy_from_slice(&pack(&after));
+            sum(reply_of(answer), tables)
+        })
     };
     vec![call(cases, ours), call(cases, rust)]
 }
 
 /// A few numbers of what a line leaves: to see that both did the same is the task of `agree`.
-fn sum(reply: ffi::Reply, tables: &Bytes) -> u64 {
+fn sum(reply: ffi::Reply, tables: &[u8]) -> u64 {
     reply.number + reply.values[0] + u64::from(tables[0]) + u64::from(tables[302])
 }
 

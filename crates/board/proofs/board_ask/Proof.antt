@@ -1,15 +1,81 @@
--- `board_ask` meets its contract: the tables and the answer fill their buffers, since the arrays of tables are as long as their types say. Assumes nothing.
+-- `board_ask` meets its contract: bytes that are not in packed form, and too little room for the answer, are refused with nothing done; else the tables fill their buffer, since the
+-- arrays of tables are as long as their types say. Assumes nothing.
 use mathlib.Core.Path.{_≡_, sym, _∙_}
+use mathlib.Core.Bool.{true, false}
 use lib.ListN.{length, length-map}
 use denote.Struct.Field.{u8-field}
 use borrow.Author.Needs.{needs}
+use borrow.Author.Tests.{not-true, not-false}
 use Rattle.records.proofs.Program as program
 use Rattle.records.proofs.Resource as resource
 use Rattle.tables.specs.Tables.{Arrays}
 use Rattle.board.specs.Packed.{packedLength, packed}
-use Rattle.board.proofs.Agreed.{programs-length, packed-length, boarded-tables, boarded-answer, boarded-done}
+use Rattle.board.specs.Board.{isPacked}
+use Rattle.board.proofs.OneForm.{named-each, packed-length, is-length}
+use Rattle.board.proofs.Agreed.{boarded-other, boarded-short, boarded-done}
 use Rattle.board.proofs.board_ask.Statement.{statement}
 use Rattle.board.proofs.board_ask.Tie as tie
+
+is-packed-requires : tie.Need-is-packed-requires
+is-packed-requires c κs = search needs
+
+tell-requires : tie.Need-tell-requires
+tell-requires c κs = search needs
+
+same-length : tie.Need-same-length
+same-length c = search needs
+
+same-length-2 : tie.Need-same-length-2
+same-length-2 c = search needs
+
+returns : tie.Need-returns
+returns c =
+    let w = c .before .before in
+    let n = w .before .before in
+    let p = n .before in
+    let a = p .before .before .before .before .before .before .args in
+    boarded-other (a .tables .now) (a .line .now) (a .page .now) (a .answer .now) (w .tell .result) (w .tell .last .0)
+    (sym (p .is-packed .ensures) ∙ not-true (p .is-packed .result) (n .if1 .taken)) (w .tell .ensures .0) (w .tell .ensures .1)
+
+-- the bytes are in packed form
+abbrev Begun : tie.Else1 → tie.Start
+Begun c = c .before .before .before .before .before .before .before
+
+form : (c : tie.Else1) → isPacked (Begun c .args .tables .now) ≡ true
+form c = sym (c .before .is-packed .ensures) ∙ not-false (c .before .is-packed .result) (c .if1 .left)
+
+tables-at-requires : tie.Need-tables-at-requires
+tables-at-requires c κs = let l = is-length (Begun (c .before) .args .tables .now) (form (c .before)) in search needs
+
+is-sound-requires : tie.Need-is-sound-requires
+is-sound-requires c κs = search needs
+
+same-length-3 : tie.Need-same-length-3
+same-length-3 c = search needs
+
+returns-2 : tie.Need-returns-2
+returns-2 c =
+    let i = c .before in
+    let t = i .before .before in
+    let e = t .before .before in
+    let a = Begun e .args in
+    boarded-short (a .tables .now) (a .line .now) (a .page .now) (a .answer .now) (form e) (t .tables-at .result) true (i .before .if2 .taken) (t .tables-at .ensures)
+    (sym (i .is-sound .ensures) ∙ c .if3 .taken)
+
+same-length-4 : tie.Need-same-length-4
+same-length-4 c = search needs
+
+returns-3 : tie.Need-returns-3
+returns-3 c =
+    let i = c .before in
+    let t = i .before .before in
+    let e = t .before .before in
+    let a = Begun e .args in
+    boarded-short (a .tables .now) (a .line .now) (a .page .now) (a .answer .now) (form e) (t .tables-at .result) false (i .before .if2 .taken) (t .tables-at .ensures)
+    (sym (i .is-sound .ensures) ∙ c .if3 .left)
+
+key-line-requires : tie.Need-key-line-requires
+key-line-requires c κs = search needs
 
 -- the tables after the line
 arrays : (c : tie.After-key-line) → Arrays (c .key-line .result .tables)
@@ -23,62 +89,57 @@ arrays c = record {
 long : (c : tie.After-key-line) → length (packed (c .key-line .result .tables)) ≡ packedLength
 long c =
     let g = c .key-line .ok .1 .1 .1 .0 .1 .1 .0 .1 .1 .0 in
-    packed-length (c .key-line .result .tables) (arrays c) (programs-length (c .key-line .result .tables .ledger .programs) (g .0) (g .1 .1))
-
-returns : tie.Need-returns
-returns c =
-    let a = c .before .before .before .before .before .args in
-    boarded-tables (a .tables .now) (a .line .now) (a .page .now) (a .answer .now) (c .if1 .taken)
-
-returns-2 : tie.Need-returns-2
-returns-2 c =
-    let a = c .before .before .before .before .before .before .args in
-    boarded-answer (a .tables .now) (a .line .now) (a .page .now) (a .answer .now) (c .before .if1 .left) (c .if2 .taken)
-
-tables-at-requires : tie.Need-tables-at-requires
-tables-at-requires c κs = search needs
-
-key-line-requires : tie.Need-key-line-requires
-key-line-requires c κs = search needs
+    packed-length (c .key-line .result .tables) (arrays c) (named-each (c .key-line .result .tables .ledger .programs) (g .0) (g .1 .1))
 
 put-tables-requires : tie.Need-put-tables-requires
-put-tables-requires c κs = search needs
+put-tables-requires c κs =
+    let e = c .before .before .before .before .before .before .before .before .before in
+    let l = is-length (Begun e .args .tables .now) (form e) in search needs
 
-put-figures-requires : tie.Need-put-figures-requires
-put-figures-requires c κs = search needs
+tell-requires-2 : tie.Need-tell-requires-2
+tell-requires-2 c κs = search needs
 
-same-length : tie.Need-same-length
-same-length c = search needs
+same-length-5 : tie.Need-same-length-5
+same-length-5 c = search needs
 
-same-length-2 : tie.Need-same-length-2
-same-length-2 c = search needs
+same-length-6 : tie.Need-same-length-6
+same-length-6 c = search needs
 
-same-length-3 : tie.Need-same-length-3
-same-length-3 c = search needs
+same-length-7 : tie.Need-same-length-7
+same-length-7 c = search needs
 
-returns-3 : tie.Need-returns-3
-returns-3 c =
+returns-4 : tie.Need-returns-4
+returns-4 c =
     let w = c .before .before in
     let v = w .before .before .before .before in
     let k = v .before .before .before .before .before in
-    let t = k .before .before in
+    let r = k .before .before in
+    let t = r .before in
     let e = t .before .before in
-    let a = e .before .before .before .before .before .before .args in
-    boarded-done (a .tables .now) (a .line .now) (a .page .now) (a .answer .now) (e .before .if1 .left) (t .tables-at .result) (k .key-line .result) (v .put-tables .last .0)
-    (k .key-line .last .1 .1 .0) (w .put-figures .last .0) (v .put-tables .result) (w .put-figures .result) (e .if2 .left) (t .tables-at .ensures) (k .key-line .ensures) (long k)
-    (v .put-tables .ensures) (w .put-figures .ensures)
+    let a = Begun e .args in
+    boarded-done (a .tables .now) (a .line .now) (a .page .now) (a .answer .now) (form e) (t .tables-at .result) (k .key-line .result) (v .put-tables .last .0)
+    (k .key-line .last .1 .1 .0) (w .tell2 .last .0) (v .put-tables .result) (w .tell2 .result) (r .if2 .left) (t .tables-at .ensures) (k .key-line .ensures) (long k)
+    (v .put-tables .ensures) (w .tell2 .ensures .0) (w .tell2 .ensures .1)
 
 pub board-ask-spec : {M : Type 1} → statement M
 board-ask-spec =
     tie.close
     (tie.spec
-    returns
-    returns-2
-    tables-at-requires
-    key-line-requires
-    put-tables-requires
-    put-figures-requires
+    is-packed-requires
+    tell-requires
     same-length
     same-length-2
+    returns
+    tables-at-requires
+    is-sound-requires
     same-length-3
-    returns-3)
+    returns-2
+    same-length-4
+    returns-3
+    key-line-requires
+    put-tables-requires
+    tell-requires-2
+    same-length-5
+    same-length-6
+    same-length-7
+    returns-4)

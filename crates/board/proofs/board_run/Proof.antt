@@ -2,9 +2,9 @@
 -- is what of it fits the room left, or nothing once a line did not fit. The measure is the bytes left of the text. Assumes nothing.
 use Prim.Native.Nat.{ℕ, _-_, _≤_}
 use native.Mathlib.Omega.{arith}
-use mathlib.Core.Path.{_≡_, sym, subst, _∙_}
+use mathlib.Core.Path.{_≡_, sym, ap, subst, _∙_}
 use mathlib.Core.Bool.{false}
-use mathlib.Core.List.{List}
+use mathlib.Core.List.{List, [], _∷_}
 use mathlib.Core.Logic.{inl, inr}
 use borrow.Author.Tests.{not-true, not-false}
 use lib.ListN.{length, take, drop, length-replicate}
@@ -13,21 +13,41 @@ use borrow.Author.Needs.{needs}
 use Rattle.lists.proofs.Tests.{clash}
 use Rattle.tables.specs.declared.Tables.{Tables}
 use Rattle.console.specs.Sheet.{room}
+use Rattle.console.proofs.LineEnds.{LineEnd, line-end}
 use Rattle.board.proofs.Lines.{slice-taken}
-use Rattle.board.proofs.Whole.{ran-over}
+use Rattle.board.specs.Board.{Ran}
+use Rattle.board.proofs.Answered.{answering-not}
+use Rattle.board.proofs.Whole.{ran-over, ran-short}
 use Rattle.board.proofs.Running.{made-smallest, Shows, line-printed, Run, run-as, run-start, Turn, needed-small, run-keep, put-room, run-put, run-end}
 use Rattle.board.proofs.board_run.Statement.{statement}
 use Rattle.board.proofs.board_run.Tie as tie
 
 abbrev Inv-loop : tie.InvT-loop
-Inv-loop text out₀ tables₀ space₀ from₀ used₀ needed₀ is-full₀ out tables space from used needed is-full =
+Inv-loop text out₀ answer tables₀ space₀ from₀ used₀ needed₀ is-full₀ out tables space from used needed is-full =
     Run text out₀ out tables from used needed is-full × (length space ≡ room)
 
 abbrev μ-loop : tie.MeasureT-loop
-μ-loop text out₀ tables₀ space₀ from₀ used₀ needed₀ is-full₀ out tables space from used needed is-full = length text - from
+μ-loop text out₀ answer tables₀ space₀ from₀ used₀ needed₀ is-full₀ out tables space from used needed is-full = length text - from
+
+tell-requires : tie.Need-tell-requires Inv-loop μ-loop
+tell-requires c κs = search needs
+
+same-length : tie.Need-same-length Inv-loop μ-loop
+same-length c = search needs
 
 returns : tie.Need-returns Inv-loop μ-loop
-returns c = let a = c .before .before .before .args in sym (ran-over (a .text .now) (a .out .now) (c .if1 .taken))
+returns c =
+    let w = c .before .before in
+    let h = w .before .before in
+    let a = h .before .before .before .before .args in
+    (λ i. record { number = w .tell .ensures .0 i; buffer = a .out .now; answer = w .tell .ensures .1 i }) ∙ sym (ran-over (a .text .now) (a .out .now) (a .answer .now) (h .if1 .taken))
+
+returns-2 : tie.Need-returns-2 Inv-loop μ-loop
+returns-2 c =
+    let e = c .before in
+    let a = e .before .before .before .before .args in
+    ap (λ (x : List ℕ). record { number = 12; buffer = a .out .now; answer = x }) (sym (answering-not 12 (0 ∷ []) (a .answer .now) (c .if2 .taken)))
+    ∙ sym (ran-short (a .text .now) (a .out .now) (a .answer .now) (e .if1 .left) (c .if2 .taken))
 
 fresh-requires : tie.Need-fresh-requires Inv-loop μ-loop
 fresh-requires c κs = search needs
@@ -35,14 +55,27 @@ fresh-requires c κs = search needs
 loop-holds : tie.Need-loop-holds Inv-loop μ-loop
 loop-holds c =
     let f = c .before in
-    let a = f .before .before .before .before .args in
+    let a = f .before .before .before .before .before .before .args in
     (run-start (a .text .now) (a .out .now) (f .fresh .result .tables) (made-smallest (f .fresh .result) (f .fresh .ensures)), length-replicate {A = ℕ} 8192 0)
 
 line-end-requires : tie.Need-line-end-requires Inv-loop μ-loop
 line-end-requires c κs = search needs
 
-low : (c : tie.After-line-end Inv-loop μ-loop) → c .before .before .loop .from ≤ c .line-end .result
-low c = let h = c .before .loop-test .taken in c .line-end .ensures .line (omega (arith, h)) .low
+-- back from where a line's end was found to where its turn began, and to the start
+abbrev Turned : tie.After-line-end Inv-loop μ-loop → tie.At-loop Inv-loop μ-loop
+Turned c = c .before .before
+
+abbrev Started : tie.At-loop Inv-loop μ-loop → tie.Start Inv-loop μ-loop
+Started c = c .before .before .before .before .before .before .before .before
+
+ends : (c : tie.After-line-end Inv-loop μ-loop) → LineEnd (Started (Turned c) .args .text .now) (Turned c .loop .from) (c .line-end .result)
+ends c =
+    let s = Started (Turned c) .args .text .now in
+    let from = Turned c .loop .from in
+    subst (λ (e : ℕ). LineEnd s from e) (sym (c .line-end .ensures)) (line-end s from)
+
+low : (c : tie.After-line-end Inv-loop μ-loop) → Turned c .loop .from ≤ c .line-end .result
+low c = let h = c .before .loop-test .taken in ends c .line (omega (arith, h)) .low
 
 sub-print-line : tie.Need-sub-print-line Inv-loop μ-loop
 sub-print-line c = low c
@@ -51,71 +84,74 @@ part-print-line-start : tie.Need-part-print-line-start Inv-loop μ-loop
 part-print-line-start c = low c
 
 part-print-line-end : tie.Need-part-print-line-end Inv-loop μ-loop
-part-print-line-end c = c .line-end .ensures .high
+part-print-line-end c = ends c .high
 
 slice-aggregate-print-line : tie.Need-slice-aggregate-print-line Inv-loop μ-loop
-slice-aggregate-print-line c = sym (c .before .before .before .before .loop .inv .1)
+slice-aggregate-print-line c = sym (Turned (c .before .before) .loop .inv .1)
 
 print-line-requires : tie.Need-print-line-requires Inv-loop μ-loop
 print-line-requires c κs = search needs
 
+bytes-printed-requires : tie.Need-bytes-printed-requires Inv-loop μ-loop
+bytes-printed-requires c κs = search needs
+
 -- back from where a line is printed to where its end was found, to where its turn began, and to the start
-abbrev Ended : tie.After-tables2 Inv-loop μ-loop → tie.After-line-end Inv-loop μ-loop
-Ended c = c .before .before .before .before .before
+abbrev Ended : tie.After-bytes-printed Inv-loop μ-loop → tie.After-line-end Inv-loop μ-loop
+Ended c = c .before .before .before .before .before .before
 
-abbrev Begun : tie.After-tables2 Inv-loop μ-loop → tie.At-loop Inv-loop μ-loop
-Begun c = Ended c .before .before
+abbrev Begun : tie.After-bytes-printed Inv-loop μ-loop → tie.At-loop Inv-loop μ-loop
+Begun c = Turned (Ended c)
 
-abbrev S : tie.After-tables2 Inv-loop μ-loop → tie.Start Inv-loop μ-loop
-S c = Begun c .before .before .before .before .before .before
+abbrev S : tie.After-bytes-printed Inv-loop μ-loop → tie.Start Inv-loop μ-loop
+S c = Started (Begun c)
 
 -- how many bytes it shows as, the tables after it, and the space
-abbrev N : tie.After-tables2 Inv-loop μ-loop → ℕ
-N c = c .before .before .print-line .result .length
+abbrev N : tie.After-bytes-printed Inv-loop μ-loop → ℕ
+N c = c .bytes-printed .result
 
-abbrev After : tie.After-tables2 Inv-loop μ-loop → Tables
-After c = c .before .before .print-line .result .tables
+abbrev After : tie.After-bytes-printed Inv-loop μ-loop → Tables
+After c = c .before .before .before .print-line .result .tables
 
-abbrev Space : tie.After-tables2 Inv-loop μ-loop → List ℕ
-Space c = c .before .before .print-line .last .1 .1 .0
+abbrev Space : tie.After-bytes-printed Inv-loop μ-loop → List ℕ
+Space c = c .before .before .before .print-line .last .1 .1 .0
 
-space-same : (c : tie.After-tables2 Inv-loop μ-loop) → length (Space c) ≡ room
+space-same : (c : tie.After-bytes-printed Inv-loop μ-loop) → length (Space c) ≡ room
 space-same c = omega (arith, Begun c .loop .inv .1)
 
-shows : (c : tie.After-tables2 Inv-loop μ-loop)
+shows : (c : tie.After-bytes-printed Inv-loop μ-loop)
     → Shows (Begun c .loop .tables) (slice (Begun c .loop .from) (Ended c .line-end .result) (S c .args .text .now)) (N c) (After c) (Space c)
 shows c =
     let l = Begun c .loop in
-    let p = c .before .before .print-line in
+    let p = c .before .before .before .print-line in
     let s = S c .args .text .now in
     let e = Ended c .line-end .result in
     subst (λ (x : List ℕ). Shows (l .tables) x (N c) (After c) (Space c)) (slice-taken s (l .from) e (low (Ended c)))
-    (line-printed (l .tables) (take (e - l .from) (drop (l .from) s)) (l .space) (omega (arith, l .inv .1)) (N c) (After c) (Space c) (p .ensures .0) (p .ensures .1)
+    (line-printed (l .tables) (take (e - l .from) (drop (l .from) s)) (l .space) (omega (arith, l .inv .1)) (p .result) (N c) (Space c) (p .ensures) (c .bytes-printed .ensures)
     (space-same c ∙ sym (l .inv .1)))
 
-turn : (c : tie.After-tables2 Inv-loop μ-loop)
+turn : (c : tie.After-bytes-printed Inv-loop μ-loop)
     → Turn (S c .args .text .now) (S c .args .out .now) (Begun c .loop .out) (Begun c .loop .tables) (Begun c .loop .from) (Begun c .loop .used) (Begun c .loop .needed) (Begun c .loop .is-full)
     (Ended c .line-end .result) (N c) (After c) (Space c)
-turn c = record { run = Begun c .loop .inv .0; more = Ended c .before .loop-test .taken; ends = Ended c .line-end .ensures; shows = shows c; long = space-same c }
+turn c = record { run = Begun c .loop .inv .0; more = Ended c .before .loop-test .taken; ends = ends (Ended c); shows = shows c; long = space-same c }
 
 add-needed : tie.Need-add-needed Inv-loop μ-loop
-add-needed c = omega (arith, needed-small (turn c), Ended c .line-end .ensures .high)
+add-needed c = omega (arith, needed-small (turn c), ends (Ended c) .high)
 
-sub-if2 : tie.Need-sub-if2 Inv-loop μ-loop
-sub-if2 c = let r = Begun c .loop .inv .0 in omega (arith, r .fits, r .left .same)
+sub-if3 : tie.Need-sub-if3 Inv-loop μ-loop
+sub-if3 c = let r = Begun c .loop .inv .0 in omega (arith, r .fits, r .left .same)
 
 -- where the line is put there was room for it, and for all before it
-unfilled : (c : tie.Then3 Inv-loop μ-loop) → Begun (c .before .before) .loop .is-full ≡ false
+unfilled : (c : tie.Then4 Inv-loop μ-loop) → Begun (c .before .before) .loop .is-full ≡ false
 unfilled c =
-    elim (c .before .if2 .came) [
-      | inl w ↦ clash (w .1) (not-true (c .before .if2 .is-full) (c .if3 .taken))
-      | inr w ↦ sym (w .1) ∙ not-true (c .before .if2 .is-full) (c .if3 .taken)
+    elim (c .before .if3 .came) [
+      | inl w ↦ clash (w .1) (not-true (c .before .if3 .is-full) (c .if4 .taken))
+      | inr w ↦ sym (w .1) ∙ not-true (c .before .if3 .is-full) (c .if4 .taken)
     ]
 
-fit : (c : tie.Then3 Inv-loop μ-loop) → N (c .before .before) ≤ length (Begun (c .before .before) .loop .out) - Begun (c .before .before) .loop .used
+fit : (c : tie.Then4 Inv-loop μ-loop) → N (c .before .before) ≤ length (Begun (c .before .before) .loop .out) - Begun (c .before .before) .loop .used
 fit c =
-    elim (c .before .if2 .came) [
-      | inl w ↦ clash (w .1) (not-true (c .before .if2 .is-full) (c .if3 .taken))
+    elim (c .before .if3 .came) [
+      | inl w ↦ clash (w .1) (not-true (c .before .if3 .is-full) (c .if4 .taken))
       | inr w ↦ w .0 .left
     ]
 
@@ -133,7 +169,7 @@ put-bytes-requires c κs = let t = c .before .before in put-room (turn (t .befor
 add-from : tie.Need-add-from Inv-loop μ-loop
 add-from c =
     let d = c .before .before in
-    omega (arith, Ended d .line-end .ensures .high, Begun d .before .before .before .if1 .left)
+    omega (arith, ends (Ended d) .high, Begun d .before .before .before .before .if1 .left)
 
 loop-less : tie.Need-loop-less Inv-loop μ-loop
 loop-less c = let e = Ended (c .before .before) in omega (arith, low e, e .before .loop-test .taken)
@@ -141,27 +177,36 @@ loop-less c = let e = Ended (c .before .before) in omega (arith, low e, e .befor
 loop-again : tie.Need-loop-again Inv-loop μ-loop
 loop-again c =
     let j = c .before in
-    let full = j .if2 .is-full in (
-      elim (c .if3 .came) [
+    let full = j .if3 .is-full in (
+      elim (c .if4 .came) [
         | inl w ↦
-            let t : tie.Then3 Inv-loop μ-loop = record { before = j; if3 = w .0 } in
+            let t : tie.Then4 Inv-loop μ-loop = record { before = j; if4 = w .0 } in
             run-as (w .6) (w .7) (run-put (turn (j .before)) (unfilled t) (fit t) full (not-true full (w .0 .taken)) (w .3 .last .0) (w .3 .result) (w .3 .ensures))
         | inr w ↦
             let is = not-false full (w .0 .left) in
-            run-as (w .1) (w .2) (run-keep (turn (j .before)) full is (elim (j .if2 .came) [ inl v ↦ inr (v .0 .taken) | inr v ↦ inl (sym (v .1) ∙ is) ]))
+            run-as (w .1) (w .2) (run-keep (turn (j .before)) full is (elim (j .if3 .came) [ inl v ↦ inr (v .0 .taken) | inr v ↦ inl (sym (v .1) ∙ is) ]))
       ],
       space-same (j .before),
     )
 
-same-length : tie.Need-same-length Inv-loop μ-loop
-same-length c = c .before .loop .inv .0 .left .same
+put-counts-requires : tie.Need-put-counts-requires Inv-loop μ-loop
+put-counts-requires c κs = search needs
 
-returns-2 : tie.Need-returns-2 Inv-loop μ-loop
-returns-2 c =
-    let l = c .before .loop in
-    let e = c .before .before .before .before in
-    let s = e .before .before .before .args in
-    run-end (s .text .now) (s .out .now) (l .out) (l .tables) (l .from) (l .used) (l .needed) (l .is-full) (l .inv .0) (c .loop-test .left) (e .if1 .left)
+same-length-2 : tie.Need-same-length-2 Inv-loop μ-loop
+same-length-2 c = c .before .before .before .before .before .loop .inv .0 .left .same
+
+same-length-3 : tie.Need-same-length-3 Inv-loop μ-loop
+same-length-3 c = search needs
+
+returns-3 : tie.Need-returns-3 Inv-loop μ-loop
+returns-3 c =
+    let w = c .before .before in
+    let x = w .before .before in
+    let l = x .before .loop in
+    let h = x .before .before .before .before in
+    let a = Started (x .before) .args in
+    run-end (a .text .now) (a .out .now) (a .answer .now) (l .out) (l .tables) (l .from) (l .used) (l .needed) (l .is-full) (l .inv .0) (x .loop-test .left)
+    (w .put-counts .last .0) (w .put-counts .result) (h .before .if1 .left) (h .if2 .left) (w .put-counts .ensures)
 
 pub board-run-spec : {M : Type 1} → statement M
 board-run-spec =
@@ -169,7 +214,10 @@ board-run-spec =
     (tie.spec
     Inv-loop
     μ-loop
+    tell-requires
+    same-length
     returns
+    returns-2
     fresh-requires
     loop-holds
     line-end-requires
@@ -178,13 +226,16 @@ board-run-spec =
     part-print-line-end
     slice-aggregate-print-line
     print-line-requires
+    bytes-printed-requires
     add-needed
-    sub-if2
+    sub-if3
     array-share-prefix-space
     slice-aggregate-put-bytes
     put-bytes-requires
     add-from
     loop-less
     loop-again
-    same-length
-    returns-2)
+    put-counts-requires
+    same-length-2
+    same-length-3
+    returns-3)

@@ -1,0 +1,46 @@
+-- `board::pack::is_packed` meets its contract: the bytes are held against the packed form of the tables that they say (`packed-is`). Assumes nothing.
+use Prim.Native.Nat.{ℕ}
+use mathlib.Core.Path.{_∙_}
+use borrow.Author.Needs.{needs}
+use lib.ListN.{length-replicate}
+use Rattle.board.proofs.OneForm.{packed-other, packed-is}
+use Rattle.board.proofs.pack.is_packed.Statement.{statement}
+use Rattle.board.proofs.pack.is_packed.Tie as tie
+
+returns : tie.Need-returns
+returns c = packed-other (c .before .before .args .s .now) (c .if1 .taken)
+
+tables-at-requires : tie.Need-tables-at-requires
+tables-at-requires c κs = search needs
+
+slice-aggregate-put-tables : tie.Need-slice-aggregate-put-tables
+slice-aggregate-put-tables c = search needs
+
+put-tables-requires : tie.Need-put-tables-requires
+put-tables-requires c κs = search needs
+
+slice-aggregate-is-word : tie.Need-slice-aggregate-is-word
+slice-aggregate-is-word c = search needs
+
+is-word-requires : tie.Need-is-word-requires
+is-word-requires c κs = search needs
+
+returns-2 : tie.Need-returns-2
+returns-2 c =
+    let p = c .before .before .before in
+    let t = p .before .before in
+    let s = t .before .before .before in
+    c .is-word .ensures
+    ∙ packed-is (s .args .s .now) (t .tables-at .result) _ _ _ (t .before .if1 .left) (length-replicate {A = ℕ} 1237 0) (t .tables-at .ensures) (p .put-tables .ensures)
+
+pub is-packed-spec : {M : Type 1} → statement M
+is-packed-spec =
+    tie.close
+    (tie.spec
+    returns
+    tables-at-requires
+    slice-aggregate-put-tables
+    put-tables-requires
+    slice-aggregate-is-word
+    is-word-requires
+    returns-2)
