@@ -210,14 +210,14 @@ turns-all (suc k) t block at n big few =
     go : (x : Turn) → Took t (drop at block) at n x → (length (ended (parts 10 (drop (x .place) block))) ≤ k → All (x .tables) block (x .place) (turns k (x .tables) block (x .place) n))
         → (b : Bool) → eqb (length (x .bytes)) 0 ≡ b
         → All t block at
-            (elim b [
-              | true ↦ x
-              | false ↦ record {
-                tables = turns k (x .tables) block (x .place) n .tables;
-                place = turns k (x .tables) block (x .place) n .place;
-                bytes = x .bytes ++ turns k (x .tables) block (x .place) n .bytes;
-              }
-            ])
+        (elim b [
+          | true ↦ x
+          | false ↦ record {
+            tables = turns k (x .tables) block (x .place) n .tables;
+            place = turns k (x .tables) block (x .place) n .place;
+            bytes = x .bytes ++ turns k (x .tables) block (x .place) n .bytes;
+          }
+        ])
     go x h ih true e =
         let none = printed-some t (h .lines) (ap length (sym (h .bytes)) ∙ eqb-true (length (x .bytes)) 0 e) in
         none-left t block at n x h none (h .some big none)

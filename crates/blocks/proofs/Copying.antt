@@ -95,6 +95,6 @@ module _ {l₀ l : List ℕ} {from to i : ℕ} (h : Copied l₀ from to i l) whe
       let n : length (take i l) ≡ i = length-take-le i l (omega (arith, h .same)) in
       let held : i ≡ length (take most (slice from to l₀)) = sym n ∙ ap length kept in
       let block : l ≡ front (take most (slice from to l₀)) l₀ =
-          sym (take-append-drop i l) ∙ ap₂ (λ (xs : List ℕ) (ys : List ℕ). xs ++ ys) kept (h .behind) ∙ ap (λ (k : ℕ). take most (slice from to l₀) ++ drop k l₀) held
+      sym (take-append-drop i l) ∙ ap₂ (λ (xs : List ℕ) (ys : List ℕ). xs ++ ys) kept (h .behind) ∙ ap (λ (k : ℕ). take most (slice from to l₀) ++ drop k l₀) held
       in
       (λ i. record { held = held i; block = block i }) ∙ sym (carried-part l₀ from to a e)

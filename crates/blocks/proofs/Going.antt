@@ -84,7 +84,7 @@ module _ {t₀ t : Tables} {block out₀ out : List ℕ} {at from used : ℕ} (g
   unfolding turned
   going-over h =
       let e : turn t₀ (ended (parts 10 (drop at block))) at (length out₀) ≡ record { tables = t; place = from; bytes = g .bytes } =
-          g .left ∙ ap (behind (g .bytes)) h ∙ (λ i. record { tables = t; place = from; bytes = append-nil (g .bytes) i })
+      g .left ∙ ap (behind (g .bytes)) h ∙ (λ i. record { tables = t; place = from; bytes = append-nil (g .bytes) i })
       in
       (λ i. record { tables = t; place = from; used = g .many i; buffer = g .buffer i })
       ∙ ap (λ (x : Turn). record { tables = x .tables; place = x .place; used = length (x .bytes); buffer = front (x .bytes) out₀ }) (sym e)

@@ -3,8 +3,8 @@ mod carrying;
 mod turning;
 
 pub use carrying::carry;
-pub use turning::print_block;
 use tables::Tables;
+pub use turning::print_block;
 
 // What a turn over a block comes to: the tables, the place of the next line, and how many bytes were printed.
 pub struct Turn {

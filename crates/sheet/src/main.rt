@@ -2,6 +2,7 @@
 // `console`; here is only the order of the reads and writes.
 ghost use Prim.Native.Nat.{_<_};
 ghost use lib.ListN.{length};
+
 mod moving;
 
 use tables::Tables;

@@ -73,7 +73,10 @@ pub fn write_front(out: &[u8], n: usize) -> bool
         tries -= 1;
         let put = libc::write(STDOUT_FILENO, &out[from..n]);
         if put == 0 {
-            io::write_all(STDERR_FILENO, b"sheet: output stopped: a write took no byte\n");
+            io::write_all(
+                STDERR_FILENO,
+                b"sheet: output stopped: a write took no byte\n",
+            );
             return false;
         }
         if put < 0 {

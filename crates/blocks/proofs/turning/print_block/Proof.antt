@@ -111,7 +111,7 @@ returns-2 : tie.Need-returns-2 Inv-loop μ-loop
 returns-2 c =
     let l = c .before in
     going-over (l .loop .inv .1) (turn-none (l .loop .t) _ (l .loop .from) _
-        (no-lines (S l .args .block .now) (l .loop .from) (l .loop .end) (ends l) (omega (arith, ends l .high))))
+    (no-lines (S l .args .block .now) (l .loop .from) (l .loop .end) (ends l) (omega (arith, ends l .high))))
 
 pub print-block-spec : {M : Type 1} → statement M
 print-block-spec =

@@ -120,7 +120,7 @@ returns-3 c =
     let o = Obeyed (j .before) in
     let a = S o .args in
     printed-answer (a .tables) (a .line .now) (a .out .now) (big o) (fits (S o)) (o .obey .result) (After o) (same o) (other j)
-        (w .put-answer .last .0) (w .put-answer .result) (w .put-answer .ensures)
+    (w .put-answer .last .0) (w .put-answer .result) (w .put-answer .ensures)
 
 pub print-line-spec : {M : Type 1} → statement M
 print-line-spec =
