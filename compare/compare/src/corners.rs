@@ -1,28 +1,41 @@
-//! Fixed inputs, run after the scripts: how input can begin and end, every byte, very long lines,
-//! and a long time.
+//! Fixed inputs, run after the scripts: how input can begin and end, every byte, every length, very
+//! long lines, bounds, and a long time.
 
-/// Each is run by itself, from the tables that `sheet` starts with.
-pub fn corners() -> Vec<Vec<u8>> {
-    let mut inputs: Vec<Vec<u8>> = [
-        "",
-        "\n",
-        "\n\n",
-        "PAGE",
-        "PAGE\n",
-        "\nPAGE\n\n",
-        "FRESH,0,0,0\nPAGE\n",
-        "LOAD,A,1\nRU,A\nEXEC,15,1,0\nEXEC,4,1,0\nPAGE\nEXEC,11",
-        "RN,ALLOC,L,0\nLOAD,L,0\nRU,L\nRN,ALLOC,L,0\nFRESH,257,0,0\nPAGE\n",
-        "FRESH,4,1,1\nLOAD,WHZAT,10\nRU,WHZAT\nEXEC,4,2,0\nPAGE\n",
-    ]
-    .iter()
-    .map(|text| text.as_bytes().to_vec())
-    .collect();
-    inputs.push(every_byte());
-    inputs.push(long_lines());
-    inputs.push(two_minutes());
+use crate::forms;
+
+/// Inputs by what they are about, the quick ones first. Each is run by itself, from the tables that
+/// `sheet` starts with.
+pub fn named() -> Vec<(&'static str, Vec<u8>)> {
+    let mut inputs: Vec<(&str, Vec<u8>)> =
+        STARTS.iter().map(|text| ("how input begins and ends", text.as_bytes().to_vec())).collect();
+    inputs.push(("every byte as a line and in a name", every_byte()));
+    inputs.push(("very long lines", long_lines()));
+    inputs.push(("numbers at their bounds", forms::bounds()));
+    inputs.push(("fields of every length", forms::every_field()));
+    inputs.push(("lines of every length", forms::every_length()));
+    inputs.push(("every byte at every place", forms::bytes_replaced()));
+    inputs.push(("every byte between any two", forms::bytes_inserted()));
+    inputs.push(("two minutes of ticks", two_minutes()));
     inputs
 }
+
+/// The named inputs.
+pub fn corners() -> Vec<Vec<u8>> {
+    named().into_iter().map(|(_, input)| input).collect()
+}
+
+const STARTS: [&str; 10] = [
+    "",
+    "\n",
+    "\n\n",
+    "PAGE",
+    "PAGE\n",
+    "\nPAGE\n\n",
+    "FRESH,0,0,0\nPAGE\n",
+    "LOAD,A,1\nRU,A\nEXEC,15,1,0\nEXEC,4,1,0\nPAGE\nEXEC,11",
+    "RN,ALLOC,L,0\nLOAD,L,0\nRU,L\nRN,ALLOC,L,0\nFRESH,257,0,0\nPAGE\n",
+    "FRESH,4,1,1\nLOAD,WHZAT,10\nRU,WHZAT\nEXEC,4,2,0\nPAGE\n",
+];
 
 /// Every byte as a line of its own, and as the second byte of a name.
 fn every_byte() -> Vec<u8> {
@@ -75,5 +88,25 @@ fn two_minutes() -> Vec<u8> {
             lines.push(String::from("PAGE"));
         }
     }
+    lines.join("\n").into_bytes()
+}
+
+/// An hour of ticks, too long to be run more than once or twice: the time just before the hour and
+/// after it, with timers of an hour that are due at it.
+pub fn an_hour() -> Vec<u8> {
+    const HOUR: u64 = 360_000;
+    let mut lines = vec!["LOAD,A,10", "LOAD,B,10", "LOAD,C,10", "RU,A"];
+    lines.extend(["EXEC,12,B,4,1,1", "EXEC,12,C,3,30,59", "EXEC,12,A,4,4095,4095"]);
+    for tick in 1..=HOUR + 100 {
+        lines.push("TICK");
+        let minute_begins = tick % 6_000 <= 1 && tick % (5 * 6_000) <= 6_001;
+        if minute_begins || (HOUR - 2..=HOUR + 2).contains(&tick) {
+            lines.push("EXEC,11");
+        }
+        if tick == HOUR {
+            lines.push("PAGE");
+        }
+    }
+    lines.push("PAGE");
     lines.join("\n").into_bytes()
 }

@@ -1,6 +1,6 @@
 //! Batches of scripts run through both sides, and the first script that shows a difference.
 
-use crate::corners::corners;
+use crate::corners::{an_hour, named};
 use crate::other::Other;
 use crate::script::generate;
 use crate::shrink::shrink;
@@ -68,11 +68,14 @@ pub fn run(
     run_corners(other, count)
 }
 
-fn run_corners(other: &Other, count: &mut Count) -> Result<Option<Failure>, String> {
-    for input in corners() {
+/// Runs the fixed inputs alone.
+pub fn run_corners(other: &Other, count: &mut Count) -> Result<Option<Failure>, String> {
+    let mut inputs = named();
+    inputs.push(("an hour of ticks", an_hour()));
+    for (about, input) in inputs {
         count.runs += 1;
         if differs(other, &input)? {
-            let origin = String::from("a fixed input");
+            let origin = format!("a fixed input ({})", about);
             return Ok(Some(Failure { input, fresh: false, origin }));
         }
     }

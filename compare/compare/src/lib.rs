@@ -10,6 +10,7 @@
 //! | `tangle` | an opening in which many wait for one program |
 //! | `script` | a whole script from a seed |
 //! | `corners` | fixed inputs |
+//! | `forms` | fixed inputs made from the forms of a line |
 //! | `damage` | tables that are not sound |
 //! | `other` | the program, or the mutant, that is compared |
 //! | `differ` | batches of scripts, and the first difference |
@@ -20,6 +21,7 @@ pub mod claims;
 pub mod corners;
 pub mod damage;
 pub mod differ;
+pub mod forms;
 pub mod other;
 pub mod prng;
 pub mod profile;
