@@ -15,16 +15,15 @@ pub fn shrink(
     mut fails: impl FnMut(&[u8]) -> Result<bool, String>,
 ) -> Result<Vec<u8>, String> {
     let end = Instant::now() + PATIENCE;
-    let mut fails =
-        |shorter: &[u8]| -> Result<bool, String> { Ok(Instant::now() < end && fails(shorter)?) };
     let mut kept: Lines = (lines(input), true);
     if !fails(&join(&kept))? {
         kept.1 = input.ends_with(b"\n");
     }
     keep_front(&mut kept, &mut fails)?;
     let mut size = kept.0.len();
-    while size > 0 {
-        if !drop_blocks(&mut kept, size, &mut fails)? {
+    while size > 0 && Instant::now() < end {
+        let dropped = drop_blocks(&mut kept, size, end, &mut fails)?;
+        if !dropped && (size > 1 || !drop_two(&mut kept, end, &mut fails)?) {
             size /= 2;
         }
     }
@@ -55,11 +54,12 @@ fn keep_front(
 fn drop_blocks(
     kept: &mut Lines,
     size: usize,
+    end_of_patience: Instant,
     fails: &mut impl FnMut(&[u8]) -> Result<bool, String>,
 ) -> Result<bool, String> {
     let mut dropped = false;
     let mut end = kept.0.len();
-    while end > 0 {
+    while end > 0 && Instant::now() < end_of_patience {
         let start = end.saturating_sub(size);
         let shorter = ([&kept.0[..start], &kept.0[end..]].concat(), kept.1);
         if fails(&join(&shorter))? {
@@ -69,6 +69,30 @@ fn drop_blocks(
         end = start;
     }
     Ok(dropped)
+}
+
+/// Drops two lines that are needed only for each other, as a claim and what gives it back. Whether
+/// there were two.
+fn drop_two(
+    kept: &mut Lines,
+    end_of_patience: Instant,
+    fails: &mut impl FnMut(&[u8]) -> Result<bool, String>,
+) -> Result<bool, String> {
+    for two in (1..kept.0.len()).rev() {
+        for one in (0..two).rev() {
+            if Instant::now() >= end_of_patience {
+                return Ok(false);
+            }
+            let mut shorter = kept.clone();
+            shorter.0.remove(two);
+            shorter.0.remove(one);
+            if fails(&join(&shorter))? {
+                *kept = shorter;
+                return Ok(true);
+            }
+        }
+    }
+    Ok(false)
 }
 
 /// The lines with a byte 10 between them, and one at the end or not.
