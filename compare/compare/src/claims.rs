@@ -93,11 +93,11 @@ pub fn resource(prng: &mut Prng, engine: &Engine, wanted: Wanted) -> u64 {
 }
 
 /// Resolution, multiple and offset: near, so that few ticks reach it, and often at a tick at which
-/// another timer is due.
+/// another timer is due; now and then of any unit, at the bounds and one above them.
 pub fn timer(prng: &mut Prng, engine: &Engine) -> (u64, u64, u64) {
     if prng.chance(1, 8) {
-        let far = [1, 7, 60, 4095];
-        return (prng.between(1, 4), prng.pick(&[0, 1, 7, 4095]), prng.pick(&far));
+        let multiple = prng.pick(&[0, 1, 7, 4094, 4095, 4096]);
+        return (prng.between(1, 4), multiple, prng.pick(&[1, 7, 60, 4094, 4095, 4096]));
     }
     let dues: Vec<u64> =
         engine.programs.values().filter_map(|program| program.timer).map(|t| t.due).collect();

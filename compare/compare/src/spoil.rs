@@ -31,6 +31,9 @@ pub fn edge(prng: &mut Prng, engine: &Engine, line: &str) -> Vec<u8> {
         4_294_967_297,
         9_999_999_999,
     ];
+    if prng.chance(1, 12) {
+        return widest(prng, line);
+    }
     let number = prng.pick(&near);
     // Far off, but the old number to whoever keeps 32 bits of it.
     let turned = prng.chance(1, 8);
@@ -50,6 +53,19 @@ fn change_number(prng: &mut Prng, line: &str, rewrite: impl Fn(u64) -> String) -
         fields[place] = rewrite(fields[place].parse().unwrap_or(0));
     }
     fields.join(",").into_bytes()
+}
+
+/// Every number of a good line, but that of an EXEC, becomes one of ten digits.
+fn widest(prng: &mut Prng, line: &str) -> Vec<u8> {
+    let fields = line.split(',').enumerate().map(|(place, field)| {
+        let exec_number = place == 1 && line.starts_with("EXEC,");
+        if exec_number || field.parse::<u64>().is_err() {
+            field.to_string()
+        } else {
+            prng.between(1_000_000_000, 9_999_999_999).to_string()
+        }
+    });
+    fields.collect::<Vec<_>>().join(",").into_bytes()
 }
 
 /// A line that is mostly not understood, made from a good one.
@@ -106,7 +122,9 @@ fn byte_changed(prng: &mut Prng, line: &str) -> Vec<u8> {
     let mut bytes = line.as_bytes().to_vec();
     let place = prng.below(bytes.len() as u64) as usize;
     let any = not_newline(prng);
-    let byte = prng.pick(&[0, 9, 11, 13, 32, 127, 128, 200, 255, any, any, any]);
+    // The bytes beside digits and capitals among them.
+    let beside = prng.pick(b"/:@[");
+    let byte = prng.pick(&[0, 9, 11, 13, 32, 127, 128, 200, 255, beside, beside, any, any, any]);
     match prng.below(4) {
         0 => bytes[place] = byte,
         1 => bytes.insert(place, byte),
