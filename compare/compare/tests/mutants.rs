@@ -1,23 +1,33 @@
-//! Every wrong engine is told from the right one within the seeds of the CI.
+//! Every wrong engine is told from the right one within the seeds of the CI, but for those that show
+//! on tables put by hand alone (`engine/tests/hand.rs`).
 
-use comparer::differ::{begins_fresh, differs, run, shortest, Count, Failure};
+use comparer::differ::{begins_fresh, differs, run, run_corners, shortest, Count, Failure};
 use comparer::other::Other;
 use comparer::report::report;
 use comparer::{CI_LINES, CI_SEEDS};
-use engine::fault::{Fault, FAULTS};
+use engine::fault::{Fault, FAULTS, ON_TABLES};
 use engine::sheet::lines;
 
-/// A minute of ticks is more than a script has; one of the fixed inputs has it.
-const BY_FIXED_INPUT: [Fault; 1] = [Fault::SecondsRunOn];
+/// A minute of ticks is more than a script has; some of the fixed inputs have it.
+const BY_FIXED_INPUT: [Fault; 3] = [Fault::SecondsRunOn, Fault::MinutesRunOn, Fault::HoursLost];
 
 fn first_failure(other: &Other) -> Option<Failure> {
     run(other, CI_SEEDS, CI_LINES, &mut Count::default()).expect("a mutant always runs")
 }
 
+/// What only the fixed inputs are meant to find, by its place in them.
+fn failing_corner(fault: Fault) -> Option<String> {
+    let found = run_corners(&Other::Mutant(fault), &mut Count::default());
+    found.expect("a mutant always runs").map(|failure| failure.origin)
+}
+
 #[test]
 fn each_mutant_is_found_and_its_script_shrinks() {
-    assert!(FAULTS.len() >= 40);
+    assert!(FAULTS.len() >= 70);
     for fault in FAULTS {
+        if ON_TABLES.contains(fault) {
+            continue;
+        }
         let other = Other::Mutant(*fault);
         let failure = first_failure(&other).unwrap_or_else(|| panic!("missed: {}", fault.name()));
         assert_eq!(failure.fresh, !BY_FIXED_INPUT.contains(fault), "{}", fault.name());
@@ -35,6 +45,34 @@ fn shrinks(fault: Fault, failure: &Failure) {
     assert!(lines(&input).len() <= 25, "{}: {} lines", fault.name(), lines(&input).len());
     let text = report(&input, &other.print(&input).expect("a mutant always runs"));
     assert!(text.contains("  > "), "{}", text);
+}
+
+/// Each kind of fixed input finds what it was made for, without any script.
+#[test]
+fn fixed_inputs_find_their_mutants() {
+    for (fault, about) in [
+        (Fault::AtLetter, "every byte as a line and in a name"),
+        (Fault::LongLineInParts, "very long lines"),
+        (Fault::Offset4096, "numbers at their bounds"),
+        (Fault::Offset4095Refused, "numbers at their bounds"),
+        (Fault::Multiple4096, "numbers at their bounds"),
+        (Fault::Multiple4095Refused, "numbers at their bounds"),
+        (Fault::HourTooShort, "numbers at their bounds"),
+        (Fault::SumIn32Bits, "fields of every length"),
+        (Fault::Wraps32, "fields of every length"),
+        (Fault::ElevenDigits, "fields of every length"),
+        (Fault::Over30Bytes, "fields of every length"),
+        (Fault::Of46Bytes, "fields of every length"),
+        (Fault::ColonDigit, "every byte at every place"),
+        (Fault::SlashDigit, "every byte at every place"),
+        (Fault::DigitFirst, "every byte at every place"),
+        (Fault::SecondsRunOn, "two minutes of ticks"),
+        (Fault::MinutesRunOn, "an hour of ticks"),
+        (Fault::HoursLost, "an hour of ticks"),
+    ] {
+        let expected = format!("a fixed input ({})", about);
+        assert_eq!(failing_corner(fault), Some(expected), "{}", fault.name());
+    }
 }
 
 /// The right engine passes, over the same seeds and through the same code.

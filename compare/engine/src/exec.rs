@@ -69,17 +69,39 @@ impl Engine {
         let day = self.clock / TICKS_OF_A_DAY % 365 + 1;
         let hundredths = self.clock % TICKS_OF_A_DAY;
         let seconds = hundredths / 100;
-        let minute = if self.fault == Fault::SecondsRunOn { 3600 } else { 60 };
-        [day, seconds / 3600, seconds / 60 % 60, seconds % minute, hundredths % 100]
+        let parts = [day, seconds / 3600, seconds / 60 % 60, seconds % 60, hundredths % 100];
+        self.wrong_time(parts)
+    }
+
+    /// A mutant's time; the right engine's stays.
+    fn wrong_time(&self, [day, hour, minute, second, hundredth]: [u64; 5]) -> [u64; 5] {
+        match self.fault {
+            Fault::SecondsRunOn => [day, hour, minute, minute * 60 + second, hundredth],
+            Fault::MinutesRunOn => [day, hour, hour * 60 + minute, second, hundredth],
+            Fault::HoursRunOn => [day, (day - 1) * 24 + hour, minute, second, hundredth],
+            Fault::DaysRunOn => [self.clock / TICKS_OF_A_DAY + 1, hour, minute, second, hundredth],
+            Fault::HoursLost => [day, 0, minute, second, hundredth],
+            _ => [day, hour, minute, second, hundredth],
+        }
     }
 
     /// EXEC 12: sets or replaces the timer of any program, in any state. Value due.
     pub fn exec12(&mut self, name: Name, resolution: u64, multiple: u64, offset: u64) -> Outcome {
         self.caller()?;
         allow(legal_name(name) && (1..=4).contains(&resolution))?;
-        allow(multiple <= 4095 && (1..=4095).contains(&offset))?;
+        let (most_multiple, most_offset) = match self.fault {
+            Fault::Multiple4096 => (4096, 4095),
+            Fault::Multiple4095Refused => (4094, 4095),
+            Fault::Offset4096 => (4095, 4096),
+            Fault::Offset4095Refused => (4095, 4094),
+            _ => (4095, 4095),
+        };
+        allow(multiple <= most_multiple && (1..=most_offset).contains(&offset))?;
         let p = self.find(name)?;
-        let unit = UNITS[resolution as usize - 1];
+        let mut unit = UNITS[resolution as usize - 1];
+        if self.fault == Fault::HourTooShort && resolution == 4 {
+            unit = 36_000;
+        }
         let due = self.clock + offset * unit;
         // Counted with the entries, for the mutant alone.
         self.entries += 1;

@@ -45,6 +45,9 @@ faults! {
     WalkStops, "walk-stops", "the walk of chain 3 ends at the first that does not wake";
     SonLeft, "son-left", "OF 8 leaves its number in the father's why";
     EndedWakes, "ended-wakes", "a program that holds tracks wakes by its own ending";
+    DiscWakesOne, "disc-wakes-one", "the walk of chain 5 is lost behind the first that wakes";
+    EndingWakesOne, "ending-wakes-one", "an ending's walk of chain 3 is lost behind the first that wakes";
+    WokenWaitsTurn, "woken-waits-turn", "a woken program is not the caller while the one before it runs";
     WhyKept, "why-kept", "a woken program keeps its why";
     NoneFreedWakes, "none-freed-wakes", "EXEC 5 ALL wakes chain 5 though it freed none";
     // tracks
@@ -55,6 +58,7 @@ faults! {
     PartFreed, "part-freed", "a refused EXEC 5 has freed the tracks before the wrong one";
     GlobalWakesNone, "global-wakes-none", "EXEC 16 wakes nobody";
     HeldNotJoined, "held-not-joined", "the page shows each held track by itself";
+    SumIn32Bits, "sum-in-32-bits", "EXEC 5 and 16 add start and n up in 32 bits";
     OfCountsWoken, "of-counts-woken", "OF tells programs woken, not tracks freed";
     // ending and timers
     Exec6FreesTracks, "exec6-frees-tracks", "EXEC 6 frees the tracks";
@@ -64,6 +68,12 @@ faults! {
     IntervalLeft, "interval-left", "EXEC 12 leaves the interval of a timer that was set";
     TickCountsDue, "tick-counts-due", "TICK counts all that are due";
     OnceLeft, "once-left", "a timer of interval 0 stays after its tick";
+    DueWaitsTurn, "due-waits-turn", "a program that TICK schedules is not the caller while another runs";
+    Offset4096, "offset-4096", "EXEC 12 takes an offset of 4096";
+    Offset4095Refused, "offset-4095-refused", "EXEC 12 refuses an offset of 4095";
+    Multiple4096, "multiple-4096", "EXEC 12 takes a multiple of 4096";
+    Multiple4095Refused, "multiple-4095-refused", "EXEC 12 refuses a multiple of 4095";
+    HourTooShort, "hour-too-short", "the unit of resolution 4 is 36,000 ticks";
     TickBySetting, "tick-by-setting", "TICK goes by the order of setting";
     TickFalling, "tick-falling", "TICK goes from the highest number down";
     // resource numbers
@@ -72,6 +82,7 @@ faults! {
     OthersForgotten, "others-forgotten", "ending the locker of another's number wakes none";
     AllocHighest, "alloc-highest", "ALLOC takes the highest free number";
     ClearWakesAny, "clear-wakes-any", "CLEAR wakes those that wait for any number";
+    LocksWakeAny, "locks-wake-any", "an ending that only cleared locks wakes those that wait for any number";
     LockOfOwnerOnly, "lock-of-owner-only", "only the owner may lock its number";
     OwnLockWaits, "own-lock-waits", "LOCK of a number locked by the caller waits";
     OwnerFreesLocked, "owner-frees-locked", "the owner may free a number locked by another";
@@ -82,17 +93,51 @@ faults! {
     Exec7Waits, "exec7-waits", "EXEC 7 answers 1, value 6";
     TimeWithoutCaller, "time-without-caller", "EXEC 11 needs no caller";
     SecondsRunOn, "seconds-run-on", "the seconds of the time are not those of the minute";
+    MinutesRunOn, "minutes-run-on", "the minutes of the time are not those of the hour";
+    HoursLost, "hours-lost", "the hour of the time is always 0";
     FreshKeepsClock, "fresh-keeps-clock", "an accepted FRESH line leaves the clock";
     RefusedFreshResets, "refused-fresh-resets", "a refused FRESH line yields the smallest tables";
     // the console line
     ElevenDigits, "eleven-digits", "numbers may have eleven digits";
     LeadingZero, "leading-zero", "numbers may have leading zeros";
     Wraps32, "wraps-32", "numbers are read into 32 bits";
+    ColonDigit, "colon-digit", "':', the byte behind '9', is taken for a digit";
+    SlashDigit, "slash-digit", "'/', the byte before '0', is taken for a digit";
+    AtLetter, "at-letter", "'@', the byte before 'A', is taken for a letter";
+    BracketLetter, "bracket-letter", "'[', the byte behind 'Z', is taken for a letter";
+    DigitFirst, "digit-first", "a name may begin with a digit";
+    Over30Bytes, "over-30-bytes", "a line over 30 bytes is not understood";
+    Of46Bytes, "of-46-bytes", "a line of 46 bytes, the longest well-formed one, is not understood";
     LowerCase, "lower-case", "small letters are taken for capitals";
     ReturnDropped, "return-dropped", "byte 13 at the end of a line is dropped";
     LongLineInParts, "long-line-in-parts", "a long line is answered once per 72 bytes";
     LastLineLost, "last-line-lost", "a last line without byte 10 does not count";
+    // what no console line shows from FRESH: see `ON_TABLES`
+    SumIn64Bits, "sum-in-64-bits", "EXEC 5 and 16 add start and n up in 64 bits";
+    HoursRunOn, "hours-run-on", "the hours of the time are not those of the day";
+    DaysRunOn, "days-run-on", "the days of the time are not those of a year of 365";
+    CeilingPassed, "ceiling-passed", "the clock goes on above its ceiling";
+    ClearAlreadyWakes, "clear-already-wakes", "CLEAR of a number that is clear wakes";
+    UnlockedWakesNone, "unlocked-wakes-none", "a number freed unlocked wakes none that wait for its lock";
+    CycleSound, "cycle-sound", "32 links are followed, whoever was met before";
+    CycleFollowed, "cycle-followed", "links are followed to their end, which a cycle has not";
+    CrossedSound, "crossed-sound", "a chain may run into another";
 }
+
+/// Told apart on tables put by hand alone, in `tests/hand.rs`. A day takes 8,640,000 TICK lines and
+/// the ceiling more; numbers of a line have ten digits; and tables that a run from FRESH left are
+/// sound, with nobody waiting for a number that is clear.
+pub const ON_TABLES: [Fault; 9] = [
+    Fault::SumIn64Bits,
+    Fault::HoursRunOn,
+    Fault::DaysRunOn,
+    Fault::CeilingPassed,
+    Fault::ClearAlreadyWakes,
+    Fault::UnlockedWakesNone,
+    Fault::CycleSound,
+    Fault::CycleFollowed,
+    Fault::CrossedSound,
+];
 
 impl Fault {
     pub fn by_name(name: &str) -> Option<Fault> {

@@ -42,7 +42,12 @@ pub fn parse(line: &[u8], fault: Fault) -> Option<Request> {
         (Fault::ReturnDropped, Some((13, front))) => front,
         _ => line,
     };
-    if line.is_empty() || line.len() > LONGEST_LINE {
+    let too_long = match fault {
+        Fault::Over30Bytes => line.len() > 30,
+        Fault::Of46Bytes => line.len() == 46,
+        _ => line.len() > LONGEST_LINE,
+    };
+    if line.is_empty() || too_long {
         return None;
     }
     let upper = line.to_ascii_uppercase();
@@ -53,6 +58,7 @@ pub fn parse(line: &[u8], fault: Fault) -> Option<Request> {
 
 fn request(fields: &[&[u8]], fault: Fault) -> Option<Request> {
     let number = |field: &[u8]| number(field, fault);
+    let name = |field: &[u8]| name(field, fault);
     let request = match fields {
         [b"FRESH", t, s, r] => Request::Fresh(number(t)?, number(s)?, number(r)?),
         [b"LOAD", n, priority] => Request::Load(name(n)?, number(priority)?),
@@ -77,6 +83,7 @@ fn request(fields: &[&[u8]], fault: Fault) -> Option<Request> {
 /// The EXEC lines; "an EXEC number not listed is 13".
 fn exec(exec_number: u64, fields: &[&[u8]], fault: Fault) -> Option<Request> {
     let number = |field: &[u8]| number(field, fault);
+    let name = |field: &[u8]| name(field, fault);
     let request = match (exec_number, fields) {
         (4, [n, w]) => Request::Exec4(number(n)?, number(w)?),
         (15, [n, w]) => Request::Exec15(number(n)?, number(w)?),
@@ -99,24 +106,46 @@ fn exec(exec_number: u64, fields: &[&[u8]], fault: Fault) -> Option<Request> {
 /// "numbers of 1 to 10 digits without leading zeros"
 fn number(field: &[u8], fault: Fault) -> Option<u64> {
     let most = if fault == Fault::ElevenDigits { 11 } else { 10 };
-    if field.is_empty() || field.len() > most || !field.iter().all(u8::is_ascii_digit) {
+    let digit = |b: &u8| match fault {
+        Fault::ColonDigit if *b == b':' => true,
+        Fault::SlashDigit if *b == b'/' => true,
+        _ => b.is_ascii_digit(),
+    };
+    if field.is_empty() || field.len() > most || !field.iter().all(digit) {
         return None;
     }
     if field[0] == b'0' && field.len() > 1 && fault != Fault::LeadingZero {
         return None;
     }
-    let value = field.iter().fold(0, |sum, b| sum * 10 + u64::from(b - b'0'));
+    let value = field.iter().fold(0, |sum, b| sum * 10 + u64::from(b.saturating_sub(b'0')));
     Some(if fault == Fault::Wraps32 { value % (1 << 32) } else { value })
 }
 
 /// "A name field is a legal name without its blanks"
-fn name(field: &[u8]) -> Option<Name> {
-    if !legal_front(field) {
+fn name(field: &[u8], fault: Fault) -> Option<Name> {
+    if !legal_front(&misread(field, fault)) {
         return None;
     }
     let mut name = *b"     ";
     name[..field.len()].copy_from_slice(field);
     Some(name)
+}
+
+/// The name that a mutant takes this field for; the right engine takes it as it is.
+fn misread(field: &[u8], fault: Fault) -> Vec<u8> {
+    let mut seen = field.to_vec();
+    for (place, byte) in seen.iter_mut().enumerate() {
+        let letter = match fault {
+            Fault::AtLetter => *byte == b'@',
+            Fault::BracketLetter => *byte == b'[',
+            Fault::DigitFirst => place == 0 && byte.is_ascii_digit(),
+            _ => false,
+        };
+        if letter {
+            *byte = b'A';
+        }
+    }
+    seen
 }
 
 impl Engine {

@@ -61,7 +61,7 @@ impl Engine {
         allow((1..=self.r()).contains(&r))?;
         let number = self.allocated(r)?;
         require(free_for(number, caller), answer::NOT_HOLDER)?;
-        if number.lock.is_none() {
+        if number.lock.is_none() && self.fault != Fault::ClearAlreadyWakes {
             return done(0);
         }
         self.numbers[r as usize - 1].lock = None;
@@ -83,7 +83,10 @@ impl Engine {
         let unlocked = free_for(number, caller) || self.fault == Fault::OwnerFreesLocked && mine;
         require(unlocked, answer::NOT_HOLDER)?;
         self.numbers[r as usize - 1] = FREE_NUMBER;
-        let released = Released { deallocated: vec![r as usize], ..Released::default() };
+        let mut released = Released { deallocated: vec![r as usize], ..Released::default() };
+        if self.fault == Fault::UnlockedWakesNone && number.lock.is_none() {
+            released.deallocated = vec![0];
+        }
         let woken = self.wake(&released);
         done(woken)
     }

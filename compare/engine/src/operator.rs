@@ -93,11 +93,16 @@ impl Engine {
 
     /// TICK: clock + 1, then by program number each timer now due. Value programs scheduled.
     pub fn tick(&mut self) -> Outcome {
-        require(self.clock < CEILING, answer::CEILING)?;
+        if self.fault != Fault::CeilingPassed {
+            require(self.clock < CEILING, answer::CEILING)?;
+        }
         self.clock += 1;
         let mut scheduled = 0;
         for p in self.now_due() {
             let dormant = self.programs[&p].state == DORMANT;
+            if self.fault == Fault::DueWaitsTurn {
+                self.runs_on = self.caller().ok();
+            }
             if dormant {
                 self.enter(p, SCHEDULED, Why::Nothing);
             }

@@ -109,7 +109,7 @@ impl Raw {
 
     /// The engine with these tables, if they are sound. Entries are numbered in chain order.
     pub fn engine(&self, fault: Fault) -> Option<Engine> {
-        if !self.sound() {
+        if !self.sound_by(fault) {
             return None;
         }
         let (mut engine, _) = Engine::fresh(self.t, self.s, self.r, fault);
@@ -150,7 +150,16 @@ impl Raw {
     /// A call on these tables: 14 with the same tables if they are not sound, else what the engine
     /// answers, with the tables after it.
     pub fn call(&self, call: impl FnOnce(&mut Engine) -> Outcome) -> (Raw, Answer) {
-        match self.engine(Fault::None) {
+        self.call_by(Fault::None, call)
+    }
+
+    /// The same by a wrong engine.
+    pub fn call_by(
+        &self,
+        fault: Fault,
+        call: impl FnOnce(&mut Engine) -> Outcome,
+    ) -> (Raw, Answer) {
+        match self.engine(fault) {
             None => (self.clone(), Answer::new(answer::NOT_SOUND, 0)),
             Some(mut engine) => {
                 let answer = Answer::of(call(&mut engine));

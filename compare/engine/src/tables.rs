@@ -84,6 +84,8 @@ pub struct Engine {
     pub numbers: Vec<Number>,
     /// How many entries into chains there were.
     pub(crate) entries: i64,
+    /// The program that two mutants take for the caller, whoever heads the chain.
+    pub(crate) runs_on: Option<usize>,
     pub(crate) fault: Fault,
 }
 
@@ -111,6 +113,7 @@ impl Engine {
             tracks: (0..t).map(holder).collect(),
             numbers: (0..r).map(|_| FREE_NUMBER).collect(),
             entries: 0,
+            runs_on: None,
             fault,
         }
     }
@@ -146,6 +149,9 @@ impl Engine {
 
     /// Test 2. The caller is the head of the scheduled chain.
     pub fn caller(&self) -> Result<usize, Answer> {
+        if let Some(p) = self.runs_on {
+            return Ok(p);
+        }
         match self.chain(SCHEDULED).first() {
             Some(p) => Ok(*p),
             None => Err(Answer::new(answer::NO_CALLER, 0)),
@@ -181,6 +187,9 @@ impl Engine {
     pub(crate) fn enter(&mut self, p: usize, state: u8, why: Why) {
         self.entries += 1;
         let entry = self.entries;
+        if self.runs_on == Some(p) {
+            self.runs_on = None;
+        }
         let program = self.program(p);
         program.state = state;
         program.why = why;

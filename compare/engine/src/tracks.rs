@@ -80,6 +80,10 @@ impl Engine {
     }
 
     fn give_back(&mut self, holder: Holder, n: u64, start: u64) -> Outcome {
+        if self.sum_wraps(n, start) {
+            // No track lies from start to an end below it, so each of them is the holder's.
+            return done(n);
+        }
         let end = match start.checked_add(n) {
             Some(end) if n >= 1 && end <= self.t() => end,
             _ => return refused(answer::NOT_ALLOWED),
@@ -96,6 +100,16 @@ impl Engine {
             self.wake(&Released { tracks: n, ..Released::default() });
         }
         done(n)
+    }
+
+    /// A mutant's error: start + n, cut to so many bits, lies below start and within T.
+    fn sum_wraps(&self, n: u64, start: u64) -> bool {
+        let end = match self.fault {
+            Fault::SumIn32Bits => start.wrapping_add(n) % (1 << 32),
+            Fault::SumIn64Bits => start.wrapping_add(n),
+            _ => return false,
+        };
+        n >= 1 && end <= self.t() && end < start
     }
 
     /// EXEC 5 with ALL: all the caller holds, perhaps none.

@@ -74,6 +74,10 @@ impl Engine {
                 if self.fault != Fault::OthersForgotten {
                     released.cleared.push(r);
                 }
+                if self.fault == Fault::LocksWakeAny {
+                    // No number: nobody waits for its lock.
+                    released.deallocated.push(0);
+                }
             }
         }
     }
@@ -89,6 +93,9 @@ impl Engine {
             for p in self.chain(DISC) {
                 self.schedule_woken(p);
                 woken += 1;
+                if self.fault == Fault::DiscWakesOne {
+                    break;
+                }
             }
         }
         woken + self.walk_chain3(released)
@@ -104,7 +111,12 @@ impl Engine {
             if wakes(self.programs[&p].why, released) {
                 self.schedule_woken(p);
                 woken += 1;
-                if self.fault == Fault::OneWakes && released.ended.is_none() {
+                let lost = match self.fault {
+                    Fault::OneWakes => released.ended.is_none(),
+                    Fault::EndingWakesOne => released.ended.is_some(),
+                    _ => false,
+                };
+                if lost {
                     break;
                 }
             } else if self.fault == Fault::WalkStops {
@@ -117,6 +129,9 @@ impl Engine {
     /// The woken enter the scheduled chain one by one. Waking grants nothing.
     fn schedule_woken(&mut self, p: usize) {
         let old_why = self.programs[&p].why;
+        if self.fault == Fault::WokenWaitsTurn {
+            self.runs_on = self.caller().ok();
+        }
         self.enter(p, SCHEDULED, Why::Nothing);
         if self.fault == Fault::WokenBeforeEquals {
             self.before_its_equals(p);
