@@ -1,0 +1,233 @@
+//! Changed engines, built and tried: first by the comparer in the place of the program, then by the
+//! engine's own tests.
+
+use crate::many::{with_all, CHOICE};
+use crate::sites::Change;
+use comparer::differ::{run, Count};
+use comparer::other::Other;
+use comparer::{CI_LINES, CI_SEEDS};
+use std::ffi::OsStr;
+use std::fs;
+use std::path::{Path, PathBuf};
+use std::process::{Command, Stdio};
+use std::thread::sleep;
+use std::time::{Duration, Instant};
+
+#[derive(Clone, Copy, Debug, PartialEq, Eq)]
+pub enum Verdict {
+    DoesNotBuild,
+    FoundByComparer,
+    FoundByTests,
+    Survives,
+}
+
+/// The sources that no console line comes to: the tables as a caller could hand them in.
+pub const OFF_THE_CONSOLE: [&str; 2] = ["raw.rs", "sound.rs"];
+
+/// How long one run may take; the right engine takes a second.
+const LIMIT: Duration = Duration::from_secs(15);
+
+const ENGINE: &str = "--extern=engine=libengine.rlib";
+
+const SHEET: &str = "use std::io::{Read, Write};
+fn main() {
+    let mut input = Vec::new();
+    std::io::stdin().lock().read_to_end(&mut input).expect(\"input\");
+    let output = engine::sheet(&input, engine::Fault::None);
+    std::io::stdout().lock().write_all(&output).expect(\"output\");
+}
+";
+
+/// A folder in which engines are built.
+pub struct Shop {
+    folder: PathBuf,
+}
+
+impl Shop {
+    /// A copy of the engine's sources, its tests in one program, and a `sheet`.
+    pub fn new(engine: &Path, folder: &Path) -> Result<Shop, String> {
+        let shop = Shop { folder: folder.to_path_buf() };
+        fs::create_dir_all(shop.at("src")).map_err(|error| error.to_string())?;
+        for file in sources(&engine.join("src"))? {
+            shop.write(&format!("src/{}", name(&file)), &read(&file)?)?;
+        }
+        let tests = fs::canonicalize(engine.join("tests")).map_err(|error| error.to_string())?;
+        let mut all = String::from("#![allow(clippy::all)]\n");
+        for file in sources(&tests)? {
+            let module = name(&file).trim_end_matches(".rs").to_string();
+            all += &format!("#[path = {:?}]\nmod {};\n", file.display().to_string(), module);
+        }
+        shop.write("tests.rs", &all)?;
+        shop.write("sheet.rs", SHEET)?;
+        Ok(shop)
+    }
+
+    fn at(&self, name: &str) -> PathBuf {
+        self.folder.join(name)
+    }
+
+    fn write(&self, name: &str, text: &str) -> Result<(), String> {
+        fs::write(self.at(name), text).map_err(|error| format!("{}: {}", name, error))
+    }
+
+    /// The engine with this source in the place of the file's own, which is put back afterwards.
+    pub fn alone(&self, file: &str, changed: &str) -> Result<Verdict, String> {
+        let path = format!("src/{}", file);
+        let own = read(&self.at(&path))?;
+        self.write(&path, changed)?;
+        let built = self.build_all("-Copt-level=0");
+        self.write(&path, &own)?;
+        if built?.is_empty() {
+            self.verdict(file, 0)
+        } else {
+            Ok(Verdict::DoesNotBuild)
+        }
+    }
+
+    /// Builds one engine with all these changes; returns the numbers of those that do not build and
+    /// were left out.
+    pub fn together(&self, all: &[(String, String, Change)]) -> Result<Vec<usize>, String> {
+        let mut left_out: Vec<usize> = Vec::new();
+        loop {
+            let places = self.write_together(all, &left_out)?;
+            let errors = self.build_all("-Copt-level=1")?;
+            let at_fault = |(file, line): &(String, usize)| {
+                let here = |place: &&(String, usize, usize, usize)| {
+                    place.0 == *file && (place.2..=place.3).contains(line)
+                };
+                places.iter().find(here).map(|place| place.1)
+            };
+            let mut numbers: Vec<usize> = errors.iter().filter_map(at_fault).collect();
+            numbers.sort_unstable();
+            numbers.dedup();
+            match (errors.is_empty(), numbers.is_empty()) {
+                (true, _) => return Ok(left_out),
+                (false, true) => return Err(format!("the changes do not build: {:?}", errors)),
+                (false, false) => left_out.extend(numbers),
+            }
+        }
+    }
+
+    /// The file, the number and the first and last line of each change.
+    fn write_together(
+        &self,
+        all: &[(String, String, Change)],
+        left_out: &[usize],
+    ) -> Result<Vec<(String, usize, usize, usize)>, String> {
+        let mut places = Vec::new();
+        let mut files: Vec<(&String, &String)> = all.iter().map(|(f, s, _)| (f, s)).collect();
+        files.dedup();
+        for (file, source) in files {
+            let numbered = all.iter().enumerate().map(|(place, one)| (place + 1, one));
+            let here =
+                numbered.filter(|(number, one)| one.0 == *file && !left_out.contains(number));
+            let changes: Vec<(usize, &Change)> =
+                here.map(|(number, one)| (number, &one.2)).collect();
+            let (text, lines) = with_all(source, &changes);
+            let choice = if file == "lib.rs" { CHOICE } else { "" };
+            self.write(&format!("src/{}", file), &(text + choice))?;
+            places.extend(lines.into_iter().map(|(n, first, last)| (file.clone(), n, first, last)));
+        }
+        if !all.iter().any(|one| one.0 == "lib.rs") {
+            let own = read(&self.at("src/lib.rs"))?;
+            if !own.contains(CHOICE) {
+                self.write("src/lib.rs", &(own + CHOICE))?;
+            }
+        }
+        Ok(places)
+    }
+
+    /// The engine, `sheet` and the tests. Where the errors are, none if it was built.
+    fn build_all(&self, quick: &str) -> Result<Vec<(String, usize)>, String> {
+        let library = ["--crate-type=rlib", "--crate-name=engine", quick];
+        let errors = self.build("src/lib.rs", &library)?;
+        if !errors.is_empty() {
+            return Ok(errors);
+        }
+        let mut errors = self.build("sheet.rs", &[ENGINE])?;
+        errors.extend(self.build("tests.rs", &["--test", ENGINE])?);
+        Ok(errors)
+    }
+
+    /// What was built last, with the change of this number chosen.
+    pub fn verdict(&self, file: &str, number: usize) -> Result<Verdict, String> {
+        if !OFF_THE_CONSOLE.contains(&file) {
+            let other = Other::Program { command: self.sheet(number), limit: LIMIT };
+            if run(&other, CI_SEEDS, CI_LINES, &mut Count::default())?.is_some() {
+                return Ok(Verdict::FoundByComparer);
+            }
+        }
+        let passed = self.tests_pass(number)?;
+        Ok(if passed { Verdict::Survives } else { Verdict::FoundByTests })
+    }
+
+    /// In little memory, and without what it says when it fails.
+    fn sheet(&self, number: usize) -> Vec<String> {
+        let program = self.at("sheet").display().to_string();
+        let script = format!("ulimit -v 2000000; MUTANT={} exec \"$0\" 2> /dev/null", number);
+        vec![String::from("sh"), String::from("-c"), script, program]
+    }
+
+    /// The file and line of each error.
+    fn build(&self, source: &str, more: &[&str]) -> Result<Vec<(String, usize)>, String> {
+        let mut rustc = Command::new(std::env::var("RUSTC").unwrap_or(String::from("rustc")));
+        rustc.current_dir(&self.folder).arg(source).args(more);
+        rustc.args(["--edition=2021", "--cap-lints=allow", "-Cdebug-assertions=on"]);
+        let incremental = format!("-Cincremental=kept-{}", source.replace('/', "-"));
+        rustc.args([incremental.as_str(), "--out-dir=.", "--error-format=short"]);
+        let output = rustc.output().map_err(|error| format!("rustc: {}", error))?;
+        let said = String::from_utf8_lossy(&output.stderr).to_string();
+        let mut errors: Vec<(String, usize)> = said.lines().filter_map(place_of_error).collect();
+        if !output.status.success() && errors.is_empty() {
+            errors.push((said, 0));
+        }
+        Ok(if output.status.success() { Vec::new() } else { errors })
+    }
+
+    fn tests_pass(&self, number: usize) -> Result<bool, String> {
+        let mut child = Command::new("sh")
+            .args(["-c", "ulimit -v 4000000; exec \"$0\" --test-threads=1"])
+            .arg(self.at("tests"))
+            .env("MUTANT", number.to_string())
+            .stdout(Stdio::null())
+            .stderr(Stdio::null())
+            .spawn()
+            .map_err(|error| error.to_string())?;
+        let end = Instant::now() + LIMIT;
+        while Instant::now() < end {
+            if let Some(status) = child.try_wait().map_err(|error| error.to_string())? {
+                return Ok(status.success());
+            }
+            sleep(Duration::from_millis(10));
+        }
+        child.kill().and_then(|()| child.wait()).map_err(|error| error.to_string())?;
+        Ok(false)
+    }
+}
+
+/// `src/file.rs:12:5: error..`
+fn place_of_error(said: &str) -> Option<(String, usize)> {
+    let mut parts = said.splitn(4, ':');
+    let (file, line) = (parts.next()?, parts.next()?);
+    let error = parts.nth(1)?.trim_start().starts_with("error");
+    let place = (name(Path::new(file)), line.parse().ok()?);
+    Some(place).filter(|_| error)
+}
+
+/// The Rust sources of a folder, by name.
+pub fn sources(folder: &Path) -> Result<Vec<PathBuf>, String> {
+    let entries = fs::read_dir(folder).map_err(|e| format!("{}: {}", folder.display(), e))?;
+    let paths = entries.filter_map(|entry| entry.ok()).map(|entry| entry.path());
+    let mut sources: Vec<PathBuf> =
+        paths.filter(|path| path.extension() == Some(OsStr::new("rs"))).collect();
+    sources.sort();
+    Ok(sources)
+}
+
+pub fn name(path: &Path) -> String {
+    path.file_name().map_or(String::new(), |name| name.to_string_lossy().to_string())
+}
+
+pub fn read(path: &Path) -> Result<String, String> {
+    fs::read_to_string(path).map_err(|error| format!("{}: {}", path.display(), error))
+}
