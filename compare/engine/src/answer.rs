@@ -1,4 +1,4 @@
-//! 01, "Answer numbers": each call answers with a number and a value.
+//! The outline, "Answer numbers": each call answers with a number and a value.
 
 /// One number for every call but EXEC 11, whose value is the five parts of the time.
 #[derive(Clone, Copy, Debug, PartialEq, Eq)]

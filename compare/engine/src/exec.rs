@@ -1,5 +1,6 @@
-//! 01, "Calls of the running program": EXEC 6, 7, 9, 10, 11 and 12. The tracks and the resource
-//! numbers have files of their own. Every call first needs a caller (2), then its parameters (3).
+//! The outline, "Calls of the running program": EXEC 6, 7, 9, 10, 11 and 12. The tracks and the
+//! resource numbers have files of their own. Every call first needs a caller (2), then its
+//! parameters (3).
 
 use crate::answer::{self, allow, done, waits, Answer, Outcome, Value};
 use crate::fault::Fault;

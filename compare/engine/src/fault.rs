@@ -45,9 +45,9 @@ faults! {
     WalkStops, "walk-stops", "the walk of chain 3 ends at the first that does not wake";
     SonLeft, "son-left", "OF 8 leaves its number in the father's why";
     EndedWakes, "ended-wakes", "a program that holds tracks wakes by its own ending";
-    DiscWakesOne, "disc-wakes-one", "the walk of chain 5 is lost behind the first that wakes";
-    EndingWakesOne, "ending-wakes-one", "an ending's walk of chain 3 is lost behind the first that wakes";
-    WokenWaitsTurn, "woken-waits-turn", "a woken program is not the caller while the one before it runs";
+    DiscWakesOne, "disc-wakes-one", "freed tracks wake the first of chain 5, no more";
+    EndingWakesOne, "ending-wakes-one", "an ending wakes the first of chain 3, no more";
+    WokenWaitsTurn, "woken-waits-turn", "a woken program lets the caller run on";
     WhyKept, "why-kept", "a woken program keeps its why";
     NoneFreedWakes, "none-freed-wakes", "EXEC 5 ALL wakes chain 5 though it freed none";
     // tracks
@@ -68,7 +68,7 @@ faults! {
     IntervalLeft, "interval-left", "EXEC 12 leaves the interval of a timer that was set";
     TickCountsDue, "tick-counts-due", "TICK counts all that are due";
     OnceLeft, "once-left", "a timer of interval 0 stays after its tick";
-    DueWaitsTurn, "due-waits-turn", "a program that TICK schedules is not the caller while another runs";
+    DueWaitsTurn, "due-waits-turn", "a program scheduled by TICK lets the caller run on";
     Offset4096, "offset-4096", "EXEC 12 takes an offset of 4096";
     Offset4095Refused, "offset-4095-refused", "EXEC 12 refuses an offset of 4095";
     Multiple4096, "multiple-4096", "EXEC 12 takes a multiple of 4096";
@@ -82,7 +82,7 @@ faults! {
     OthersForgotten, "others-forgotten", "ending the locker of another's number wakes none";
     AllocHighest, "alloc-highest", "ALLOC takes the highest free number";
     ClearWakesAny, "clear-wakes-any", "CLEAR wakes those that wait for any number";
-    LocksWakeAny, "locks-wake-any", "an ending that only cleared locks wakes those that wait for any number";
+    LocksWakeAny, "locks-wake-any", "an ending that only clears locks wakes for any number";
     LockOfOwnerOnly, "lock-of-owner-only", "only the owner may lock its number";
     OwnLockWaits, "own-lock-waits", "LOCK of a number locked by the caller waits";
     OwnerFreesLocked, "owner-frees-locked", "the owner may free a number locked by another";
@@ -118,7 +118,7 @@ faults! {
     DaysRunOn, "days-run-on", "the days of the time are not those of a year of 365";
     CeilingPassed, "ceiling-passed", "the clock goes on above its ceiling";
     ClearAlreadyWakes, "clear-already-wakes", "CLEAR of a number that is clear wakes";
-    UnlockedWakesNone, "unlocked-wakes-none", "a number freed unlocked wakes none that wait for its lock";
+    UnlockedWakesNone, "unlocked-wakes-none", "FREE of an unlocked number wakes no lock waiter";
     CycleSound, "cycle-sound", "32 links are followed, whoever was met before";
     CycleFollowed, "cycle-followed", "links are followed to their end, which a cycle has not";
     CrossedSound, "crossed-sound", "a chain may run into another";

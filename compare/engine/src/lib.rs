@@ -1,10 +1,10 @@
-//! A second, independent engine of the executive that document 01 outlines.
+//! A second, independent engine of the executive that the outline (docs/OUTLINE.md) lays down.
 //!
 //! It keeps no links. Each program record has its state, its priority and the number of its last
 //! entry into a chain, and every chain is sorted out afresh whenever one is needed. It is meant to
-//! read like document 01, so that the proved engine can be checked against it.
+//! read like the outline, so that the proved engine can be checked against it.
 //!
-//! | file | section of 01 |
+//! | file | section of the outline |
 //! |---|---|
 //! | `tables` | The tables |
 //! | `answer` | Answer numbers |

@@ -1,4 +1,4 @@
-//! 01, "The page and the console line": the console line.
+//! The outline, "The page and the console line": the console line.
 
 use crate::answer::{self, refused, Answer, Outcome};
 use crate::fault::Fault;

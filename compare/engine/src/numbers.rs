@@ -1,4 +1,5 @@
-//! 01, "Calls of the running program": RN ALLOC, LOCK, CLEAR and FREE, the resource numbers.
+//! The outline, "Calls of the running program": RN ALLOC, LOCK, CLEAR and FREE, the resource
+//! numbers.
 
 use crate::answer::{self, allow, done, require, waits, Answer, Outcome};
 use crate::fault::Fault;

@@ -1,4 +1,4 @@
-//! 01, "Operator requests". The tests of each call stand in the order of 01, "Answer numbers".
+//! The outline, "Operator requests". The tests of each call stand in the order of "Answer numbers".
 
 use crate::answer::{self, allow, done, refused, require, Outcome};
 use crate::fault::Fault;

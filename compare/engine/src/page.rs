@@ -1,4 +1,4 @@
-//! 01, "The page and the console line": the page.
+//! The outline, "The page and the console line": the page.
 
 use crate::answer::{self, done, Answer, Outcome};
 use crate::fault::Fault;

@@ -1,4 +1,4 @@
-//! 01, "The page and the console line": the program `sheet`.
+//! The outline, "The page and the console line": the program `sheet`.
 
 use crate::answer::{self, refused, Answer, Value};
 use crate::fault::Fault;

@@ -1,5 +1,5 @@
-//! 01, "Tables are sound exactly when": one function for each part of that sentence. Every one of
-//! them ends and answers for any values whatever, in whichever order they are asked.
+//! The outline, "Tables are sound exactly when": one function for each part of that sentence. Every
+//! one of them ends and answers for any values whatever, in whichever order they are asked.
 
 use crate::fault::Fault;
 use crate::raw::{Raw, RawNumber, RawRecord, RawWhy, BLANK_NUMBER, GLOBAL, LINKS, SYSTEM, UNUSED};

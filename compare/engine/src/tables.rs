@@ -1,4 +1,4 @@
-//! 01, "The tables", and FRESH.
+//! The outline, "The tables", and FRESH.
 
 use crate::answer::{self, done, refused, Answer, Outcome};
 use crate::fault::Fault;
@@ -39,7 +39,7 @@ pub struct Timer {
     pub due: u64,
     /// 0 means once.
     pub interval: u64,
-    /// When it was set. No rule of 01 looks at this; only `Fault::TickBySetting` does.
+    /// When it was set. No rule of the outline looks at this; only `Fault::TickBySetting` does.
     pub setting: u64,
 }
 

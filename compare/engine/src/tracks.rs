@@ -1,4 +1,4 @@
-//! 01, "Calls of the running program": EXEC 4, 15, 5 and 16, the calls for disc tracks.
+//! The outline, "Calls of the running program": EXEC 4, 15, 5 and 16, the calls for disc tracks.
 
 use crate::answer::{self, allow, done, refused, require, waits, Outcome};
 use crate::fault::Fault;

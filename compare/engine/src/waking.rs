@@ -1,4 +1,4 @@
-//! 01, "Ending and waking".
+//! The outline, "Ending and waking".
 
 use crate::fault::Fault;
 use crate::tables::{Engine, Holder, Why, DISC, DORMANT, FREE_NUMBER, GENERAL_WAIT, SCHEDULED};

@@ -1,4 +1,4 @@
-//! 01's worked example and its bench sheet.
+//! The outline's worked example and its bench sheet.
 
 use engine::raw::{Raw, RawRecord, UNUSED};
 use engine::{sheet, Answer, Engine, Fault, Value};

@@ -11,7 +11,7 @@ const DAY: u64 = 8_640_000;
 
 type Call = fn(&mut Engine) -> Outcome;
 
-/// A runs (1), B and C wait for the lock of number 1 (2, 3), D is suspended (4); all of one priority.
+/// A runs (1), B and C wait for the lock of number 1 (2, 3), D is suspended (4), all equals.
 fn tables() -> Raw {
     let (engine, _) = Engine::fresh(4, 0, 2, Fault::None);
     let mut raw = Raw::of(&engine);

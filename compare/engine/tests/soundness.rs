@@ -1,4 +1,4 @@
-//! When tables are sound: every clause of 01's paragraph, by damaging sound tables in one place.
+//! When tables are sound: every clause of the outline's paragraph, by damaging sound tables in one place.
 
 use engine::raw::{Raw, RawRecord, RawWhy, GLOBAL, LINKS, SYSTEM, UNUSED};
 use engine::{Engine, Fault};

@@ -1,5 +1,5 @@
 //! Small scripts for the places where a natural implementation goes wrong. Expected answers are
-//! worked out by hand from document 01. Programs are numbered as they are loaded.
+//! worked out by hand from the outline. Programs are numbered as they are loaded.
 
 mod common;
 use common::{answers, chain, last, page};
