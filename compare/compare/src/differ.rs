@@ -68,11 +68,32 @@ pub fn run(
     run_corners(other, count)
 }
 
-/// Runs the fixed inputs alone.
-pub fn run_corners(other: &Other, count: &mut Count) -> Result<Option<Failure>, String> {
+fn fixed_inputs() -> Vec<(&'static str, Vec<u8>)> {
     let mut inputs = named();
     inputs.push(("an hour of ticks", an_hour()));
-    for (about, input) in inputs {
+    inputs
+}
+
+/// All that `run` compares, in inputs for one run each, with what the engine prints: for one who
+/// tries many programs.
+pub fn everything(seeds: Range<u64>, lines: usize) -> Vec<(Vec<u8>, Vec<u8>)> {
+    let scripts: Vec<Vec<u8>> = seeds.map(|seed| generate(seed, lines)).collect();
+    // Most that is wrong shows in a few scripts.
+    let few = scripts.len().min(20);
+    let mut inputs = vec![join(&scripts[..few])];
+    let rest = &scripts[few..];
+    inputs.extend(rest.chunks((MOST_LINES / lines.max(1)).max(1)).map(join));
+    inputs.extend(fixed_inputs().into_iter().map(|(_, input)| input));
+    inputs
+        .into_iter()
+        .map(|input| (sheet(&input, Fault::None), input))
+        .map(|(o, i)| (i, o))
+        .collect()
+}
+
+/// Runs the fixed inputs alone.
+pub fn run_corners(other: &Other, count: &mut Count) -> Result<Option<Failure>, String> {
+    for (about, input) in fixed_inputs() {
         count.runs += 1;
         if differs(other, &input)? {
             let origin = format!("a fixed input ({})", about);

@@ -3,8 +3,8 @@
 
 use crate::lexer::{Kind, Token};
 
-/// For each token whether it belongs to a fault: a function whose comment says that it is a mutant's,
-/// a block or an arm for a fault, and the rest of a condition behind one.
+/// For each token whether it belongs to a fault: a function whose comment says that it is a
+/// mutant's, a block or an arm for a fault, and the rest of a condition behind one.
 pub fn dead(tokens: &[Token]) -> Vec<bool> {
     let mut dead = vec![false; tokens.len()];
     let mut mutants = false;

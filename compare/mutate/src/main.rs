@@ -5,10 +5,11 @@ use mutate::trial::{name, read, sources, Shop, Verdict, OFF_THE_CONSOLE};
 use std::path::{Path, PathBuf};
 use std::process::ExitCode;
 
-const USAGE: &str = "usage: mutate [--list] [--file NAME] [--line N] [ENGINE]
+const USAGE: &str = "usage: mutate [--list] [--file NAME] [--line N] [--part PART] [ENGINE]
 Changes the sources of ENGINE (./engine) one constant or operator at a time, and tells which of the
-changed engines pass both the comparer and the engine's tests. --list only lists the changes. Status
-0: all were tried; 2: not run.";
+changed engines pass both the comparer and the engine's tests. --list only lists the changes. PART is
+functions or constants: only what is within functions, or only what is not. Status 0: all were tried;
+2: not run.";
 
 /// It has the list of the engines that are wrong on purpose, and nothing else.
 const LEFT_OUT: &str = "fault.rs";
@@ -17,6 +18,8 @@ struct Options {
     list: bool,
     file: Option<String>,
     line: Option<usize>,
+    /// Whether what is wanted is within functions.
+    functions: Option<bool>,
     engine: PathBuf,
 }
 
@@ -31,8 +34,13 @@ fn main() -> ExitCode {
 }
 
 fn options() -> Result<Options, String> {
-    let mut options =
-        Options { list: false, file: None, line: None, engine: PathBuf::from("engine") };
+    let mut options = Options {
+        list: false,
+        file: None,
+        line: None,
+        functions: None,
+        engine: PathBuf::from("engine"),
+    };
     let mut args = std::env::args().skip(1);
     while let Some(arg) = args.next() {
         match arg.as_str() {
@@ -41,6 +49,13 @@ fn options() -> Result<Options, String> {
             "--line" => {
                 let line = args.next().and_then(|text| text.parse().ok());
                 options.line = Some(line.ok_or(USAGE)?);
+            }
+            "--part" => {
+                options.functions = match args.next().as_deref() {
+                    Some("functions") => Some(true),
+                    Some("constants") => Some(false),
+                    _ => return Err(USAGE.to_string()),
+                };
             }
             _ if arg.starts_with('-') => return Err(USAGE.to_string()),
             _ => options.engine = PathBuf::from(arg),
@@ -62,7 +77,10 @@ fn run(options: Options) -> Result<(), String> {
             continue;
         }
         let source = read(&path)?;
-        let wanted = |change: &Change| options.line.map_or(true, |line| line == change.line);
+        let wanted = |change: &Change| {
+            options.line.map_or(true, |line| line == change.line)
+                && options.functions.map_or(true, |within| within == change.body.is_some())
+        };
         let changes = changes(&source).into_iter().filter(wanted);
         all.extend(changes.map(|change| (file.clone(), source.clone(), change)));
     }

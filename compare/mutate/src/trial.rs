@@ -3,7 +3,7 @@
 
 use crate::many::{with_all, CHOICE};
 use crate::sites::Change;
-use comparer::differ::{run, Count};
+use comparer::differ::everything;
 use comparer::other::Other;
 use comparer::{CI_LINES, CI_SEEDS};
 use std::ffi::OsStr;
@@ -41,12 +41,15 @@ fn main() {
 /// A folder in which engines are built.
 pub struct Shop {
     folder: PathBuf,
+    /// What the comparer compares, with what is right.
+    inputs: Vec<(Vec<u8>, Vec<u8>)>,
 }
 
 impl Shop {
     /// A copy of the engine's sources, its tests in one program, and a `sheet`.
     pub fn new(engine: &Path, folder: &Path) -> Result<Shop, String> {
-        let shop = Shop { folder: folder.to_path_buf() };
+        let inputs = everything(CI_SEEDS, CI_LINES);
+        let shop = Shop { folder: folder.to_path_buf(), inputs };
         fs::create_dir_all(shop.at("src")).map_err(|error| error.to_string())?;
         for file in sources(&engine.join("src"))? {
             shop.write(&format!("src/{}", name(&file)), &read(&file)?)?;
@@ -75,13 +78,19 @@ impl Shop {
         let path = format!("src/{}", file);
         let own = read(&self.at(&path))?;
         self.write(&path, changed)?;
-        let built = self.build_all("-Copt-level=0");
+        let errors = self.build_engine("-Copt-level=0");
         self.write(&path, &own)?;
-        if built?.is_empty() {
-            self.verdict(file, 0)
-        } else {
-            Ok(Verdict::DoesNotBuild)
+        if !errors?.is_empty() {
+            return Ok(Verdict::DoesNotBuild);
         }
+        if self.comparer_finds(file, 0)? {
+            return Ok(Verdict::FoundByComparer);
+        }
+        // A constant of another type may be in the tests' way.
+        if !self.build_tests()?.is_empty() {
+            return Ok(Verdict::FoundByTests);
+        }
+        self.by_tests(0)
     }
 
     /// Builds one engine with all these changes; returns the numbers of those that do not build and
@@ -90,7 +99,7 @@ impl Shop {
         let mut left_out: Vec<usize> = Vec::new();
         loop {
             let places = self.write_together(all, &left_out)?;
-            let errors = self.build_all("-Copt-level=1")?;
+            let errors = self.build_engine("-Copt-level=1")?;
             let at_fault = |(file, line): &(String, usize)| {
                 let here = |place: &&(String, usize, usize, usize)| {
                     place.0 == *file && (place.2..=place.3).contains(line)
@@ -101,10 +110,16 @@ impl Shop {
             numbers.sort_unstable();
             numbers.dedup();
             match (errors.is_empty(), numbers.is_empty()) {
-                (true, _) => return Ok(left_out),
+                (true, _) => break,
                 (false, true) => return Err(format!("the changes do not build: {:?}", errors)),
                 (false, false) => left_out.extend(numbers),
             }
+        }
+        let errors = self.build_tests()?;
+        if errors.is_empty() {
+            Ok(left_out)
+        } else {
+            Err(format!("the tests do not build: {:?}", errors))
         }
     }
 
@@ -137,26 +152,43 @@ impl Shop {
         Ok(places)
     }
 
-    /// The engine, `sheet` and the tests. Where the errors are, none if it was built.
-    fn build_all(&self, quick: &str) -> Result<Vec<(String, usize)>, String> {
+    /// The engine and its `sheet`. Where the errors are, none if it was built.
+    fn build_engine(&self, quick: &str) -> Result<Vec<(String, usize)>, String> {
         let library = ["--crate-type=rlib", "--crate-name=engine", quick];
         let errors = self.build("src/lib.rs", &library)?;
-        if !errors.is_empty() {
-            return Ok(errors);
+        if errors.is_empty() {
+            self.build("sheet.rs", &[ENGINE])
+        } else {
+            Ok(errors)
         }
-        let mut errors = self.build("sheet.rs", &[ENGINE])?;
-        errors.extend(self.build("tests.rs", &["--test", ENGINE])?);
-        Ok(errors)
     }
 
-    /// What was built last, with the change of this number chosen.
+    fn build_tests(&self) -> Result<Vec<(String, usize)>, String> {
+        self.build("tests.rs", &["--test", ENGINE])
+    }
+
+    /// What was built together, with the change of this number chosen.
     pub fn verdict(&self, file: &str, number: usize) -> Result<Verdict, String> {
-        if !OFF_THE_CONSOLE.contains(&file) {
-            let other = Other::Program { command: self.sheet(number), limit: LIMIT };
-            if run(&other, CI_SEEDS, CI_LINES, &mut Count::default())?.is_some() {
-                return Ok(Verdict::FoundByComparer);
+        if self.comparer_finds(file, number)? {
+            return Ok(Verdict::FoundByComparer);
+        }
+        self.by_tests(number)
+    }
+
+    fn comparer_finds(&self, file: &str, number: usize) -> Result<bool, String> {
+        if OFF_THE_CONSOLE.contains(&file) {
+            return Ok(false);
+        }
+        let other = Other::Program { command: self.sheet(number), limit: LIMIT };
+        for (input, expected) in &self.inputs {
+            if other.print(input)? != *expected {
+                return Ok(true);
             }
         }
+        Ok(false)
+    }
+
+    fn by_tests(&self, number: usize) -> Result<Verdict, String> {
         let passed = self.tests_pass(number)?;
         Ok(if passed { Verdict::Survives } else { Verdict::FoundByTests })
     }
