@@ -1,6 +1,7 @@
-//! When tables are sound: every clause of the outline's paragraph, by damaging sound tables in one place.
+//! When tables are sound: every clause of the outline's paragraph, by damaging sound tables in one
+//! place.
 
-use engine::raw::{Raw, RawRecord, RawWhy, GLOBAL, LINKS, SYSTEM, UNUSED};
+use engine::raw::{Raw, RawRecord, RawWhy, GLOBAL, LINKS, SLOTS, SYSTEM, UNUSED};
 use engine::{Engine, Fault};
 
 fn record(name: &[u8; 5], priority: u64, state: u64, why: RawWhy) -> RawRecord {
@@ -245,6 +246,97 @@ fn numbers() {
     assert!(!after(|raw| raw.r = 1));
     // F waits for the lock of number 3.
     assert!(!after(|raw| raw.r = 2));
+}
+
+#[test]
+fn limits_reached() {
+    for (t, s, r) in [(1, 0, 0), (1, 1, 0), (4, 4, 1), (256, 0, 16), (256, 255, 0), (256, 256, 16)]
+    {
+        let (engine, _) = Engine::fresh(t, s, r, Fault::None);
+        assert!(Raw::of(&engine).sound(), "FRESH,{},{},{}", t, s, r);
+    }
+    // No track at all, and nothing else wrong.
+    let mut raw = Raw::of(&Engine::smallest(Fault::None));
+    raw.t = 0;
+    assert!(!raw.sound());
+}
+
+/// Two programs: p, and another that is scheduled.
+fn beside(p: usize, state: u64, why: RawWhy) -> Raw {
+    let (engine, _) = Engine::fresh(4, 0, 1, Fault::None);
+    let mut raw = Raw::of(&engine);
+    let other = p % 32 + 1;
+    raw.records[other - 1] = record(b"A    ", 10, 1, RawWhy::Nothing);
+    raw.links[1] = other as u8;
+    raw.records[p - 1] = record(b"B    ", 10, state, why);
+    if state > 1 {
+        raw.links[state as usize] = p as u8;
+    }
+    raw
+}
+
+/// Each clause holds for the first record and for the last as for all others.
+#[test]
+fn every_record() {
+    for p in 1..=32 {
+        let other = p % 32 + 1;
+        let third = (p + 1) % 32 + 1;
+        assert!(beside(p, 0, RawWhy::Nothing).sound());
+        assert!(beside(p, 3, RawWhy::Son(other as u64)).sound());
+        assert!(!beside(p, 0, RawWhy::Number).sound());
+        let mut linked = beside(p, 0, RawWhy::Nothing);
+        linked.links[LINKS + p] = other as u8;
+        assert!(!linked.sound());
+        let mut unlinked = beside(p, 6, RawWhy::Nothing);
+        assert!(unlinked.sound());
+        unlinked.links[6] = 0;
+        assert!(!unlinked.sound());
+        // Behind its equal and before it, there and back.
+        for chain in [[other as u8, p as u8], [p as u8, other as u8]] {
+            let mut two = beside(p, 1, RawWhy::Nothing);
+            link(&mut two, 1, &chain);
+            let engine = two.engine(Fault::None).expect("sound tables");
+            assert_eq!(engine.chain(1), chain.map(usize::from));
+            assert_eq!(Raw::of(&engine), two);
+            // Its father waits in chain 3, and then another as well.
+            two.records[third - 1] = record(b"C    ", 10, 3, RawWhy::Son(p as u64));
+            link(&mut two, 3, &[third as u8]);
+            assert!(two.sound());
+            let fourth = (p + 2) % 32 + 1;
+            two.records[fourth - 1] = record(b"D    ", 10, 3, RawWhy::Number);
+            link(&mut two, 3, &[third as u8, fourth as u8]);
+            assert!(two.sound());
+            two.records[fourth - 1].why = RawWhy::Son(p as u64);
+            assert!(!two.sound());
+        }
+    }
+}
+
+/// A timer that is due at the first tick, and none.
+#[test]
+fn timers_there_and_back() {
+    let mut raw = beside(1, 0, RawWhy::Nothing);
+    raw.records[0].due = 1;
+    let engine = raw.engine(Fault::None).expect("sound tables");
+    assert_eq!(Raw::of(&engine), raw);
+    assert_eq!(engine.programs[&1].timer.map(|timer| (timer.due, timer.interval)), Some((1, 0)));
+    assert_eq!(engine.programs[&2].timer, None);
+}
+
+/// The numbers of the raw form, which others write and read as well.
+#[test]
+fn the_raw_form() {
+    let zeros = RawRecord {
+        used: false,
+        name: [0; 5],
+        priority: 0,
+        state: 0,
+        why: RawWhy::Nothing,
+        due: 0,
+        interval: 0,
+    };
+    assert_eq!(UNUSED, zeros);
+    assert_eq!((GLOBAL, SYSTEM, LINKS, SLOTS), (33, 34, 7, 40));
 }
 
 #[test]
