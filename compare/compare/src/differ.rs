@@ -68,7 +68,8 @@ pub fn run(
     run_corners(other, count)
 }
 
-fn fixed_inputs() -> Vec<(&'static str, Vec<u8>)> {
+/// What follows the scripts: the fixed inputs by what they are about.
+pub fn fixed_inputs() -> Vec<(&'static str, Vec<u8>)> {
     let mut inputs = named();
     inputs.push(("an hour of ticks", an_hour()));
     inputs
@@ -84,15 +85,14 @@ pub fn everything(seeds: Range<u64>, lines: usize) -> Vec<(Vec<u8>, Vec<u8>)> {
     let rest = &scripts[few..];
     inputs.extend(rest.chunks((MOST_LINES / lines.max(1)).max(1)).map(join));
     inputs.extend(fixed_inputs().into_iter().map(|(_, input)| input));
-    inputs
-        .into_iter()
-        .map(|input| (sheet(&input, Fault::None), input))
-        .map(|(o, i)| (i, o))
-        .collect()
+    let with_output = |input: Vec<u8>| {
+        let output = sheet(&input, Fault::None);
+        (input, output)
+    };
+    inputs.into_iter().map(with_output).collect()
 }
 
-/// Runs the fixed inputs alone.
-pub fn run_corners(other: &Other, count: &mut Count) -> Result<Option<Failure>, String> {
+fn run_corners(other: &Other, count: &mut Count) -> Result<Option<Failure>, String> {
     for (about, input) in fixed_inputs() {
         count.runs += 1;
         if differs(other, &input)? {
