@@ -4,7 +4,7 @@ use comparer::differ::begins_fresh;
 use comparer::script::generate;
 use comparer::{CI_LINES, CI_SEEDS};
 use engine::sheet::lines;
-use engine::{parse, Engine, Fault};
+use engine::{parse, Engine, Fault, Request};
 use std::collections::BTreeMap;
 
 /// Every answer that a console line can get from tables that runs from FRESH reach. 11, 12 and 14
@@ -86,6 +86,32 @@ fn every_byte_and_every_length() {
         assert!(lengths[length], "no line of {} bytes", length);
     }
     assert!(unfinished > 50);
+}
+
+/// Timers at the bounds of EXEC 12 in every unit, and well-formed lines up to the longest.
+#[test]
+fn bounds_and_long_lines() {
+    let mut timers = BTreeMap::new();
+    let mut longest = 0;
+    for seed in CI_SEEDS {
+        for line in lines(&generate(seed, CI_LINES)) {
+            let request = parse(line, Fault::None);
+            longest = longest.max(request.map_or(0, |_| line.len()));
+            if let Some(Request::Exec12(_, resolution, multiple, offset)) = request {
+                *timers.entry((resolution, "multiple", multiple)).or_insert(0) += 1;
+                *timers.entry((resolution, "offset", offset)).or_insert(0) += 1;
+            }
+        }
+    }
+    for resolution in 1..=4 {
+        for field in ["multiple", "offset"] {
+            for bound in [4_094, 4_095, 4_096] {
+                let count = timers.get(&(resolution, field, bound)).copied().unwrap_or(0);
+                assert!(count >= 5, "resolution {}, {} {}: {}", resolution, field, bound, count);
+            }
+        }
+    }
+    assert_eq!(longest, 46);
 }
 
 #[test]
