@@ -11,17 +11,22 @@ pub fn named() -> Vec<(&'static str, Vec<u8>)> {
     inputs.push(("every byte as a line and in a name", every_byte()));
     inputs.push(("very long lines", long_lines()));
     inputs.push(("numbers at their bounds", forms::bounds()));
-    inputs.push(("fields of every length", forms::every_field()));
+    inputs.push((FIELDS, forms::every_field()));
     inputs.push(("lines of every length", forms::every_length()));
-    inputs.push(("every byte at every place", forms::bytes_replaced()));
-    inputs.push(("every byte between any two", forms::bytes_inserted()));
+    inputs.push((REPLACED, forms::bytes_replaced()));
+    inputs.push((INSERTED, forms::bytes_inserted()));
     inputs.push(("two minutes of ticks", two_minutes()));
     inputs
 }
 
-/// The named inputs.
+const FIELDS: &str = "fields of every length";
+const REPLACED: &str = "every byte at every place";
+const INSERTED: &str = "every byte between any two";
+
+/// The short ones among them, for one who runs each many times.
 pub fn corners() -> Vec<Vec<u8>> {
-    named().into_iter().map(|(_, input)| input).collect()
+    let short = |about: &str| ![FIELDS, REPLACED, INSERTED].contains(&about);
+    named().into_iter().filter(|(about, _)| short(about)).map(|(_, input)| input).collect()
 }
 
 const STARTS: [&str; 10] = [
