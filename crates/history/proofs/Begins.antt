@@ -21,9 +21,9 @@ use Rattle.history.specs.Demand.{replaying}
 use Rattle.history.proofs.Steps.{asked-planned}
 
 -- FRESH, where `new` makes fresh tables and b tells whether the sizes are allowed
-abbrev Begins : {S : Type 0} → S → (ℕ → ℕ → ℕ → S) → ℕ → ℕ → ℕ → Bool → Reply S
-Begins t new T S R b =
-    let r = cond b (record { number = 0; values = 0 ∷ []; tables = new T S R }) (record { number = 3; values = 0 ∷ []; tables = new 1 0 0 }) in
+abbrev Begins : {F : Type 0} → F → (ℕ → ℕ → ℕ → F) → ℕ → ℕ → ℕ → Bool → Reply F
+Begins {F} t new T S R b =
+    let r : Reply F = cond b (record { number = 0; values = 0 ∷ []; tables = new T S R }) (record { number = 3; values = 0 ∷ []; tables = new 1 0 0 }) in
     record { number = r .number; values = r .values; tables = cond (eqb (r .number) 0) (r .tables) t }
 
 abbrev renewal : ℕ → ℕ → ℕ → Bool → Plan

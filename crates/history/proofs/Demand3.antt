@@ -123,14 +123,14 @@ module _ (t : Tables) (n : State entries) (K : Kept t n) where
     where
       go : (b : Bool) → leb (length (page (plain t))) (length buf) ≡ b → leb (length (page (sortedOut n))) (length buf) ≡ b
           → Alongside (written t buf) (writtenIn replaying n buf)
-      go true e f = rw (e, f)
+      go true e f = rw (e, f, writtenIn)
           (record { told = λ i. record { number = 0; values = length (same-page i) ∷ []; tables = tt; buffer = front (same-page i) buf }; answers = refl; kept = K })
-      go false e f = rw (e, f)
+      go false e f = rw (e, f, writtenIn)
           (record { told = λ i. record { number = 12; values = length (same-page i) ∷ []; tables = tt; buffer = buf }; answers = refl; kept = K })
 
   along-paged : (buf : List ℕ) → Alongside (paged t buf) (pagedIn replaying n buf)
   unfolding pagedIn
-  along-paged buf = rw (K .test) (along-written buf)
+  along-paged buf = rw (K .test, pagedIn) (along-written buf)
 
   -- a line
   along-obeyed : (buf : List ℕ) (l : Line) → Alongside (obeyed t buf l) (obeyedIn replaying n buf l)
@@ -140,7 +140,7 @@ module _ (t : Tables) (n : State entries) (K : Kept t n) where
 
   along-keyed : (bytes buf : List ℕ) → Alongside (keyed t bytes buf) (keyedIn replaying n bytes buf)
   unfolding keyedIn
-  along-keyed bytes buf = rw (K .test) (along-obeyed buf (lineOf bytes))
+  along-keyed bytes buf = rw (K .test, keyedIn) (along-obeyed buf (lineOf bytes))
 
   -- any call
   along : (c : Made) → Alongside (step linked t c) (step replaying n c)
