@@ -5,7 +5,7 @@
 //! | `ffi` | the library's three functions |
 //! | `pack` | the engine's tables as the library's bytes, and back |
 //! | `make` | sound tables: some that a run reaches, some that none does |
-//! | `harm` | bytes changed, fields exchanged, noise |
+//! | `harm` | bytes changed, fields exchanged, another form or length, noise |
 //! | `ask` | a console line for given tables |
 //! | `show` | tables and answers in print |
 //! | `tables` | one line on any tables: both sides |
