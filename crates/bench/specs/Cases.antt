@@ -1,4 +1,4 @@
--- The bench sheet and more, as one table (01, "Bench sheet", "Errors a good programmer makes here"). Each number and value stands as the outline says it.
+-- The bench sheet and more, as one table (OUTLINE, "Bench sheet", "Errors a good programmer makes here"). Each number and value stands as the outline says it.
 -- Assumes nothing.
 use Prim.Native.Nat.{ℕ, _+_}
 use Prim.Native.String.{String}
@@ -43,7 +43,7 @@ circular = record { ledger = lay (aRunning 0) .ledger; links = set (lay (aRunnin
 abbrev workedPage : String
 workedPage = "page=rte2\nclock=0\ntracks=4\nsystem=1\nnumbers=1\nprograms=1\nid=1\nname=WHZAT\npriority=10\nstate=1\nwhy=-\ndue=-\ninterval=-\nchain1=1\nchain3=\nchain5=\nchain6=\nheld=1-2:1\nend=page\n"
 
--- 01's worked example, then bench 1 and 11
+-- the worked example, then bench 1 and 11
 abbrev bench1 : Case
 bench1 = case (
     ok "FRESH,4,1,1" 0 ∷ ok "LOAD,WHZAT,10" 1 ∷ ok "RU,WHZAT" 0 ∷ ok "EXEC,4,2,0" 1 ∷ written 169 0 (169 ∷ []) (text workedPage)

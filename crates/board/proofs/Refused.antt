@@ -8,15 +8,11 @@ use mathlib.Core.List.{List}
 use lib.Dec.{leb}
 use lib.ListN.{length}
 use Rattle.board.specs.Packed.{packed, unpacked}
-use Rattle.board.specs.Board.{figuresLength, isPacked, Boarded, boarded, longest, Ran, ran}
+use Rattle.board.specs.Board.{figuresLength, isPacked, Boarded, AsGiven, boarded, longest, Ran, ran}
 use Rattle.board.proofs.OneForm.{packed-back}
 use Rattle.board.proofs.Agreed.{taken, by-form}
 use Rattle.board.proofs.Whole.{by-answer, by-size}
 use Rattle.console.proofs.Refusing.{keyed-kept}
-
-pub record AsGiven (s p : List ℕ) (r : Boarded) : Type 0 where
-  pub tables : r .tables ≡ s
-  pub page : r .page ≡ p
 
 module _ (s line page buf : List ℕ) where
   abbrev Claim : Boarded → Type 0

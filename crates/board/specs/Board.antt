@@ -1,6 +1,7 @@
 -- What the functions on bytes come to.
 -- Assumes nothing.
 use Prim.Native.Nat.{ℕ, _-_}
+use mathlib.Core.Path.{_≡_}
 use mathlib.Core.Bool.{Bool, true, false, cond, _&&_}
 use mathlib.Core.List.{List, [], _∷_, _++_, map}
 use lib.ListN.{length, take, replicate}
@@ -70,6 +71,11 @@ pub record Boarded : Type 0 where
   pub tables : List ℕ
   pub page : List ℕ
   pub answer : List ℕ
+
+-- tables and page are as they were given
+pub record AsGiven (s p : List ℕ) (r : Boarded) : Type 0 where
+  pub tables : r .tables ≡ s
+  pub page : r .page ≡ p
 
 abbrev pub notBoarded : ℕ → List ℕ → List ℕ → List ℕ → Boarded
 notBoarded a s page buf = record { number = a; tables = s; page = page; answer = answering a (0 ∷ []) buf }

@@ -38,7 +38,7 @@ abbrev pub total : ℕ → List (List ℕ) → ℕ
 total p [] = 0
 total p (c ∷ m) = count p c + total p m
 
--- the links lead along the chains, and other links are zero: the heads of no chain, and the links of programs in none (01, "The tables")
+-- the links lead along the chains, and other links are zero: the heads of no chain, and the links of programs in none (OUTLINE, "The tables")
 pub record Links (l : List ℕ) : Type 0 where
   pub along : (s : ℕ) → 1 ≤ s → s < 7 → Leads l s (getD (read l) s [])
   pub none : getD l 0 0 ≡ 0

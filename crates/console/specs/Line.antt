@@ -1,4 +1,4 @@
--- The console line: 1 to 72 bytes, words joined by commas (01, "The page and the console line"). A wrong word, field count or field form is not understood.
+-- The console line: 1 to 72 bytes, words joined by commas (OUTLINE, "The page and the console line"). A wrong word, field count or field form is not understood.
 -- Assumes nothing.
 use Prim.Native.Nat.{ℕ}
 use Prim.Native.String.{String}

@@ -1,4 +1,4 @@
--- What the program `sheet` prints for a text (01, "The page and the console line").
+-- What the program `sheet` prints for a text (OUTLINE, "The page and the console line").
 -- Assumes nothing.
 use Prim.Native.Nat.{ℕ, _+_}
 use mathlib.Core.Bool.{Bool, true, false, cond, _&&_}

@@ -1,4 +1,4 @@
--- The ledger and the book: the arrays behind T tracks and R numbers hold blanks (01, "The tables").
+-- The ledger and the book: the arrays behind T tracks and R numbers hold blanks (OUTLINE, "The tables").
 -- Assumes nothing.
 use Prim.Native.Nat.{ℕ, _+_, _-_, _≤_, _<_}
 use mathlib.Core.Path.{_≡_}

@@ -1,4 +1,4 @@
--- The page of a plain state: lines of key=value, each ended by byte 10, in the outline's order (01, "The page and the console line").
+-- The page of a plain state: lines of key=value, each ended by byte 10, in the outline's order (OUTLINE, "The page and the console line").
 -- Assumes nothing.
 use Prim.Native.Nat.{ℕ, suc}
 use Prim.Native.String.{String}

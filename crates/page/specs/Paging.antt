@@ -1,4 +1,4 @@
--- PAGE of the code's tables: written at the front of the lent buffer, the rest untouched (01, "The page and the console line").
+-- PAGE of the code's tables: written at the front of the lent buffer, the rest untouched (OUTLINE, "The page and the console line").
 -- Assumes nothing.
 use mathlib.Core.List.{List}
 use Prim.Native.Nat.{ℕ}

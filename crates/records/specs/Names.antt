@@ -1,4 +1,4 @@
--- Names: five bytes, a letter A-Z, then letters or digits, blanks at the end (01, "The tables").
+-- Names: five bytes, a letter A-Z, then letters or digits, blanks at the end (OUTLINE, "The tables").
 -- Assumes nothing.
 use Prim.Native.Nat.{ℕ, _-_}
 use mathlib.Core.Bool.{Bool, true, false, cond, not, _&&_, _||_}
@@ -33,6 +33,6 @@ bare nm = keep (λ c. not (blank c)) nm
 abbrev pub padded : List ℕ → List ℕ
 padded f = f ++ replicate (5 - length f) 32
 
--- a legal name without its blanks, as a console line has it (01, "The page and the console line")
+-- a legal name without its blanks, as a console line has it (OUTLINE, "The page and the console line")
 unfoldable pub nameOf : List ℕ → Option (List ℕ)
 nameOf f = cond (legal (padded f) && every (λ c. not (blank c)) f) (some (padded f)) none

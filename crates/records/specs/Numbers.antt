@@ -1,4 +1,4 @@
--- Resource numbers 1 to R: free, or owned by a program or globally; an owned one is clear or locked by one program (01, "The tables").
+-- Resource numbers 1 to R: free, or owned by a program or globally; an owned one is clear or locked by one program (OUTLINE, "The tables").
 -- Assumes nothing.
 use Prim.Native.Nat.{ℕ, _-_}
 use mathlib.Core.Bool.{Bool, true, false, cond, _||_}
@@ -29,7 +29,7 @@ numberAt xs r = getD xs (r - 1) free
 abbrev pub withNumber : ℕ → ℕ → ℕ → List Resource → List Resource
 withNumber r o l xs = set xs (r - 1) (record { owner = o; lock = l })
 
--- a number that p owns or locks, and what is left of it when p ends (01, "Ending and waking")
+-- a number that p owns or locks, and what is left of it when p ends (OUTLINE, "Ending and waking")
 abbrev pub concerns : ℕ → Resource → Bool
 concerns p x = eqb (x .owner) p || eqb (x .lock) p
 

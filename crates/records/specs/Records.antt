@@ -1,4 +1,4 @@
--- Program records, numbered 1 to 32 (01, "The tables").
+-- Program records, numbered 1 to 32 (OUTLINE, "The tables").
 -- Assumes nothing.
 use Prim.Native.Nat.{ℕ, _-_, _≤_}
 use mathlib.Core.Bool.{Bool, true, false, not, _&&_}

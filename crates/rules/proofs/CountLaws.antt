@@ -1,4 +1,4 @@
--- Each count that a request answers is the difference of the states before and after it (01, "What the contracts have to say"): tracks freed, programs woken, programs scheduled by a tick.
+-- Each count that a request answers is the difference of the states before and after it (OUTLINE, "What the contracts have to say"): tracks freed, programs woken, programs scheduled by a tick.
 -- Tracks are counted in Freed. For programs: those who wake stand once each in a list, they alone are in state 1 after it, and a list of the programs that pass a test, each once, is as long as
 -- `keep` of that test over all.
 -- Assumes nothing.

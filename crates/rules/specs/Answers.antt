@@ -1,4 +1,4 @@
--- The outline's number and values for each case of an answer (01, "Answer numbers").
+-- The outline's number and values for each case of an answer (OUTLINE, "Answer numbers").
 -- Assumes nothing.
 use Prim.Native.Nat.{ℕ}
 use mathlib.Core.List.{List, [], _∷_}

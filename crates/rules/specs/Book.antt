@@ -1,4 +1,4 @@
--- The book: everything that the executive keeps but the order of its chains (01, "The tables").
+-- The book: everything that the executive keeps but the order of its chains (OUTLINE, "The tables").
 -- Assumes nothing.
 use Prim.Native.Nat.{ℕ, _-_}
 use mathlib.Core.List.{List, _++_}
@@ -62,7 +62,7 @@ withHolders h b = altered b (b .programs) (b .clock) h (b .resources)
 abbrev pub withResources : List Resource → Book → Book
 withResources r b = altered b (b .programs) (b .clock) (b .holders) r
 
--- clock 0, no record used, every track from S up and every number free (01, FRESH)
+-- clock 0, no record used, every track from S up and every number free (OUTLINE, FRESH)
 abbrev pub freshBook : ℕ → ℕ → ℕ → Book
 freshBook T S R = record {
   programs = replicate 32 unused;

@@ -1,4 +1,4 @@
--- Counts as differences of the states before and after (01, "What the contracts have to say").
+-- Counts as differences of the states before and after (OUTLINE, "What the contracts have to say").
 -- Assumes nothing.
 use Prim.Native.Nat.{ℕ, _+_}
 use mathlib.Core.Path.{_≡_}

@@ -8,7 +8,7 @@ use lib.Dec.{leb}
 use Rattle.rules.specs.Requests.{Request}
 use Rattle.rules.specs.Rules.{sizes}
 
--- the number, the values, and the tables (01, "Answer numbers")
+-- the number, the values, and the tables (OUTLINE, "Answer numbers")
 pub record Reply (S : Type 0) : Type 0 where
   pub number : ℕ
   pub values : List ℕ
@@ -47,7 +47,7 @@ pub record Engine : Type 1 where
   pub page : Form → List ℕ
 
 module _ (E : Engine) where
-  -- PAGE on sound tables: 0 and the page's length, or 12 and the bytes needed, no byte written (01, "The page and the console line")
+  -- PAGE on sound tables: 0 and the page's length, or 12 and the bytes needed, no byte written (OUTLINE, "The page and the console line")
   unfoldable pub writtenIn : E .Form → List ℕ → Handed (E .Form)
   writtenIn t buf =
       let bytes : List ℕ = E .page t in

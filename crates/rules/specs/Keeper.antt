@@ -23,7 +23,7 @@ pub record Keeper : Type 1 where
   pub left : ℕ → ℕ → Kept → Kept  -- p, and the state that it leaves
   pub none : Kept  -- every chain empty
 
--- A list for each state from 0 to 6, that of 0 empty. A program entering a chain goes behind its equals (01, "The tables").
+-- A list for each state from 0 to 6, that of 0 empty. A program entering a chain goes behind its equals (OUTLINE, "The tables").
 abbrev pub lists : Keeper
 lists = record {
   Kept = List (List ℕ);

@@ -28,7 +28,7 @@ pub data Event : Type 0 where
   numbered : List Resource → Event
   renewed : ℕ → ℕ → ℕ → Event
 
--- What a call sets free (01, "Ending and waking"): the program that ended, or 0; how many tracks; which numbers were cleared or deallocated; whether one was deallocated.
+-- What a call sets free (OUTLINE, "Ending and waking"): the program that ended, or 0; how many tracks; which numbers were cleared or deallocated; whether one was deallocated.
 pub record Release : Type 0 where
   pub ended : ℕ
   pub tracks : ℕ

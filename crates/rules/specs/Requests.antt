@@ -1,4 +1,4 @@
--- The public calls and their parameters (01, "Operator requests", "Calls of the running program"). A name is five bytes.
+-- The public calls and their parameters (OUTLINE, "Operator requests", "Calls of the running program"). A name is five bytes.
 -- Assumes nothing.
 use Prim.Native.Nat.{ℕ}
 use mathlib.Core.Bool.{Bool}

@@ -1,4 +1,4 @@
--- The outline's rules, each once, its tests in the order 2, 3, 4, 6, 7, 10, 9, 5, 8, 11 (01, "Answer numbers"). 14, 13 and 12 are tested where the tables, the line and the buffer are.
+-- The outline's rules, each once, its tests in the order 2, 3, 4, 6, 7, 10, 9, 5, 8, 11 (OUTLINE, "Answer numbers"). 14, 13 and 12 are tested where the tables, the line and the buffer are.
 -- Assumes nothing.
 use Prim.Native.Nat.{ℕ, _+_, _*_}
 use mathlib.Core.Bool.{Bool, true, false, cond, _&&_, _||_}
@@ -57,7 +57,7 @@ quit v p = numbered (map (without p) (v .book .resources))
 abbrev pub dismissed : ℕ → ℕ → List Event
 dismissed k p = cond (eqb k 8) (on p unloaded ∷ []) (on p (becomes 0 Nothing) ∷ on p (timed 0 0) ∷ [])
 
--- the figure of an order is allowed (01, "Operator requests")
+-- the figure of an order is allowed (OUTLINE, "Operator requests")
 abbrev pub allowed : Order → Bool
 allowed RU = true
 allowed SS = true
@@ -107,7 +107,7 @@ allocated v r f =
 abbrev pub number : View → ℕ → ℕ → ℕ → Event
 number v r o l = numbered (withNumber r o l (v .book .resources))
 
--- what the running program c asks (01, "Calls of the running program")
+-- what the running program c asks (OUTLINE, "Calls of the running program")
 unfoldable pub call : View → ℕ → Call → Plan
 call v c (EXEC4 n w) = takes v c c n w
 call v c (EXEC15 n w) = takes v c everybody n w
@@ -151,7 +151,7 @@ head (p ∷ ps) = p
 unfoldable pub asCaller : List ℕ → (ℕ → Plan) → Plan
 asCaller scheduled f = need (ltb 0 (head scheduled)) 2 0 (f (head scheduled))
 
--- T from 1 to 256, S from 0 to T, R from 0 to 16 (01, "The tables")
+-- T from 1 to 256, S from 0 to T, R from 0 to 16 (OUTLINE, "The tables")
 abbrev pub sizes : ℕ → ℕ → ℕ → Bool
 sizes T S R = upTo 1 256 T && leb S T && leb R 16
 

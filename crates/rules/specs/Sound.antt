@@ -1,4 +1,4 @@
--- Soundness, clause by clause in the outline's order (01, "Tables are sound exactly when"), of a book and the chains beside it. The two clauses on
+-- Soundness, clause by clause in the outline's order (OUTLINE, "The tables"), of a book and the chains beside it. The two clauses on
 -- links and on blank entries speak of the tables alone and stand with them.
 -- Assumes nothing.
 use Prim.Native.Nat.{ℕ, _+_, _≤_, _<_}

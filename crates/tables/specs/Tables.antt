@@ -15,7 +15,7 @@ plain t = record { book = bookOf (t .ledger); kept = read (t .links) }
 abbrev pub lay : State lists → Tables
 lay a = record { ledger = ledgerOf (a .book); links = linksOf (a .kept) }
 
--- fresh tables; and the smallest: T=1, S=0, R=0 (01, "Answer numbers")
+-- fresh tables; and the smallest: T=1, S=0, R=0 (OUTLINE, "Answer numbers")
 abbrev pub freshly : ℕ → ℕ → ℕ → Tables
 freshly T S R = lay (fresh lists T S R)
 

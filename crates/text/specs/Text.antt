@@ -29,7 +29,7 @@ abbrev pub horner : ℕ → List ℕ → Option ℕ
 horner a [] = some a
 horner a (c ∷ cs) = elim (upTo 48 57 c) [ true ↦ horner (a * 10 + (c - 48)) cs | false ↦ none ]
 
--- a number of 1 to `most` digits without leading zeros (01, "The page and the console line")
+-- a number of 1 to `most` digits without leading zeros (OUTLINE, "The page and the console line")
 unfoldable pub numberOf : ℕ → List ℕ → Option ℕ
 numberOf most s = cond (upTo 1 most (length s) && (eqb (length s) 1 || not (eqb (getD s 0 0) 48))) (horner 0 s) none
 

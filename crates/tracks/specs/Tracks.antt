@@ -1,4 +1,4 @@
--- Tracks, as a list of who holds each, from track 0 on (01, "The tables", and EXEC 4, 5, 15 and 16).
+-- Tracks, as a list of who holds each, from track 0 on (OUTLINE, "The tables", and EXEC 4, 5, 15 and 16).
 -- Assumes nothing.
 use Prim.Native.Nat.{ℕ, zero, suc, _+_, _-_, _≤_, _<_}
 use mathlib.Core.Path.{_≡_}
