@@ -14,16 +14,15 @@ use Rattle.rules.specs.Engine.{front}
 use Rattle.page.specs.Paging.{Written}
 use Rattle.console.specs.Line.{lineOf}
 use Rattle.console.specs.Console.{keyed}
-use Rattle.console.specs.Sheet.{lent, shown, linesOf, sheet}
+use Rattle.console.specs.Sheet.{lent, bytesFor, linesOf, sheet}
 use Rattle.board.specs.Packed.{inBytes, packedLength, packed, unpacked}
 
 -- what is put of the output of some lines where n bytes are lent: that of each line as long as it fits
 unfoldable pub filled : Tables → List (List ℕ) → ℕ → List ℕ
 filled t [] n = []
 filled t (l ∷ ls) n =
-    let r : Written = keyed t l lent in
-    let bytes : List ℕ = shown (lineOf l) t r in
-    elim (leb (length bytes) n) [ true ↦ bytes ++ filled (r .tables) ls (n - length bytes) | false ↦ [] ]
+    let bytes : List ℕ = bytesFor t l in
+    elim (leb (length bytes) n) [ true ↦ bytes ++ filled (keyed t l lent .tables) ls (n - length bytes) | false ↦ [] ]
 
 -- the number of an answer and five values, those that it does not have 0, each in 8 bytes
 unfoldable pub figures : ℕ → List ℕ → List ℕ

@@ -14,7 +14,7 @@ use Rattle.page.specs.Paging.{Written}
 use Rattle.console.specs.Line.{Line, bad, PAGE, asks, lineOf}
 use Rattle.console.specs.Console.{keyed}
 
--- the buffer that `sheet` lends: no page is longer
+-- a buffer that no page is longer than
 abbrev pub room : ℕ
 room = 8192
 
@@ -31,13 +31,15 @@ shown bad t r = answerLine r
 shown PAGE t r = cond (eqb (r .number) 0) (page (plain t)) (answerLine r)
 shown (asks q) t r = answerLine r
 
+-- what a line prints
+abbrev pub bytesFor : Tables → List ℕ → List ℕ
+bytesFor t l = shown (lineOf l) t (keyed t l lent)
+
 -- What a line prints, at the front of a lent buffer: 0, and how many bytes; or 12, and the bytes needed, where fewer than 8,192 are lent: then nothing is done.
 unfoldable pub lineShown : Tables → List ℕ → List ℕ → Written
 lineShown t l out =
-    let r : Written = keyed t l lent in
-    let bytes : List ℕ = shown (lineOf l) t r in
     elim (leb room (length out)) [
-      | true ↦ record { number = 0; values = length bytes ∷ []; tables = r .tables; buffer = front bytes out }
+      | true ↦ record { number = 0; values = length (bytesFor t l) ∷ []; tables = keyed t l lent .tables; buffer = front (bytesFor t l) out }
       | false ↦ record { number = 12; values = room ∷ []; tables = t; buffer = out }
     ]
 
@@ -62,7 +64,7 @@ linesOf s = dropEmpty (parts 10 s)
 -- line after line, the tables handed on
 unfoldable pub printed : Tables → List (List ℕ) → List ℕ
 printed t [] = []
-printed t (l ∷ ls) = let r : Written = keyed t l lent in shown (lineOf l) t r ++ printed (r .tables) ls
+printed t (l ∷ ls) = bytesFor t l ++ printed (keyed t l lent .tables) ls
 
 unfoldable pub sheet : List ℕ → List ℕ
 sheet s = printed smallest (linesOf s)

@@ -64,7 +64,7 @@ module _ (t : Tables) (A : Arrays t) (p : ℕ) (P : Known p) where
   made-same T S R n = go (sizes T S R) refl
     where
       go : (b : Bool) → sizes T S R ≡ b → Same t p (begun linked t (madeBy freshly T S R) .tables)
-      go true e = absurd (n (anew T S R by-call e))
+      go true e = absurd (n (anew T S R refl e))
       go false e = rw (e, madeBy)
 
   paged-same : (buf : List ℕ) → Same t p (paged t buf .tables)

@@ -35,7 +35,7 @@ pub record Refuses (t : Tables) (c : Made) : Type 0 where
   pub tables : 2 ≤ step linked t c .number → step linked t c .tables ≡ t
   pub buffer : 2 ≤ step linked t c .number → step linked t c .buffer ≡ lentTo c
 
--- DEMAND 3. The replay of a history keeps no chain: it has the book, and when each program last entered its chain. Its chains are sorted out of these where a page shows them.
+-- DEMAND 3. The replay of a history keeps no chain: it has the book, and when each program last entered its chain; a chain is sorted out of these whenever one is asked for. As a page shows them:
 abbrev pub sortedOut : State entries → State lists
 sortedOut n = record { book = n .book; kept = [] ∷ map (sorted (n .book) (n .kept)) (from 1 6) }
 
@@ -74,9 +74,9 @@ pub data Asks (q : Request) : Made → Type 0 where
   by-call : Asks q (calls.request q)
   by-line : (bytes buf : List ℕ) → lineOf bytes ≡ line.asks q → Asks q (calls.line bytes buf)
 
--- the call is an accepted FRESH, or the tables are sound and it concerns program p: its caller, named in it, due at that tick, or woken by it
+-- the call is an accepted FRESH, which takes no tables; or the tables are sound and it concerns program p: its caller, named in it, due at that tick, or woken by it
 pub data Touches (t : Tables) (c : Made) (p : ℕ) : Type 0 where
-  anew : (T S R : ℕ) → Asks (FRESH T S R) c → sizes T S R ≡ true → Touches t c p
+  anew : (T S R : ℕ) → c ≡ calls.request (FRESH T S R) → sizes T S R ≡ true → Touches t c p
   concerns : (q : Request) → Asks q c → sound t ≡ true → Concerned (view lists (plain t)) (scheduled lists (plain t)) q p → Touches t c p
 
 -- p's record before and after

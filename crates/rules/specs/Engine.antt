@@ -25,7 +25,7 @@ pub record Handed (S : Type 0) : Type 0 where
   pub tables : S
   pub buffer : List ℕ
 
--- a reply beside a buffer that is left as it was
+-- a reply beside a buffer
 abbrev pub beside : {S : Type 0} → List ℕ → Reply S → Handed S
 beside buf r = record { number = r .number; values = r .values; tables = r .tables; buffer = buf }
 

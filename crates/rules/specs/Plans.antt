@@ -1,4 +1,4 @@
--- What a request comes to: an answer, and what happens. Of the chains nothing is said here but that a program takes a state; how chains are kept is a keeper's concern.
+-- What a request comes to: an answer, and what happens. Who wakes is read off the chains of those who wait; how chains are kept is a keeper's concern.
 -- Assumes nothing.
 use Prim.Native.Nat.{ℕ}
 use mathlib.Core.Bool.{Bool, true, false, cond, _&&_}

@@ -55,7 +55,7 @@ module _ (t : Tables) (A : Arrays t) (e : sound t ≡ true) where
     granted = λ i L. (number-is q ∙ ap numberOf (C .answer .granted i L), values-is q ∙ ap valuesOf (C .answer .granted i L));
     gained = λ i L. subst (λ (a : State lists). Gained (plain t .book) (a .book) h i n) (sym (after-is q)) (C .tracks i L);
     waits = λ N z. (number-is q ∙ ap numberOf (C .answer .waits N z), values-is q ∙ ap valuesOf (C .answer .waits N z));
-    told = λ N z. (number-is q ∙ ap numberOf (C .answer .told N z), stays q 8 0 (C .answer .told N z));
+    told = λ N z. (number-is q ∙ ap numberOf (C .answer .told N z), values-is q ∙ ap valuesOf (C .answer .told N z), stays q 8 0 (C .answer .told N z));
     only-waits = λ z. C .answer .only-waits (sym (number-is q) ∙ z) .1;
     only-told = λ z. C .answer .only-told (sym (number-is q) ∙ z) .1;
   }

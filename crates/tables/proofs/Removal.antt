@@ -159,7 +159,7 @@ removed t A e nm f X h w =
     record {
       done = ap (λ (r : Result). r .number) (asked-sound t (operator (OF 8) nm) e) ∙ off-number (plain t) S nm h;
       scheduled = ap (λ (x : State lists). stateOf (x .book) f) i ∙ off-scheduled (plain t) S nm h f X w;
-      free = ap (λ (x : State lists). whyOf (x .book) f) i ∙ off-free (plain t) S nm h f X w;
+      idle = ap (λ (x : State lists). whyOf (x .book) f) i ∙ off-free (plain t) S nm h f X w;
       unnamed = ap (λ (x : State lists). find (x .book .programs) nm) i ∙ off-unnamed (plain t) S nm h;
       unawaited = λ x Z k. off-unawaited (plain t) S nm h x Z (ap (λ (y : State lists). whyOf (y .book) x) (sym i) ∙ k);
     }
