@@ -72,7 +72,7 @@ pub extern "C" fn board_sound(tables: &[u8]) -> u64
     0
 }
 
-// One console line on tables in packed form, which are replaced by those after it. The line's own answer; or 14, and every byte as it was, where the bytes
+// One console line on tables in packed form, which are replaced by those after it. The line's own answer; or 14, and every byte of tables and page as it was, where the bytes
 // are no tables in packed form or these are not sound. 14 goes before 12.
 #[no_mangle]
 pub extern "C" fn board_ask(
