@@ -6,7 +6,7 @@ use native.Mathlib.Decide.{decLt}
 use native.Mathlib.Omega.{arith}
 use mathlib.Core.Path.{_≡_, refl, sym, ap, ap₂, _∙_}
 use mathlib.Core.Bool.{Bool, true, false, cond}
-use mathlib.Core.List.{List, [], _∷_, _++_}
+use mathlib.Core.List.{List, [], _∷_, _++_, append-assoc, append-nil}
 use lib.Dec.{eqb}
 use lib.ListN.{length, take, drop, length-append, length-drop}
 use lib.Seq.{slice, drop-drop, length-slice, take-length}
@@ -21,11 +21,11 @@ use Rattle.page.specs.Page.{headLines, page}
 use Rattle.page.specs.Paging.{Written}
 use Rattle.console.specs.Line.{Line, bad, PAGE, asks, lineOf}
 use Rattle.console.specs.Console.{keyed}
-use Rattle.console.specs.Sheet.{room, lent, answerLine, shown, printed}
+use Rattle.console.specs.Sheet.{bytesFor, room, lent, answerLine, shown, printed}
 use Rattle.blocks.specs.Blocks.{All, ended, unended, tablesAfter, Turn, turn, Turned, turned, turns}
 use Rattle.blocks.proofs.Cuts.{ended-next, unended-next}
 use Rattle.blocks.proofs.Arriving.{printed-append, after-append}
-use Rattle.blocks.proofs.Going.{lineBytes, behind, over, turn-next, turn-full}
+use Rattle.blocks.proofs.Going.{behind, over, turn-next, turn-full}
 
 -- every line prints something
 answer-some : (r : Written) → 0 < length (answerLine r)
@@ -49,12 +49,16 @@ printed-some : (t : Tables) (ls : List (List ℕ)) → length (printed t ls) ≡
 unfolding printed
 printed-some t [] e = refl
 printed-some t (l ∷ ls) e =
-    absurd (omega (arith, shown-some (lineOf l) t (keyed t l lent), length-append (lineBytes t l) (printed (keyed t l lent .tables) ls)))
+    absurd (omega (arith, shown-some (lineOf l) t (keyed t l lent), length-append (bytesFor t l) (printed (keyed t l lent .tables) ls)))
 
 printed-one : (t : Tables) (ls : List (List ℕ)) → (length (printed t ls) ≡ 0 → ⊥) → 1 ≤ length ls
 unfolding printed
 printed-one t [] q = absurd (q refl)
 printed-one t (l ∷ ls) q = omega arith
+
+pub no-lines-left : (ls : List (List ℕ)) → length ls ≡ 0 → ls ≡ []
+no-lines-left [] q = refl
+no-lines-left (l ∷ ls) q = absurd (omega arith)
 
 -- the first of the lines that end in a text: the text is cut behind its byte 10
 pub record First (s l : List ℕ) (ls : List (List ℕ)) : Type 0 where
@@ -113,7 +117,7 @@ unfolding printed tablesAfter
 took-none t s at n h = record { lines = []; past = 0; place = omega arith; split = refl; rest = refl; bytes = refl; tables = refl; some = λ b e. h b }
 
 took-line : (t : Tables) (s : List ℕ) (at n : ℕ) (l : List ℕ) (ls : List (List ℕ)) (x : Turn) (n′ : ℕ) → First s l ls
-    → Took (keyed t l lent .tables) (drop (length l + 1) s) (at + length l + 1) n′ x → Took t s at n (behind (lineBytes t l) x)
+    → Took (keyed t l lent .tables) (drop (length l + 1) s) (at + length l + 1) n′ x → Took t s at n (behind (bytesFor t l) x)
 unfolding printed tablesAfter
 took-line t s at n l ls x n′ f h =
     let s′ : List ℕ = drop (length l + 1) s in
@@ -126,7 +130,7 @@ took-line t s at n l ls x n′ f h =
           ap ended (f .cut) ∙ ended-next l s′ ∙ ap (λ (xs : List (List ℕ)). l ∷ xs) (h .split)
           ∙ ap (λ (r : List ℕ). l ∷ (h .lines ++ ended (parts 10 r))) far;
       rest = ap (λ (r : List ℕ). unended (parts 10 r)) (sym far) ∙ h .rest ∙ sym (ap unended (f .cut) ∙ unended-next l s′);
-      bytes = ap (λ (xs : List ℕ). lineBytes t l ++ xs) (h .bytes);
+      bytes = ap (λ (xs : List ℕ). bytesFor t l ++ xs) (h .bytes);
       tables = h .tables;
       some = λ b e. absurd (omega (arith, ap length e));
     }
@@ -136,9 +140,9 @@ unfolding turn
 turn-took [] t s at n e = took-none t s at n (λ b. e)
 turn-took (l ∷ ls) t s at n e =
     let f = first-line s l ls e in
-    go (turn-took ls (keyed t l lent .tables) (drop (length l + 1) s) (at + length l + 1) (n - length (lineBytes t l)) (f .others)) (decLt n room)
+    go (turn-took ls (keyed t l lent .tables) (drop (length l + 1) s) (at + length l + 1) (n - length (bytesFor t l)) (f .others)) (decLt n room)
   where
-    go : Took (keyed t l lent .tables) (drop (length l + 1) s) (at + length l + 1) (n - length (lineBytes t l)) (turn (keyed t l lent .tables) ls (at + length l + 1) (n - length (lineBytes t l)))
+    go : Took (keyed t l lent .tables) (drop (length l + 1) s) (at + length l + 1) (n - length (bytesFor t l)) (turn (keyed t l lent .tables) ls (at + length l + 1) (n - length (bytesFor t l)))
         → Dec (n < room) → Took t s at n (turn t (l ∷ ls) at n)
     go h (yes small) = rw (turn-full t (l ∷ ls) at n small) (took-none t s at n (λ b. absurd (omega arith)))
     go h (no big) = rw (turn-next t l ls at n (omega arith)) (took-line t s at n l ls _ _ (first-line s l ls e) h)
@@ -198,11 +202,7 @@ ended-few (x ∷ xs) = go (eqb x 10) (ended-few xs)
 
 turns-all : (k : ℕ) (t : Tables) (block : List ℕ) (at n : ℕ) → room ≤ n → length (ended (parts 10 (drop at block))) ≤ k → All t block at (turns k t block at n)
 unfolding turns took-none
-turns-all zero t block at n big few = let e = no-length (ended (parts 10 (drop at block))) (omega arith) in none-left t block at n (over t at) (took-none t (drop at block) at n (λ b. e)) refl e
-  where
-    no-length : (ls : List (List ℕ)) → length ls ≡ 0 → ls ≡ []
-    no-length [] q = refl
-    no-length (l ∷ ls) q = absurd (omega arith)
+turns-all zero t block at n big few = let e = no-lines-left (ended (parts 10 (drop at block))) (omega arith) in none-left t block at n (over t at) (took-none t (drop at block) at n (λ b. e)) refl e
 turns-all (suc k) t block at n big few =
     let x : Turn = turn t (ended (parts 10 (drop at block))) at n in
     go x (turn-took (ended (parts 10 (drop at block))) t (drop at block) at n refl) (λ m. turns-all k (x .tables) block (x .place) n big m) (eqb (length (x .bytes)) 0) refl
@@ -247,3 +247,73 @@ turned-fits t block at out x e same =
       length-append bytes (drop (length bytes) out),
       length-drop (length bytes) out,
     )
+
+-- the same turn by turn: from place `from` on the lines are to be printed for that are left of the block's, and the tables are those after the others
+pub record Onward (t₀ : Tables) (block : List ℕ) (t : Tables) (from : ℕ) : Type 0 where
+  pub lines : List (List ℕ)
+  pub split : ended (parts 10 block) ≡ lines ++ ended (parts 10 (drop from block))
+  pub rest : unended (parts 10 (drop from block)) ≡ unended (parts 10 block)
+  pub tables : t ≡ tablesAfter t₀ lines
+
+pub onward-start : (t : Tables) (block : List ℕ) → Onward t block t 0
+unfolding tablesAfter
+onward-start t block = record { lines = []; split = refl; rest = refl; tables = refl }
+
+pub onward-none : {t₀ : Tables} {block : List ℕ} {t : Tables} {from : ℕ} → Onward t₀ block t from → ended (parts 10 (drop from block)) ≡ []
+    → (t ≡ tablesAfter t₀ (ended (parts 10 block))) × (drop from block ≡ unended (parts 10 block))
+onward-none {t₀} {block} {t} {from} o e = (
+  o .tables ∙ ap (tablesAfter t₀) (sym (o .split ∙ ap (λ (ls : List (List ℕ)). o .lines ++ ls) e ∙ append-nil (o .lines))),
+  sym (none-ends (drop from block) e) ∙ o .rest,
+)
+
+module _ (t : Tables) (block : List ℕ) (from : ℕ) (out : List ℕ) (y : Turned) (is : y ≡ turned t block from out) where
+  abbrev x : Turn
+  x = turn t (ended (parts 10 (drop from block))) from (length out)
+
+  took : Took t (drop from block) from (length out) x
+  took = turn-took (ended (parts 10 (drop from block))) t (drop from block) from (length out) refl
+
+  place-is : y .place ≡ x .place
+  unfolding turned
+  place-is = ap (λ (z : Turned). z .place) is
+
+  used-is : y .used ≡ length (x .bytes)
+  unfolding turned
+  used-is = ap (λ (z : Turned). z .used) is
+
+  tables-are : y .tables ≡ x .tables
+  unfolding turned
+  tables-are = ap (λ (z : Turned). z .tables) is
+
+  split-at : ended (parts 10 (drop from block)) ≡ took .lines ++ ended (parts 10 (drop (y .place) block))
+  split-at = took-split t block from (length out) x took ∙ ap (λ (k : ℕ). took .lines ++ ended (parts 10 (drop k block))) (sym place-is)
+
+  pub onward-turn : {t₀ : Tables} → Onward t₀ block t from → Onward t₀ block (y .tables) (y .place)
+  onward-turn {t₀} o = record {
+    lines = o .lines ++ took .lines;
+    split =
+        o .split
+        ∙ ap (λ (ls : List (List ℕ)). o .lines ++ ls) split-at
+        ∙ sym (append-assoc (o .lines) (took .lines) (ended (parts 10 (drop (y .place) block))));
+    rest =
+        ap (λ (k : ℕ). unended (parts 10 (drop k block))) place-is
+        ∙ ap (λ (s : List ℕ). unended (parts 10 s)) (sym (took-there t block from (length out) x took))
+        ∙ took .rest
+        ∙ o .rest;
+    tables = tables-are ∙ took .tables ∙ ap (λ (u : Tables). tablesAfter u (took .lines)) (o .tables) ∙ sym (after-append t₀ (o .lines) (took .lines));
+  }
+
+  -- a turn that prints something leaves fewer lines, and one that prints nothing leaves none
+  pub turn-fewer : (y .used ≡ 0 → ⊥) → length (ended (parts 10 (drop (y .place) block))) + 1 ≤ length (ended (parts 10 (drop from block)))
+  turn-fewer some =
+      omega (
+        arith,
+        ap length split-at,
+        length-append (took .lines) (ended (parts 10 (drop (y .place) block))),
+        printed-one t (took .lines) (λ q. some (used-is ∙ ap length (took .bytes) ∙ q)),
+      )
+
+  pub turn-last : room ≤ length out → y .used ≡ 0 → ended (parts 10 (drop (y .place) block)) ≡ []
+  turn-last big none =
+      let e = turn-ends t (drop from block) from (length out) big (sym used-is ∙ none) in
+      no-lines-left (ended (parts 10 (drop (y .place) block))) (omega (arith, ap length split-at, ap length e, length-append (took .lines) (ended (parts 10 (drop (y .place) block)))))

@@ -24,7 +24,7 @@ pub copied-none : {l : List ℕ} {from to : ℕ} → Copied l from to 0 l
 copied-none = record { front = refl; behind = refl; same = refl }
 
 -- places of the block, and others
-carried-part : (s : List ℕ) (from to : ℕ) → from ≤ to → to ≤ length s
+pub carried-part : (s : List ℕ) (from to : ℕ) → from ≤ to → to ≤ length s
     → carried s from to ≡ record { held = length (take most (slice from to s)); block = front (take most (slice from to s)) s }
 unfolding carried
 carried-part s from to a e = rw (le-leb from to a, le-leb to (length s) e, carried)

@@ -17,17 +17,12 @@ use Rattle.tables.specs.declared.Outcome.{Outcome}
 use Rattle.tables.specs.Calls.{told}
 use Rattle.rules.specs.Engine.{beside, front}
 use Rattle.page.specs.Paging.{Written}
-use Rattle.console.specs.Line.{lineOf}
 use Rattle.console.specs.Console.{keyed}
-use Rattle.console.specs.Sheet.{room, lent, shown, printedBytes, lineShown}
+use Rattle.console.specs.Sheet.{bytesFor, room, lent, printedBytes, lineShown}
 use Rattle.console.proofs.OneLine.{shown-long, printed-fits}
 use Rattle.console.proofs.LineEnds.{LineEnd, line-within, line-taken}
 use Rattle.blocks.specs.Blocks.{ended, Turn, turn, turned}
 use Rattle.blocks.proofs.Cuts.{ended-next}
-
--- what a line prints
-abbrev pub lineBytes : Tables → List ℕ → List ℕ
-lineBytes t l = shown (lineOf l) t (keyed t l lent)
 
 -- bytes and then a turn; a turn that is over
 abbrev pub behind : List ℕ → Turn → Turn
@@ -37,7 +32,7 @@ abbrev pub over : Tables → ℕ → Turn
 over t at = record { tables = t; place = at; bytes = [] }
 
 pub turn-next : (t : Tables) (l : List ℕ) (ls : List (List ℕ)) (at n : ℕ) → room ≤ n
-    → turn t (l ∷ ls) at n ≡ behind (lineBytes t l) (turn (keyed t l lent .tables) ls (at + length l + 1) (n - length (lineBytes t l)))
+    → turn t (l ∷ ls) at n ≡ behind (bytesFor t l) (turn (keyed t l lent .tables) ls (at + length l + 1) (n - length (bytesFor t l)))
 unfolding turn
 turn-next t l ls at n h = rw (le-leb room n h, turn)
 
@@ -109,7 +104,7 @@ module _ {t₀ t : Tables} {block out₀ out : List ℕ} {at from used : ℕ} (g
     line = slice from e block
 
     abbrev put : List ℕ
-    put = lineBytes t line
+    put = bytesFor t line
 
     low : from ≤ e
     low = E .line (line-within E ends) .low

@@ -4,3 +4,4 @@ pub mod Arriving
 pub mod Going
 pub mod AllTurns
 pub mod Determined
+pub mod OneStep

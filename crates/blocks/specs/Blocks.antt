@@ -2,19 +2,16 @@
 -- Assumes nothing.
 use Prim.Native.Nat.{ℕ, zero, suc, _+_, _-_}
 use mathlib.Core.Path.{_≡_}
-use mathlib.Core.Bool.{Bool, true, false, _&&_}
+use mathlib.Core.Bool.{true, false, _&&_}
 use mathlib.Core.List.{List, [], _∷_, _++_}
 use lib.ListN.{length, take, drop}
 use lib.Seq.{slice}
 use lib.Dec.{leb, eqb}
 use Rattle.text.specs.Text.{parts}
 use Rattle.tables.specs.declared.Tables.{Tables}
-use Rattle.tables.specs.Tables.{smallest}
 use Rattle.rules.specs.Engine.{front}
-use Rattle.page.specs.Paging.{Written}
-use Rattle.console.specs.Line.{lineOf}
 use Rattle.console.specs.Console.{keyed}
-use Rattle.console.specs.Sheet.{room, lent, shown, printed, dropEmpty}
+use Rattle.console.specs.Sheet.{room, lent, bytesFor, printed, dropEmpty}
 
 -- of the parts of a block, those that byte 10 ended; and the last, which it did not
 abbrev pub ended : List (List ℕ) → List (List ℕ)
@@ -42,9 +39,8 @@ pub record Turn : Type 0 where
 unfoldable pub turn : Tables → List (List ℕ) → ℕ → ℕ → Turn
 turn t [] at n = record { tables = t; place = at; bytes = [] }
 turn t (l ∷ ls) at n =
-    let r : Written = keyed t l lent in
-    let put : List ℕ = shown (lineOf l) t r in
-    let next : Turn = turn (r .tables) ls (at + length l + 1) (n - length put) in
+    let put : List ℕ = bytesFor t l in
+    let next : Turn = turn (keyed t l lent .tables) ls (at + length l + 1) (n - length put) in
     elim (leb room n) [
       | true ↦ record { tables = next .tables; place = next .place; bytes = put ++ next .bytes }
       | false ↦ record { tables = t; place = at; bytes = [] }
@@ -102,3 +98,9 @@ pub record All (t : Tables) (block : List ℕ) (at : ℕ) (x : Turn) : Type 0 wh
   pub bytes : x .bytes ≡ printed t (ended (parts 10 (drop at block)))
   pub tables : x .tables ≡ tablesAfter t (ended (parts 10 (drop at block)))
   pub rest : drop (x .place) block ≡ unended (parts 10 (drop at block))
+
+-- What the turns over a block s, and the carrying behind them, come to: what `arriving` prints for it, and the tables and the held bytes that it goes on with.
+pub record OneBlock (t : Tables) (s : List ℕ) (x : Turn) (c : Carried) : Type 0 where
+  pub bytes : x .bytes ≡ printed t (ended (parts 10 s))
+  pub tables : x .tables ≡ tablesAfter t (ended (parts 10 s))
+  pub held : take (c .held) (c .block) ≡ take most (unended (parts 10 s))

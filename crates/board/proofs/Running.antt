@@ -21,13 +21,13 @@ use Rattle.tables.specs.Tables.{lay, smallest}
 use Rattle.tables.specs.Calls.{Result, told, made}
 use Rattle.rules.specs.Engine.{beside, front, madeBy}
 use Rattle.page.specs.Paging.{Written}
-use Rattle.console.specs.Sheet.{room, lineShown, printedBytes, linesOf, printed, sheet}
+use Rattle.console.specs.Sheet.{bytesFor, room, lineShown, printedBytes, linesOf, printed, sheet}
 use Rattle.console.proofs.LineEnds.{LineEnd}
 use Rattle.console.proofs.OneLine.{shown-long, printed-fits}
 use Rattle.board.specs.Board.{figures, figuresLength, answering, longest, filled, ran}
 use Rattle.board.proofs.Answered.{answering-put}
 use Rattle.board.proofs.Lines.{lines-none, lines-next}
-use Rattle.board.proofs.Whole.{bytesOf, after, printed-length, printed-none, filled-fits, filled-over, filled-none, filled-most, ran-put}
+use Rattle.board.proofs.Whole.{after, printed-length, printed-none, filled-fits, filled-over, filled-none, filled-most, ran-put}
 
 -- FRESH of the smallest tables yields them, allowed or not
 pub made-smallest : (r : Outcome) → told r ≡ made 1 0 0 → r .tables ≡ smallest
@@ -40,9 +40,9 @@ made-smallest r e = ap (λ (x : Result). x .tables) e ∙ go (sizes 1 0 0)
 
 -- A LINE PRINTED: n bytes at the front of the space, and the tables after it
 pub record Shows (t : Tables) (l : List ℕ) (n : ℕ) (t′ : Tables) (space : List ℕ) : Type 0 where
-  pub long : n ≡ length (bytesOf t l)
+  pub long : n ≡ length (bytesFor t l)
   pub tables : t′ ≡ after t l
-  pub begins : take n space ≡ bytesOf t l
+  pub begins : take n space ≡ bytesFor t l
   pub within : n ≤ length space
 
 module _ (t : Tables) (l space : List ℕ) (big : room ≤ length space) where
@@ -50,12 +50,12 @@ module _ (t : Tables) (l space : List ℕ) (big : room ≤ length space) where
       → n ≡ printedBytes (answers.number (r .answer)) (answers.values (r .answer)) → length space′ ≡ length space → Shows t l n (r .tables) space′
   line-printed r n space′ e m k =
       let w = e ∙ shown-long t l space big in
-      let long : n ≡ length (bytesOf t l) = m ∙ ap (λ (x : Written). printedBytes (x .number) (x .values)) w in
+      let long : n ≡ length (bytesFor t l) = m ∙ ap (λ (x : Written). printedBytes (x .number) (x .values)) w in
       record {
         long = long;
         tables = ap (λ (x : Written). x .tables) w;
         begins =
-            ap (take n) (ap (λ (x : Written). x .buffer) w) ∙ take-at (bytesOf t l) (drop (length (bytesOf t l)) space) n (sym long);
+            ap (take n) (ap (λ (x : Written). x .buffer) w) ∙ take-at (bytesFor t l) (drop (length (bytesFor t l)) space) n (sym long);
         within = omega (arith, m, printed-fits t l space space′ r e k);
       }
 
@@ -145,7 +145,7 @@ module _ {s out₀ out : List ℕ} {t : Tables} {from used needed : ℕ} {full :
 
     pub run-put : (full′ : Bool) → full′ ≡ false → (out′ : List ℕ) (used′ : ℕ) → Wrote out used (take n space) out′ used′ → Run s out₀ out′ t′ (e + 1) used′ (needed + n) full′
     run-put full′ is out′ used′ w =
-        let bytes = bytesOf t line in
+        let bytes = bytesFor t line in
         let m = length out₀ - used in
         let ok : length bytes ≤ m = omega (arith, T .run .left .same, T .shows .long) in
         let put : Wrote out used bytes out′ used′ = wrote-as (sym (T .shows .begins)) w in

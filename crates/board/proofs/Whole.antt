@@ -13,23 +13,20 @@ use Rattle.tables.specs.Tables.{smallest}
 use Rattle.rules.specs.Engine.{front}
 use Rattle.console.specs.Line.{lineOf}
 use Rattle.console.specs.Console.{keyed}
-use Rattle.console.specs.Sheet.{lent, shown, linesOf, printed, sheet}
+use Rattle.console.specs.Sheet.{bytesFor, lent, shown, linesOf, printed, sheet}
 use Rattle.board.specs.Board.{figuresLength, answering, longest, filled, Ran, notRun, ran}
 
 -- what a line prints, and the tables after it
-abbrev pub bytesOf : Tables → List ℕ → List ℕ
-bytesOf t l = shown (lineOf l) t (keyed t l lent)
-
 abbrev pub after : Tables → List ℕ → Tables
 after t l = keyed t l lent .tables
 
 -- the first of some lines, and the others
-pub printed-first : (t : Tables) (l : List ℕ) (ls : List (List ℕ)) → printed t (l ∷ ls) ≡ bytesOf t l ++ printed (after t l) ls
+pub printed-first : (t : Tables) (l : List ℕ) (ls : List (List ℕ)) → printed t (l ∷ ls) ≡ bytesFor t l ++ printed (after t l) ls
 unfolding printed
 printed-first t l ls = refl
 
-pub printed-length : (t : Tables) (l : List ℕ) (ls : List (List ℕ)) → length (printed t (l ∷ ls)) ≡ length (bytesOf t l) + length (printed (after t l) ls)
-printed-length t l ls = ap length (printed-first t l ls) ∙ length-append (bytesOf t l) (printed (after t l) ls)
+pub printed-length : (t : Tables) (l : List ℕ) (ls : List (List ℕ)) → length (printed t (l ∷ ls)) ≡ length (bytesFor t l) + length (printed (after t l) ls)
+printed-length t l ls = ap length (printed-first t l ls) ∙ length-append (bytesFor t l) (printed (after t l) ls)
 
 pub printed-none : (t : Tables) → length (printed t []) ≡ 0
 unfolding printed
@@ -37,17 +34,17 @@ printed-none t = refl
 
 module _ (t : Tables) (l : List ℕ) (ls : List (List ℕ)) (n : ℕ) where
   abbrev others : List ℕ
-  others = filled (after t l) ls (n - length (bytesOf t l))
+  others = filled (after t l) ls (n - length (bytesFor t l))
 
-  by-room : (b : Bool) → leb (length (bytesOf t l)) n ≡ b → filled t (l ∷ ls) n ≡ elim b [ true ↦ bytesOf t l ++ others | false ↦ [] ]
+  by-room : (b : Bool) → leb (length (bytesFor t l)) n ≡ b → filled t (l ∷ ls) n ≡ elim b [ true ↦ bytesFor t l ++ others | false ↦ [] ]
   unfolding filled
-  by-room b e = ap (λ (x : Bool). elim x [ true ↦ bytesOf t l ++ others | false ↦ [] ]) e
+  by-room b e = ap (λ (x : Bool). elim x [ true ↦ bytesFor t l ++ others | false ↦ [] ]) e
 
-  pub filled-fits : length (bytesOf t l) ≤ n → filled t (l ∷ ls) n ≡ bytesOf t l ++ others
-  filled-fits h = by-room true (le-leb (length (bytesOf t l)) n h)
+  pub filled-fits : length (bytesFor t l) ≤ n → filled t (l ∷ ls) n ≡ bytesFor t l ++ others
+  filled-fits h = by-room true (le-leb (length (bytesFor t l)) n h)
 
-  pub filled-over : n < length (bytesOf t l) → filled t (l ∷ ls) n ≡ []
-  filled-over h = by-room false (lt-leb (length (bytesOf t l)) n h)
+  pub filled-over : n < length (bytesFor t l) → filled t (l ∷ ls) n ≡ []
+  filled-over h = by-room false (lt-leb (length (bytesFor t l)) n h)
 
 pub filled-none : (t : Tables) (n : ℕ) → filled t [] n ≡ []
 unfolding filled
@@ -56,15 +53,15 @@ filled-none t n = refl
 -- no more is put than there is room for
 pub filled-most : (t : Tables) (ls : List (List ℕ)) (n : ℕ) → length (filled t ls n) ≤ n
 filled-most t [] n = rw (filled-none t n) (omega arith)
-filled-most t (l ∷ ls) n = go (leb (length (bytesOf t l)) n) refl (filled-most (after t l) ls (n - length (bytesOf t l)))
+filled-most t (l ∷ ls) n = go (leb (length (bytesFor t l)) n) refl (filled-most (after t l) ls (n - length (bytesFor t l)))
   where
-    go : (b : Bool) → leb (length (bytesOf t l)) n ≡ b → length (filled (after t l) ls (n - length (bytesOf t l))) ≤ n - length (bytesOf t l) → length (filled t (l ∷ ls) n) ≤ n
+    go : (b : Bool) → leb (length (bytesFor t l)) n ≡ b → length (filled (after t l) ls (n - length (bytesFor t l))) ≤ n - length (bytesFor t l) → length (filled t (l ∷ ls) n) ≤ n
     go true e ih =
         omega (
           arith,
           ap length (by-room t l ls n true e),
-          length-append (bytesOf t l) (filled (after t l) ls (n - length (bytesOf t l))),
-          leb-true (length (bytesOf t l)) n e,
+          length-append (bytesFor t l) (filled (after t l) ls (n - length (bytesFor t l))),
+          leb-true (length (bytesFor t l)) n e,
         )
     go false e ih = omega (arith, ap length (by-room t l ls n false e))
 
@@ -75,7 +72,7 @@ filled-all t [] n h = filled-none t n
 filled-all t (l ∷ ls) n h =
     let both = printed-length t l ls in
     filled-fits t l ls n (omega arith)
-    ∙ ap (λ (r : List ℕ). bytesOf t l ++ r) (filled-all (after t l) ls (n - length (bytesOf t l)) (omega arith))
+    ∙ ap (λ (r : List ℕ). bytesFor t l ++ r) (filled-all (after t l) ls (n - length (bytesFor t l)) (omega arith))
 
 -- a whole text
 module _ (s out buf : List ℕ) where

@@ -1,7 +1,8 @@
 // The program `sheet`: reads lines from standard input and prints what each comes to, from the smallest tables on. The work on bytes is done by `blocks` and
 // `console`; here is only the order of the reads and writes.
-ghost use Prim.Native.Nat.{_<_};
+ghost use Prim.Native.Nat.{_<_, _≤_};
 ghost use lib.ListN.{length};
+ghost use Rattle.sheet.specs.Through.{Through};
 
 mod moving;
 
@@ -11,12 +12,15 @@ use tables::Tables;
 struct Printed {
     tables: Tables,
     place: usize,
-    is_written: bool,
+    written: bool,
 }
 
 // Prints for the lines that end in the block: turn after turn, until one prints nothing. Each turn but the last prints for a line, so there are no more turns than
 // bytes.
-fn print_turns(tables: Tables, block: &[u8], out: &mut [u8]) -> Printed {
+fn print_turns(tables: Tables, block: &[u8], out: &mut [u8]) -> Printed
+    requires { ⌜ 8192 ≤ length (now out) ⌝ }
+    ensures { λ r. ⌜ Through tables (now (block .entry)) r ⌝ }
+{
     let mut t = tables;
     let mut from: usize = 0;
     let mut left = block.len();
@@ -32,7 +36,7 @@ fn print_turns(tables: Tables, block: &[u8], out: &mut [u8]) -> Printed {
             return Printed {
                 tables: t,
                 place: from,
-                is_written: false,
+                written: false,
             };
         }
         left -= 1;
@@ -40,7 +44,7 @@ fn print_turns(tables: Tables, block: &[u8], out: &mut [u8]) -> Printed {
     Printed {
         tables: t,
         place: from,
-        is_written: true,
+        written: true,
     }
 }
 
@@ -58,6 +62,7 @@ fn print_last(tables: Tables, line: &[u8], out: &mut [u8]) {
 // run uses up.
 fn print_all(block: &mut [u8], out: &mut [u8])
     requires { ⌜ 73 < length (now block) ⌝ }
+    requires { ⌜ 8192 ≤ length (now out) ⌝ }
 {
     let first = Tables::fresh(1, 0, 0);
     let mut tables = first.tables;
@@ -74,7 +79,7 @@ fn print_all(block: &mut [u8], out: &mut [u8])
         }
         let end = have + n;
         let printed = print_turns(tables, &block[..end], out);
-        if !printed.is_written {
+        if !printed.written {
             return;
         }
         tables = printed.tables;

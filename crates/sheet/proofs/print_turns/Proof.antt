@@ -1,20 +1,36 @@
--- `sheet::print_turns` is safe and ends. The invariant: the output is as long as it came. The measure is the number of turns that are left. Assumes nothing.
-use borrow.Author.Needs.{needs}
+-- `sheet::print_turns` meets its contract. The invariant: the output is as long as it came, the lines from `from` on are left of the block's, and there are no more of them than turns.
+-- The measure is the number of turns that are left. Assumes nothing.
+use Prim.Native.Nat.{ℕ, _≤_}
 use native.Mathlib.Omega.{arith}
 use mathlib.Core.Path.{_≡_, refl}
-use lib.ListN.{length}
-use Rattle.blocks.proofs.AllTurns.{turned-fits}
+use mathlib.Core.Bool.{true}
+use mathlib.Core.List.{List, []}
+use lib.ListN.{length, drop}
+use borrow.Author.Needs.{needs}
+use Rattle.lists.proofs.Tests.{false-true}
+use Rattle.text.specs.Text.{parts}
+use Rattle.tables.specs.declared.Tables.{Tables}
+use Rattle.blocks.specs.Blocks.{ended}
+use Rattle.blocks.proofs.AllTurns.{turned-fits, Onward, onward-start, onward-turn, onward-none, ended-few, turn-fewer, turn-last, no-lines-left}
+use Rattle.sheet.specs.Through.{Through}
 use Rattle.sheet.proofs.print_turns.Statement.{statement}
 use Rattle.sheet.proofs.print_turns.Tie as tie
 
 abbrev Inv-loop : tie.InvT-loop
-Inv-loop block out₀ t₀ from₀ left₀ out t from left = length out ≡ length out₀
+Inv-loop block out₀ t₀ from₀ left₀ out t from left =
+    (length out ≡ length out₀) × Onward t₀ block t from × (length (ended (parts 10 (drop from block))) ≤ left)
 
 abbrev μ-loop : tie.MeasureT-loop
 μ-loop block out₀ t₀ from₀ left₀ out t from left = left
 
+abbrev Block : tie.At-loop Inv-loop μ-loop → List ℕ
+Block c = c .before .before .before .args .block .now
+
+through : {t₀ t : Tables} {block : List ℕ} {from : ℕ} → Onward t₀ block t from → ended (parts 10 (drop from block)) ≡ [] → Through t₀ block (record { tables = t; place = from; written = true })
+through o e = let n = onward-none o e in record { tables = λ w. n .0; rest = λ w. n .1 }
+
 loop-holds : tie.Need-loop-holds Inv-loop μ-loop
-loop-holds c = search needs
+loop-holds c = let a = c .before .before .args in (refl, onward-start (a .tables) (a .block .now), ended-few (a .block .now))
 
 print-block-requires : tie.Need-print-block-requires Inv-loop μ-loop
 print-block-requires c κs = search needs
@@ -28,7 +44,7 @@ same-length : tie.Need-same-length Inv-loop μ-loop
 same-length c = search needs
 
 returns : tie.Need-returns Inv-loop μ-loop
-returns c = search needs
+returns c = record { tables = λ w. false-true w; rest = λ w. false-true w }
 
 sub-left : tie.Need-sub-left Inv-loop μ-loop
 sub-left c = search needs
@@ -37,19 +53,30 @@ loop-less : tie.Need-loop-less Inv-loop μ-loop
 loop-less c = search needs
 
 loop-again : tie.Need-loop-again Inv-loop μ-loop
-loop-again c = search needs
+loop-again c =
+    let p = c .before .before .before .before .before .before .before in
+    let l = p .before .before .before in (
+      search needs,
+      onward-turn (l .loop .t) (Block l) (l .loop .from) (l .loop .out) _ (p .print-block .ensures) (l .loop .inv .1),
+      omega (arith, turn-fewer (l .loop .t) (Block l) (l .loop .from) (l .loop .out) _ (p .print-block .ensures) (λ q. omega arith), l .loop .inv .2),
+    )
 
 same-length-2 : tie.Need-same-length-2 Inv-loop μ-loop
 same-length-2 c = search needs
 
 returns-2 : tie.Need-returns-2 Inv-loop μ-loop
-returns-2 c = search needs
+returns-2 c = let l = c .before in through (l .loop .inv .1) (no-lines-left (ended (parts 10 (drop (l .loop .from) (Block l)))) (omega (arith, l .loop .inv .2)))
 
 same-length-3 : tie.Need-same-length-3 Inv-loop μ-loop
 same-length-3 c = search needs
 
 returns-3 : tie.Need-returns-3 Inv-loop μ-loop
-returns-3 c = search needs
+returns-3 c =
+    let p = c .before .before .before .before in
+    let l = p .before .before .before in
+    let t = l .loop .t in
+    through (onward-turn t (Block l) (l .loop .from) (l .loop .out) _ (p .print-block .ensures) (l .loop .inv .1))
+    (turn-last t (Block l) (l .loop .from) (l .loop .out) _ (p .print-block .ensures) (omega (arith, l .loop .inv .0)) (c .if1 .taken))
 
 pub print-turns-spec : {M : Type 1} → statement M
 print-turns-spec =

@@ -1,7 +1,7 @@
 -- `blocks::carrying::carry` meets its contract. The invariant: i of the bytes stand at the front, and from place i on the block is as it was. Assumes nothing.
 use Prim.Native.Nat.{ℕ, _≤_, _<_, _-_}
 use native.Mathlib.Omega.{arith}
-use mathlib.Core.Path.{_≡_, refl}
+use mathlib.Core.Path.{_≡_}
 use mathlib.Core.Logic.{inl, inr}
 use Rattle.blocks.specs.Blocks.{most}
 use Rattle.blocks.proofs.Copying.{Copied, copied-none, copied-turn, copied-whole, carried-turned, carried-past}

@@ -1,6 +1,6 @@
 -- `blocks::turning::print_block` meets its contract. The invariant: `end` is where the line at `from` ends, and the turn is what was printed and then the turn that is left.
 -- The measure is how much of the block is left. Assumes nothing.
-use Prim.Native.Nat.{ℕ, _+_, _-_, _≤_, _<_}
+use Prim.Native.Nat.{_+_, _-_, _≤_, _<_}
 use native.Mathlib.Omega.{arith}
 use mathlib.Core.Path.{_≡_, sym, subst}
 use lib.ListN.{length}

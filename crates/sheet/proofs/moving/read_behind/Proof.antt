@@ -1,9 +1,7 @@
 -- `sheet::moving::read_behind` is safe, ends, and answers no more bytes than the block has room for. The invariant: the block is as long as it came. The measure is the number
 -- of tries that are left. Assumes nothing.
 use borrow.Author.Needs.{needs}
-use Prim.Native.Nat.{_≤_}
-use native.Mathlib.Omega.{arith}
-use mathlib.Core.Path.{_≡_, refl}
+use mathlib.Core.Path.{_≡_}
 use lib.ListN.{length}
 use Rattle.sheet.proofs.moving.read_behind.Statement.{statement}
 use Rattle.sheet.proofs.moving.read_behind.Tie as tie

@@ -1,8 +1,6 @@
 -- `sheet::moving::write_front` is safe and ends. The invariant: no more went out than was asked for. The measure is the number of tries that are left. Assumes nothing.
 use borrow.Author.Needs.{needs}
 use Prim.Native.Nat.{_≤_}
-use native.Mathlib.Omega.{arith}
-use lib.ListN.{length}
 use Rattle.sheet.proofs.moving.write_front.Statement.{statement}
 use Rattle.sheet.proofs.moving.write_front.Tie as tie
 
