@@ -1,1 +1,1 @@
-pub mod Through
+pub mod Inner

@@ -2,7 +2,7 @@
 // `console`; here is only the order of the reads and writes.
 ghost use Prim.Native.Nat.{_<_, _≤_};
 ghost use lib.ListN.{length};
-ghost use Rattle.sheet.specs.Through.{Through};
+ghost use Rattle.sheet.specs.Inner.{Through};
 
 mod moving;
 

@@ -12,7 +12,7 @@ use Rattle.text.specs.Text.{parts}
 use Rattle.tables.specs.declared.Tables.{Tables}
 use Rattle.blocks.specs.Blocks.{ended}
 use Rattle.blocks.proofs.AllTurns.{turned-fits, Onward, onward-start, onward-turn, onward-none, ended-few, turn-fewer, turn-last, no-lines-left}
-use Rattle.sheet.specs.Through.{Through}
+use Rattle.sheet.specs.Inner.{Through}
 use Rattle.sheet.proofs.print_turns.Statement.{statement}
 use Rattle.sheet.proofs.print_turns.Tie as tie
 
