@@ -25,7 +25,7 @@ carried-holds block p end h = go (decLe p end)
     go : Dec (p ≤ end) → take (carried block p end .held) (carried block p end .block) ≡ kept
     go (yes l) = ap (λ (c : Carried). take (c .held) (c .block)) (carried-part block p end l h) ∙ take-append-seam kept (drop (length kept) block)
     go (no l) =
-        let e : drop p (take end block) ≡ [] = drop-of-length-le {i = p} (take end block) (omega (arith, l, length-take-le end block h)) in
+        let e : drop p (take end block) ≡ [] = drop-of-length-le (take end block) {i = p} (omega (arith, l, length-take-le end block h)) in
         ap (λ (c : Carried). take (c .held) (c .block)) (sym (carried-turned block p end (omega (arith, l)))) ∙ sym (ap (take most) e)
 
 pub one-block : (t : Tables) (block : List ℕ) (end n : ℕ) → room ≤ n → end ≤ length block
