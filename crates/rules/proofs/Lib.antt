@@ -11,7 +11,7 @@ pub mod Refusals
 pub mod Demand
 pub mod FrameLaws
 pub mod Guard
-pub mod Order
+pub mod Ordering
 pub mod Paths
 pub mod OneAnswer
 pub mod IfDone

@@ -1,6 +1,7 @@
 pub mod Answers
 pub mod Book
 pub mod Requests
+pub mod Coded
 pub mod Plans
 pub mod Rules
 pub mod Keeper
