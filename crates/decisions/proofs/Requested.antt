@@ -1,0 +1,74 @@
+-- FRESH, TICK, and a call of the running program: its caller first.
+-- Assumes nothing.
+use Prim.Native.Nat.{ℕ, _+_, _≤_, _<_}
+use native.Mathlib.Omega.{arith}
+use mathlib.Core.Path.{_≡_, refl, _∙_}
+use mathlib.Core.Bool.{true, false, _&&_}
+use mathlib.Core.List.{List, [], _∷_, map}
+use lib.ListN.{length}
+use lib.Dec.{leb, eqb}
+use borrow.Author.Tests.{leb-true, lt-ltb, le-ltb}
+use Rattle.lists.specs.Lists.{keep, upTo, join}
+use Rattle.lists.proofs.Tests.{both, upTo-true}
+use Rattle.clock.specs.Clock.{ceiling}
+use Rattle.records.specs.Records.{all}
+use Rattle.rules.specs.Book.{at, stateOf}
+use Rattle.rules.specs.declared.Order.{Order}
+use Rattle.rules.specs.declared.Order.the-variants.{Ru, Ss, Go, Pr, Of}
+use Rattle.rules.specs.Requests.{Call, FRESH, TICK, operator, running}
+use Rattle.rules.specs.Coded.{theOrder}
+use Rattle.rules.specs.Plans.{View, refused, done, renewed, clocked, need}
+use Rattle.rules.specs.Rules.{sizes, head, plan, call, order, dueAt, ticked}
+use Rattle.rules.proofs.Paths.{need-met, need-failed, caller-none, caller-is}
+use Rattle.decisions.specs.Inner.{Sizes, Fits, taskOf, going, asking}
+
+pub sizes-true : (T S R : ℕ) → sizes T S R ≡ true → Sizes T S R
+sizes-true T S R e =
+    let b = both (upTo 1 256 T && leb S T) (leb R 16) e in
+    let d = both (upTo 1 256 T) (leb S T) (b .0) in
+    let u = upTo-true 1 256 T (d .0) in
+    record { least = u .0; most = u .1; part = leb-true S T (d .1); few = leb-true R 16 (b .1) }
+
+module _ (v : View) (s : List ℕ) where
+  pub renewing : (T S R : ℕ) → sizes T S R ≡ true → plan v s (FRESH T S R) ≡ done (0 ∷ []) (renewed T S R ∷ [])
+  unfolding plan
+  renewing T S R e = need-met 3 0 _ e
+
+  pub renewing-not : (T S R : ℕ) → sizes T S R ≡ false → plan v s (FRESH T S R) ≡ refused 3 0
+  unfolding plan
+  renewing-not T S R e = need-failed 3 0 _ e
+
+  pub ticking : v .book .clock < ceiling → plan v s TICK
+      ≡ done (length (keep (λ p. dueAt (v .book) p && eqb (stateOf (v .book) p) 0) all) ∷ [])
+      (clocked (v .book .clock + 1) ∷ join (map (λ p. ticked p (at (v .book) p)) (keep (dueAt (v .book)) all)))
+  unfolding plan
+  ticking h = need-met 11 0 _ (lt-ltb (v .book .clock) ceiling h)
+
+  pub ticking-not : ceiling ≤ v .book .clock → plan v s TICK ≡ refused 11 0
+  unfolding plan
+  ticking-not h = need-failed 11 0 _ (le-ltb (v .book .clock) ceiling h)
+
+  module _ (q : Call) (c : ℕ) (C : head s ≡ c) where
+    pub no-caller : c ≡ 0 → plan v s (running q) ≡ refused 2 0
+    unfolding plan
+    no-caller e = caller-none s (λ p. call v p q) (C ∙ e)
+
+    pub by-caller : 1 ≤ c → plan v s (running q) ≡ call v c q
+    unfolding plan
+    by-caller h = caller-is s (λ p. call v p q) c C h
+
+-- an order is a task of the program that it names
+pub order-fits : (o : Order) → Fits 0 (taskOf o)
+order-fits Ru = omega arith
+order-fits Ss = omega arith
+order-fits Go = omega arith
+order-fits (Pr n) = tt
+order-fits (Of k) = tt
+
+pub order-asks : (v : View) (s nm : List ℕ) (o : Order) → plan v s (operator (theOrder o) nm) ≡ asking v 0 nm (taskOf o)
+unfolding plan order asking going
+order-asks v s nm Ru = refl
+order-asks v s nm Ss = refl
+order-asks v s nm Go = refl
+order-asks v s nm (Pr n) = refl
+order-asks v s nm (Of k) = refl

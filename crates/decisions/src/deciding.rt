@@ -1,0 +1,142 @@
+// Every request: which part of the book decides it.
+ghost use Prim.Native.Nat.{ℕ};
+ghost use mathlib.Core.Path.{_≡_};
+ghost use mathlib.Core.List.{List};
+ghost use Rattle.rules.specs.Plans.{View};
+ghost use Rattle.rules.specs.Rules.{head, sizes, plan, call};
+ghost use Rattle.rules.specs.Requests.{FRESH, TICK, operator};
+ghost use Rattle.rules.specs.Coded.{theOrder, theCall, theRequest};
+ghost use Rattle.ledger.specs.Ledger.{bookOf};
+ghost use Rattle.decisions.specs.Inner.{Decides, CanCall, CanDecide, taskOf};
+use super::Decision;
+use super::Effect;
+use super::discs;
+use super::naming;
+use super::naming::Task;
+use super::numbering;
+use super::numbering::Wanted;
+use super::stay;
+use clock::Clock;
+use ledger::Ledger;
+use records::Why;
+use rules::Answer;
+use rules::Call;
+use rules::Order;
+use rules::Request;
+use tracks::Tracks;
+
+// FRESH: whether tables may have these sizes.
+fn is_sized(tracks: u64, system: u64, numbers: u64) -> bool
+    ensures { λ r. ⌜ r ≡ sizes tracks system numbers ⌝ }
+{
+    if tracks < 1 {
+        return false;
+    }
+    if 256 < tracks {
+        return false;
+    }
+    if tracks < system {
+        return false;
+    }
+    numbers <= 16
+}
+
+fn renews(tracks: u64, system: u64, numbers: u64) -> Decision
+    ensures { λ r. ⌜ ((v : View) (nm : List ℕ) (s : List ℕ) → Decides v nm (plan v s (FRESH tracks system numbers)) r) ⌝ }
+{
+    if is_sized(tracks, system, numbers) {
+        return Decision {
+            answer: Answer::Done(0),
+            effect: Effect::Renew(tracks as u16, system as u16, numbers as u8),
+        };
+    }
+    stay(Answer::NotAllowed)
+}
+
+// TICK, unless the clock stands at its ceiling.
+fn ticks_on(ticks: u64) -> Decision
+    ensures { λ r. ⌜ ((v : View) (nm : List ℕ) (s : List ℕ) → v .book .clock ≡ ticks → Decides v nm (plan v s TICK) r) ⌝ }
+{
+    if Clock::CEILING <= ticks {
+        return stay(Answer::AtCeiling);
+    }
+    Decision {
+        answer: Answer::Done(0),
+        effect: Effect::Tick,
+    }
+}
+
+fn task_of(o: Order) -> Task
+    ensures { λ r. ⌜ r ≡ taskOf o ⌝ }
+{
+    match o {
+        Order::Ru => Task::Shift(0, 1),
+        Order::Ss => Task::Shift(1, 6),
+        Order::Go => Task::Shift(6, 1),
+        Order::Pr(n) => Task::Price(n),
+        Order::Of(k) => Task::Dismiss(k),
+    }
+}
+
+// What program c asks.
+fn called(book: Ledger, c: u8, name: [u8; 5], q: Call) -> Decision
+    requires { ⌜ CanCall book c ⌝ }
+    ensures { λ r. ⌜ ((v : View) (nm : List ℕ) → v .book ≡ bookOf book → Decides v nm (call v c (theCall name q)) r) ⌝ }
+{
+    let programs = book.programs;
+    let tracks = book.tracks;
+    let numbers = book.numbers;
+    let clock = book.clock;
+    match q {
+        Call::Exec4(n, w) => discs::takes(tracks, c, c, n, w),
+        Call::Exec15(n, w) => discs::takes(tracks, c, Tracks::GLOBAL, n, w),
+        Call::Exec5(n, start) => discs::gives(tracks, c, n, start),
+        Call::Exec16(n, start) => discs::gives(tracks, Tracks::GLOBAL, n, start),
+        Call::Exec5All => discs::gives_all(tracks, c),
+        Call::Exec6 => Decision {
+            answer: Answer::Done(0),
+            effect: Effect::End(c),
+        },
+        Call::Exec7 => Decision {
+            answer: Answer::Done(0),
+            effect: Effect::Become(c, 6, Why::Nothing),
+        },
+        Call::Exec11 => stay(Answer::Told(clock.time())),
+        Call::Exec9 => naming::upon(programs, tracks, clock.ticks, c, name, Task::Await),
+        Call::Exec10 => naming::upon(programs, tracks, clock.ticks, c, name, Task::Send),
+        Call::Exec12(r, m, o) => naming::upon(
+            programs,
+            tracks,
+            clock.ticks,
+            c,
+            name,
+            Task::Time(r, m, o),
+        ),
+        Call::Alloc(global, w) => numbering::allocates(numbers, c, global, w),
+        Call::Lock(r, w) => numbering::of_number(numbers, c, r, Wanted::Lock(w)),
+        Call::Clear(r) => numbering::of_number(numbers, c, r, Wanted::Clear),
+        Call::Free(r) => numbering::of_number(numbers, c, r, Wanted::Free),
+    }
+}
+
+// What a request comes to where c is the caller, or 0: the one place where a call of the running program begins.
+pub fn decide(book: Ledger, c: u8, name: [u8; 5], q: Request) -> Decision
+    requires { ⌜ CanDecide book c ⌝ }
+    ensures { λ r. ⌜ ((v : View) (s : List ℕ) → v .book ≡ bookOf book → head s ≡ c → Decides v name (plan v s (theRequest name q)) r) ⌝ }
+{
+    let programs = book.programs;
+    let tracks = book.tracks;
+    let ticks = book.clock.ticks;
+    match q {
+        Request::Fresh(t, s, r) => renews(t, s, r),
+        Request::Load(n) => naming::loads(programs, name, n),
+        Request::Operator(o) => naming::upon(programs, tracks, ticks, 0, name, task_of(o)),
+        Request::Tick => ticks_on(ticks),
+        Request::Running(call) => {
+            if c == 0 {
+                return stay(Answer::NoCaller);
+            }
+            called(book, c, name, call)
+        }
+    }
+}
