@@ -29,6 +29,11 @@ use Rattle.decisions.proofs.Laws.{fails}
 abbrev pub lowestFree : List Resource → ℕ → ℕ
 lowestFree xs R = first (λ r. eqb (numberAt xs r .owner) 0) (from 1 R)
 
+pub lowest-within : (x : Numbers) (r : ℕ) → r ≡ lowestFree (resources x) (x .count) → r ≢ 0 → (1 ≤ r) × (r ≤ x .count)
+lowest-within x r N z =
+    let b = from-in (lowestFree (resources x) (x .count)) 1 (x .count) (first-in (λ k. eqb (numberAt (resources x) k .owner) 0) (from 1 (x .count)) (omega (arith, N, z))) in
+    (omega (arith, z), omega (arith, N, b .1))
+
 module _ (v : View) (c : ℕ) (g : Bool) (w : ℕ) where
   pub alloc-not : 1 < w → call v c (ALLOC g w) ≡ refused 3 0
   unfolding call
@@ -43,11 +48,6 @@ module _ (v : View) (c : ℕ) (g : Bool) (w : ℕ) where
     alloc-waits z = need-met 3 0 _ (le-leb w 1 h) ∙ either-not _ _ (le-ltb 0 (lowestFree (v .book .resources) (v .book .numbers)) (omega (arith, lowest, z)))
 
     module _ (z : r ≢ 0) where
-      pub alloc-within : (1 ≤ r) × (r ≤ v .book .numbers)
-      alloc-within =
-          let b = from-in (lowestFree (resources x) (x .count)) 1 (x .count) (first-in (λ r. eqb (numberAt (resources x) r .owner) 0) (from 1 (x .count)) (omega (arith, N, z))) in
-          (omega (arith, z), omega (arith, N, b .1, O .size))
-
       pub alloc-done : (o : ℕ) → o ≡ cond g globally c → call v c (ALLOC g w) ≡ done (r ∷ []) (number v r o 0 ∷ [])
       unfolding call
       alloc-done o G =

@@ -54,12 +54,12 @@ module _ (v : View) (c h n w : ℕ) where
     takes-waits e = need-met 3 0 _ allowed ∙ found-none (lowest n 0 (v .book .holders)) _ _ (there ∙ ap foundIs e)
 
     module _ (i : ℕ) (e : f ≡ At i) where
-      pub takes-room : Fit x → i + n ≤ v .book .tracks
-      takes-room fit = omega (arith, lowest-found n (holders x) i (A .least) (sym F ∙ ap foundIs e) .there .within, fit .long, O .size)
-
       pub takes-done : takes v c h n w ≡ done (i ∷ []) (held (filled i n h (v .book .holders)) ∷ [])
       unfolding takes
       takes-done = need-met 3 0 _ allowed ∙ found-at (lowest n 0 (v .book .holders)) i _ _ (there ∙ ap foundIs e)
+
+pub takes-room : (x : table.Tracks) (n i : ℕ) (f : Found) → Fit x → 1 ≤ n → foundIs f ≡ lowest n 0 (holders x) → f ≡ At i → i + n ≤ x .count
+takes-room x n i f fit l F e = omega (arith, lowest-found n (holders x) i l (sym F ∙ ap foundIs e) .there .within, fit .long)
 
 -- of T tracks, n from start on are there
 pub record There (T n start : ℕ) : Type 0 where

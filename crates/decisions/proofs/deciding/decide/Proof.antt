@@ -26,7 +26,7 @@ on k v s {d = d} e = subst (λ (q : Request). Decides v (S k .args .name) (plan 
 upon-requires : tie.Need-upon-requires
 upon-requires c κs =
     let s = S (c .before .before .before .before) in
-    record { fit = s .pre .tracks; clock = s .pre .clock; fits = subst (Fits 0) (sym (c .task-of .ensures)) (order-fits _) }
+    record { fit = s .pre .tracks; clock = s .pre .clock; fits = subst (Fits 0) (sym (c .task-of .ensures)) (order-fits (c .before .before .q3 .given .0 .0)) }
 
 returns : tie.Need-returns
 returns c = let k = c .before .before .before .before .before in λ v s O C. on k v s (c .before .before .before .q4 .given .1) (stays v _ NoCaller 0 (c .stay .ensures) refl (no-caller v s _ _ C (c .before .if1 .taken)))
@@ -46,7 +46,7 @@ returns-4 c =
     let k = t .before .before .before .before in
     λ v s O C.
     on k v s (t .before .before .q3 .given .1)
-    (like v _ (order-asks v s _ _ ∙ ap (asking v 0 (S k .args .name)) (sym (t .task-of .ensures))) (c .upon .ensures v _ (book-in v _ O)))
+    (like v _ (order-asks v s _ (t .before .before .q3 .given .0 .0) ∙ ap (asking v 0 (S k .args .name)) (sym (t .task-of .ensures))) (c .upon .ensures v _ (book-in v _ O)))
 
 returns-5 : tie.Need-returns-5
 returns-5 c = let k = c .before .before .before in λ v s O C. on k v s (c .before .enum-told .given .1) (c .ticks-on .ensures v _ s (book-in v _ O .clock))

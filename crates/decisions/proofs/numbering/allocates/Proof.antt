@@ -1,9 +1,10 @@
 -- `decisions::numbering::allocates` meets its contract. Assumes nothing.
 use borrow.Author.Needs.{needs}
+use native.Mathlib.Omega.{arith}
 use mathlib.Core.Path.{refl}
 use Rattle.rules.specs.declared.Answer.the-variants.{NotAllowed}
 use Rattle.decisions.proofs.Laws.{like, stays}
-use Rattle.decisions.proofs.Numbered.{alloc-not, alloc-waits, alloc-done, alloc-within}
+use Rattle.decisions.proofs.Numbered.{alloc-not, alloc-waits, alloc-done, lowest-within}
 use Rattle.decisions.proofs.numbering.allocates.Statement.{statement}
 use Rattle.decisions.proofs.numbering.allocates.Tie as tie
 
@@ -19,7 +20,7 @@ returns-3 c =
     let l = e .before in
     λ v nm O.
     like v nm (alloc-done v _ _ _ (l .before .if1 .left) _ O _ (l .lowest-free .ensures) (e .if2 .left) _ (c .owner-of .ensures))
-    (record { number = refl; values = refl; events = refl; apt = alloc-within v _ _ _ (l .before .if1 .left) _ O _ (l .lowest-free .ensures) (e .if2 .left) })
+    (record { number = refl; values = refl; events = refl; apt = (omega (arith, lowest-within (l .before .before .args .numbers) _ (l .lowest-free .ensures) (e .if2 .left) .0), omega (arith, lowest-within (l .before .before .args .numbers) _ (l .lowest-free .ensures) (e .if2 .left) .1, O .size)) })
 
 pub allocates-spec : {M : Type 1} → statement M
 allocates-spec = tie.close (tie.spec (λ c κs. search needs) returns (λ c κs. search needs) (λ c κs. search needs) returns-2 (λ c κs. search needs) returns-3)
