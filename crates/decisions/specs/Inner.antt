@@ -56,23 +56,23 @@ eventsFor v nm (Number r o l) = rules.number v r o l ∷ []
 eventsFor v nm (Release r o l d) = rules.number v r o l ∷ wake (woken v (clears r d))
 eventsFor v nm Tick = clocked (v .book .clock + 1) ∷ join (map (λ p. ticked p (at (v .book) p)) (keep (dueAt (v .book)) all))
 
--- the values: those of the answer, or how many are woken or started
-abbrev pub valuesFor : View → Answer → Effect → List ℕ
-valuesFor v a Stay = values a
-valuesFor v a (Renew T S R) = values a
-valuesFor v a (Load p n) = values a
-valuesFor v a (Price p n) = values a
-valuesFor v a (Time p d i) = values a
-valuesFor v a (Become p s w) = values a
-valuesFor v a (Await p c) = values a
-valuesFor v a (Dismiss p k n) = values a
-valuesFor v a (End p) = length (woken v (ends v p 0)) ∷ []
-valuesFor v a (Take i n h) = values a
-valuesFor v a (Give i n) = values a
-valuesFor v a (GiveAll c n) = values a
-valuesFor v a (Number r o l) = values a
-valuesFor v a (Release r o l d) = length (woken v (clears r d)) ∷ []
-valuesFor v a Tick = length (keep (λ p. dueAt (v .book) p && eqb (stateOf (v .book) p) 0) all) ∷ []
+-- the number and the values: those of the answer, or how many are woken or started
+abbrev pub replyFor : View → Answer → Effect → ℕ × List ℕ
+replyFor v a Stay = (number a, values a)
+replyFor v a (Renew T S R) = (number a, values a)
+replyFor v a (Load p n) = (number a, values a)
+replyFor v a (Price p n) = (number a, values a)
+replyFor v a (Time p d i) = (number a, values a)
+replyFor v a (Become p s w) = (number a, values a)
+replyFor v a (Await p c) = (number a, values a)
+replyFor v a (Dismiss p k n) = (number a, values a)
+replyFor v a (End p) = (0, length (woken v (ends v p 0)) ∷ [])
+replyFor v a (Take i n h) = (number a, values a)
+replyFor v a (Give i n) = (number a, values a)
+replyFor v a (GiveAll c n) = (number a, values a)
+replyFor v a (Number r o l) = (number a, values a)
+replyFor v a (Release r o l d) = (0, length (woken v (clears r d)) ∷ [])
+replyFor v a Tick = (0, length (keep (λ p. dueAt (v .book) p && eqb (stateOf (v .book) p) 0) all) ∷ [])
 
 -- T tracks, S of them the system's, and R numbers are tables
 pub record Sizes (T S R : ℕ) : Type 0 where
@@ -101,8 +101,8 @@ Apt v Tick = v .book .clock < ceiling
 
 -- the decision is the plan's
 pub record Decides (v : View) (nm : List ℕ) (x : Plan) (d : Decision) : Type 0 where
-  pub number : number (d .answer) ≡ numberOf x
-  pub values : valuesFor v (d .answer) (d .effect) ≡ valuesOf x
+  pub number : replyFor v (d .answer) (d .effect) .0 ≡ numberOf x
+  pub values : replyFor v (d .answer) (d .effect) .1 ≡ valuesOf x
   pub events : eventsFor v nm (d .effect) ≡ eventsOf v x
   pub apt : Apt v (d .effect)
 

@@ -26,7 +26,7 @@ use rules::Request;
 use tracks::Tracks;
 
 // FRESH: whether tables may have these sizes.
-fn is_sized(tracks: u64, system: u64, numbers: u64) -> bool
+pub fn is_sized(tracks: u64, system: u64, numbers: u64) -> bool
     ensures { λ r. ⌜ r ≡ sizes tracks system numbers ⌝ }
 {
     if tracks < 1 {

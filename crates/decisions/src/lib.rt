@@ -5,6 +5,7 @@ mod naming;
 mod numbering;
 
 pub use deciding::decide;
+pub use deciding::is_sized;
 ghost use Prim.Native.Nat.{ℕ};
 ghost use mathlib.Core.Path.{_≡_};
 ghost use mathlib.Core.List.{List};

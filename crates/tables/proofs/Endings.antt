@@ -60,16 +60,13 @@ module _ (t : Tables) (p : ℕ) (n : Numbers) (O : Orderly t) (e : n ≡ numbers
   numbers-left : resources n ≡ map (without p) (resources (t .ledger .numbers))
   numbers-left = ap resources e ∙ resources-without (t .ledger .numbers) p (O .numbers)
 
-  -- and two lists wake
-  pub settled-on : (d g : Listing) (u v r : Tables) → Played t (numbered (resources n) ∷ []) u → Played u (wake (take (d .len) (d .ids))) v
-      → Played v (wake (take (g .len) (g .ids))) r
-      → Played t (numbered (map (without p) (resources (t .ledger .numbers))) ∷ (wake (take (d .len) (d .ids)) ++ wake (take (g .len) (g .ids)))) r
-  settled-on d g u v r N S R =
-      let es = wake (take (d .len) (d .ids)) in
-      let fs = wake (take (g .len) (g .ids)) in
-      played-as t r (numbered (resources n) ∷ (es ++ fs)) (numbered (map (without p) (resources (t .ledger .numbers))) ∷ (es ++ fs))
-      (ap (λ (xs : List Resource). numbered xs ∷ (es ++ fs)) numbers-left)
-      (played-on t u r (numbered (resources n) ∷ []) (es ++ fs) N (played-on u v r es fs S R))
+  -- and the rest happens
+  pub settled-on : (es : List Event) (u r : Tables) → Played t (numbered (resources n) ∷ []) u → Played u es r
+      → Played t (numbered (map (without p) (resources (t .ledger .numbers))) ∷ es) r
+  settled-on es u r N R =
+      played-as t r (numbered (resources n) ∷ es) (numbered (map (without p) (resources (t .ledger .numbers))) ∷ es)
+      (ap (λ (xs : List Resource). numbered xs ∷ es) numbers-left)
+      (played-on t u r (numbered (resources n) ∷ []) es N R)
 
 -- no deed alters what stands beside the records
 abbrev aside : State lists → Book
@@ -117,9 +114,9 @@ unfolding endsIn
 ends-is t p n x R = R
 
 -- who wakes stands in two lists
-module _ (t : Tables) (p : ℕ) (y : rules.Release) (d g : Listing) (D : Lists (d .ids) (d .len) (fromDisc (view lists (plain t)) y))
+module _ (t : Tables) (y : rules.Release) (d g : Listing) (D : Lists (d .ids) (d .len) (fromDisc (view lists (plain t)) y))
     (G : Lists (g .ids) (g .len) (fromGeneral (view lists (plain t)) y)) where
-  wake-both : wake (take (d .len) (d .ids)) ++ wake (take (g .len) (g .ids)) ≡ wake (woken (view lists (plain t)) y)
+  pub wake-both : wake (take (d .len) (d .ids)) ++ wake (take (g .len) (g .ids)) ≡ wake (woken (view lists (plain t)) y)
   unfolding woken
   wake-both =
       ap (λ (c : List ℕ). wake c ++ wake (take (g .len) (g .ids))) (D .some)
@@ -127,21 +124,21 @@ module _ (t : Tables) (p : ℕ) (y : rules.Release) (d g : Listing) (D : Lists (
       ∙ sym (wake-append (fromDisc (view lists (plain t)) y) (fromGeneral (view lists (plain t)) y))
 
   -- the tables u, with the numbers of t, are settled
-  pub settles : (u r : Tables) → resources (u .ledger .numbers) ≡ resources (t .ledger .numbers)
+  pub settles : (p : ℕ) (u r : Tables) → resources (u .ledger .numbers) ≡ resources (t .ledger .numbers)
       → Played u (numbered (map (without p) (resources (u .ledger .numbers))) ∷ (wake (take (d .len) (d .ids)) ++ wake (take (g .len) (g .ids)))) r
       → Played u (settle (view lists (plain t)) p y) r
-  settles u r e =
+  settles p u r e =
       played-as u r _ _
       (ap (λ (xs : List Resource). numbered (map (without p) xs) ∷ (wake (take (d .len) (d .ids)) ++ wake (take (g .len) (g .ids)))) e
       ∙ ap (λ (es : List Event). numbered (map (without p) (resources (t .ledger .numbers))) ∷ es) wake-both)
 
   -- p ends itself
-  pub ended-itself : (u r : Tables) → Played t (on p (becomes 0 Nothing) ∷ []) u
+  pub ended-itself : (p : ℕ) (u r : Tables) → Played t (on p (becomes 0 Nothing) ∷ []) u
       → Played u (numbered (map (without p) (resources (u .ledger .numbers))) ∷ (wake (take (d .len) (d .ids)) ++ wake (take (g .len) (g .ids)))) r
       → Played t (on p (becomes 0 Nothing) ∷ settle (view lists (plain t)) p y) r
-  ended-itself u r S R =
+  ended-itself p u r S R =
       played-on t u r (on p (becomes 0 Nothing) ∷ []) (settle (view lists (plain t)) p y) S
-      (settles u r (ap (λ (a : State lists). a .book .resources) (S .state) ∙ ap (λ (b : Book). b .resources) (step-aside p (becomes 0 Nothing) (plain t))) R)
+      (settles p u r (ap (λ (a : State lists). a .book .resources) (S .state) ∙ ap (λ (b : Book). b .resources) (step-aside p (becomes 0 Nothing) (plain t))) R)
 
 -- p is dismissed, and its tracks are freed
 module _ (t : Tables) (k p : ℕ) (O : Orderly t) (x : Tracks)
@@ -172,10 +169,4 @@ module _ (t : Tables) (k p : ℕ) (O : Orderly t) (x : Tracks)
       played-on t u r (dismissed k p) (h ∷ es) S
       (played-on u f r (h ∷ []) es
       (played-as u f (held (holders x) ∷ []) (h ∷ []) (ap (λ (xs : List ℕ). held xs ∷ []) (holds .held)) H)
-      (settles t p y d g D G f r (ap (λ (a : State lists). a .book .resources) (H .state) ∙ ap (λ (b : Book). b .resources) beside) R))
-
--- where no track is freed only chain 3 wakes
-pub woken-number : (t : Tables) (p : ℕ) (g : Listing) → Lists (g .ids) (g .len) (fromGeneral (view lists (plain t)) (ends (view lists (plain t)) p 0)) → length (g .ids) ≡ 32
-    → g .len ≡ length (woken (view lists (plain t)) (ends (view lists (plain t)) p 0))
-unfolding woken endsIn
-woken-number t p g G L = sym (length-take-le (g .len) (g .ids) (omega (arith, G .most, L))) ∙ ap length (G .some)
+      (settles t y d g D G p f r (ap (λ (a : State lists). a .book .resources) (H .state) ∙ ap (λ (b : Book). b .resources) beside) R))

@@ -1,4 +1,4 @@
--- FRESH: the test of the sizes, and the fresh tables piece by piece.
+-- FRESH: what it hands back, and the fresh tables piece by piece.
 -- Assumes nothing.
 use Prim.Native.Nat.{ℕ, _-_, _≤_, _<_}
 use mathlib.Core.Path.{_≡_, refl, sym}
@@ -27,31 +27,9 @@ use Rattle.ledger.proofs.Bools.{last}
 use Rattle.tables.specs.declared.Tables.{Tables}
 use Rattle.tables.specs.Tables.{lay, smallest}
 use Rattle.tables.specs.Calls.{told, made}
-use Rattle.tables.specs.Inner.{Sizes}
-use Rattle.tables.proofs.OperatorPaths.{first-fails, second-fails}
 
--- the sizes
+-- what FRESH hands back
 module _ (T S R : ℕ) where
-  pub no-tracks : T < 1 → false ≡ sizes T S R
-  no-tracks h = sym (first-fails (leb R 16) (first-fails (leb S T) (first-fails (leb T 256) (lt-leb 1 T h))))
-
-  pub many-tracks : 256 < T → false ≡ sizes T S R
-  many-tracks h = sym (first-fails (leb R 16) (first-fails (leb S T) (second-fails (leb 1 T) (lt-leb T 256 h))))
-
-  pub much-system : T < S → false ≡ sizes T S R
-  much-system h = sym (first-fails (leb R 16) (second-fails (upTo 1 256 T) (lt-leb S T h)))
-
-  pub by-numbers : 1 ≤ T → T ≤ 256 → S ≤ T → leb R 16 ≡ sizes T S R
-  by-numbers l m s = last (leb R 16) (and (upTo-is 1 256 T l m) (le-leb S T s))
-
-  pub sizes-true : sizes T S R ≡ true → Sizes T S R
-  sizes-true e =
-      let b = both (upTo 1 256 T && leb S T) (leb R 16) e in
-      let d = both (upTo 1 256 T) (leb S T) (b .0) in
-      let u = upTo-true 1 256 T (d .0) in
-      record { least = u .0; most = u .1; part = leb-true S T (d .1); few = leb-true R 16 (b .1) }
-
-  -- and what FRESH hands back
   pub made-done : (t : Tables) → sizes T S R ≡ true → t ≡ lay (fresh lists T S R) → told (record { answer = Done 0; tables = t }) ≡ made T S R
   unfolding madeBy
   made-done t e f = rw (e, madeBy) (λ i. record { number = 0; values = 0 ∷ []; tables = f i })

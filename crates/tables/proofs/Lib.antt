@@ -14,12 +14,8 @@ pub mod Walking
 pub mod Chained
 pub mod Parted
 pub mod Altered
-pub mod Waiters
+pub mod Waiting
 pub mod Endings
-pub mod OperatorPaths
 pub mod FreshTables
 pub mod Ticks
-pub mod Called
-pub mod TrackPaths
-pub mod SonPaths
-pub mod NumberPaths
+pub mod Carrying

@@ -18,7 +18,7 @@ use Rattle.tables.specs.declared.Tables.{Tables}
 use Rattle.tables.specs.Tables.{plain, Arrays, callerOf}
 use Rattle.tables.specs.Sound.{sound}
 use Rattle.tables.specs.Calls.{Result, told, served, asked, planned}
-use Rattle.tables.specs.Inner.{Orderly, Ready, Tested, callOf}
+use Rattle.tables.specs.Inner.{Ready, Tested}
 use Rattle.tables.proofs.Agree.{sound-clauses}
 use Rattle.tables.proofs.Orderly.{sound-orderly}
 use Rattle.tables.proofs.Serving.{refuses, asked-sound}
@@ -46,17 +46,6 @@ head-known (q ∷ qs) P f h = f q (omega (arith, Rattle.lists.proofs.Laws.same-
 pub caller-known : (t : Tables) → Ready t → 1 ≤ callerOf t → Known (callerOf t)
 caller-known t R = head-known (scheduled lists (plain t)) Known (R .orderly .accounts .fits 1 (omega arith) (omega arith) .within)
 
--- no caller: 2; a caller: what the rule says of it
-module _ (t : Tables) (R : Ready t) (q : Call) where
-  pub no-caller : callerOf t ≡ 0 → told (record { answer = NoCaller; tables = t }) ≡ asked t (running q)
-  unfolding served plan
-  no-caller e =
-      refuses t NoCaller 0 refl
-      ∙ ap (planned t) (sym (caller-none (scheduled lists (plain t)) (λ p. call (view lists (plain t)) p q) e))
-      ∙ sym (asked-sound t (running q) (R .sound))
-
-  pub by-caller : (c : ℕ) → callerOf t ≡ c → 1 ≤ c → planned t (callOf t c q) ≡ asked t (running q)
-  unfolding served plan
-  by-caller c e h =
-      ap (planned t) (sym (caller-is (scheduled lists (plain t)) (λ p. call (view lists (plain t)) p q) c e h))
-      ∙ sym (asked-sound t (running q) (R .sound))
+-- the clock of ready tables
+pub clock-most : (t : Tables) → Ready t → t .ledger .clock .ticks ≤ 1000000000000
+clock-most t R = sound-clauses t (R .sound) .limits .time

@@ -24,7 +24,7 @@ abbrev pub Happens : List Event → Type 0
 Happens [] = ⊥
 Happens (e ∷ es) = Unit {0}
 
-laid-says : (t r : Tables) (es : List Event) → Happens es → Says r (play lists es (plain t)) → r ≡ laid t es
+pub laid-says : (t r : Tables) (es : List Event) → Happens es → Says r (play lists es (plain t)) → r ≡ laid t es
 laid-says t r [] h S = absurd h
 laid-says t r (e ∷ es) h S = sym (orderly-lay r (S .orderly)) ∙ ap lay (S .state)
 

@@ -28,11 +28,14 @@ use Rattle.tables.specs.declared.Tables.{Tables}
 use Rattle.tables.specs.declared.Outcome.{Outcome}
 use Rattle.tables.specs.Tables.{plain}
 use Rattle.tables.specs.Calls.{told, served}
-use Rattle.tables.specs.Inner.{Orderly, Ready, Played}
+use Rattle.tables.specs.Inner.{Orderly, Ready, Played, Counts, tickEvents, startsNow}
 use Rattle.tables.proofs.Agree.{sound-clauses}
 use Rattle.tables.proofs.Serving.{play-append}
 use Rattle.tables.proofs.Endings.{played-as, played-on}
-use Rattle.tables.proofs.OperatorPaths.{second-fails, refusal, success}
+
+second-fails : (a : Bool) {b : Bool} → b ≡ false → (a && b) ≡ false
+second-fails true e = e
+second-fails false e = refl
 
 -- a program at its tick: not due; due, and not dormant; due, and dormant
 module _ (t : Tables) (p : ℕ) (r : Program) (now : ℕ) (O : Orderly t) where
@@ -101,9 +104,6 @@ pub starts-now : (r : Program) (now : ℕ) → r .due ≡ now → r .state ≡ 0
 starts-now r now d e = sym (ap hit (and (eq-eqb (r .due) now d) (eq-eqb (r .state) 0 e)))
 
 -- p is due, and dormant
-abbrev pub starting : Book → ℕ → Bool
-starting b p = dueAt b p && eqb (stateOf b p) 0
-
 -- what a tick does to some programs, one after the other
 abbrev tickedAll : Book → List ℕ → List Event
 tickedAll b c = join (map (λ k. ticked k (at b k)) c)
@@ -116,7 +116,7 @@ pub record Ticking (s t : Tables) (n p : ℕ) : Type 0 where
   pub orderly : Orderly t
   pub left : play lists (tickedAll (plain s .book) (keep (dueAt (plain s .book)) (from p (33 - p)))) (plain t)
       ≡ play lists (tickedAll (plain s .book) (keep (dueAt (plain s .book)) all)) (step lists (clocked (plain s .book .clock + 1)) (plain s))
-  pub number : n + length (keep (starting (plain s .book)) (from p (33 - p))) ≡ length (keep (starting (plain s .book)) all)
+  pub number : n + length (keep (startsNow (plain s .book)) (from p (33 - p))) ≡ length (keep (startsNow (plain s .book)) all)
 
 module _ (s : Tables) where
   pub ticking-start : (now : ℕ) (t : Tables) → now ≡ plain s .book .clock + 1 → Played s (clocked now ∷ []) t → Ticking s t 0 1
@@ -128,7 +128,7 @@ module _ (s : Tables) where
     left =
         ap (λ (xs : List ℕ). play lists (tickedAll (plain s .book) (keep (dueAt (plain s .book)) xs)) (plain t)) from-first
         ∙ ap (play lists (tickedAll (plain s .book) (keep (dueAt (plain s .book)) all))) (S .state ∙ ap (λ (x : ℕ). step lists (clocked x) (plain s)) e);
-    number = zero-plus _ ∙ ap (λ (xs : List ℕ). length (keep (starting (plain s .book)) xs)) from-first;
+    number = zero-plus _ ∙ ap (λ (xs : List ℕ). length (keep (startsNow (plain s .book)) xs)) from-first;
   }
 
   module _ (now n p : ℕ) (t : Tables) (r : Program) (N : now ≡ plain s .book .clock + 1) (X : r ≡ at (plain s .book) p) (T : Ticking s t n p) (h : p ≤ 32) where
@@ -142,19 +142,19 @@ module _ (s : Tables) where
         let B = plain s .book in
         let q = dueAt B p in
         let ks = keep (dueAt B) (from (p + 1) (33 - (p + 1))) in
-        let ns = keep (starting B) (from (p + 1) (33 - (p + 1))) in
-        let k′ : k ≡ hit (starting B p) =
+        let ns = keep (startsNow B) (from (p + 1) (33 - (p + 1))) in
+        let k′ : k ≡ hit (startsNow B p) =
         K ∙ ap (λ (c : Bool). hit (c && eqb (r .state) 0)) due-here ∙ ap (λ (x : Program). hit (q && eqb (x .state) 0)) X in
         let S′ : plain u ≡ play lists (cond q (ticked p (at B p)) []) (plain t) =
         S .state
         ∙ ap (λ (c : Bool). play lists (cond c (ticked p r) []) (plain t)) due-here
         ∙ ap (λ (x : Program). play lists (cond q (ticked p x) []) (plain t)) X in
-        let c : length (keep (starting B) (from p (33 - p))) ≡ hit (starting B p) + length ns =
-        ap (λ (xs : List ℕ). length (keep (starting B) xs)) (from-step p h) ∙ count-step (starting B p) p ns in
+        let c : length (keep (startsNow B) (from p (33 - p))) ≡ hit (startsNow B p) + length ns =
+        ap (λ (xs : List ℕ). length (keep (startsNow B) xs)) (from-step p h) ∙ count-step (startsNow B p) p ns in
         record {
           low = omega arith;
           high = omega arith;
-          few = omega (arith, starts-most (starting B p) k k′);
+          few = omega (arith, starts-most (startsNow B p) k k′);
           orderly = S .orderly;
           left =
               ap (play lists (tickedAll B ks)) S′
@@ -164,25 +164,18 @@ module _ (s : Tables) where
           number = omega arith;
         }
 
-  -- the clock is at its ceiling
-  pub tick-ceiling : Ready s → (r : Outcome) → r ≡ record { answer = AtCeiling; tables = s } → ceiling ≤ plain s .book .clock → told r ≡ served s TICK
-  unfolding served plan
-  tick-ceiling R r E h = refusal s R AtCeiling 0 _ r E refl (need-failed 11 0 _ (le-ltb (plain s .book .clock) ceiling h))
-
-  pub tick-done : (n p : ℕ) (t : Tables) → plain s .book .clock < ceiling → Ticking s t n p → 32 < p → told (record { answer = Done n; tables = t }) ≡ served s TICK
-  unfolding served plan
-  tick-done n p t h T l =
+  -- all are done
+  pub tick-done : (n p : ℕ) (t : Tables) → Ticking s t n p → 32 < p → Counts s (tickEvents (plain s .book)) (keep (startsNow (plain s .book)) all) t n
+  tick-done n p t T l =
       let none = from-last p (omega arith) in
       let B = plain s .book in
-      let m : n ≡ length (keep (starting B) all) =
-      omega (arith, ap (λ (xs : List ℕ). length (keep (starting B) xs)) none) in
-      success s t n (done (n ∷ []) (clocked (plain s .book .clock + 1) ∷ tickedAll B (keep (dueAt B) all))) _ refl refl tt
-      (need-met 11 0 _ (lt-ltb (plain s .book .clock) ceiling h)
-      ∙ ap (λ (k : ℕ). done (k ∷ []) (clocked (plain s .book .clock + 1) ∷ tickedAll B (keep (dueAt B) all))) (sym m))
-      (record {
-        orderly = T .orderly;
-        state = sym (ap (λ (xs : List ℕ). play lists (tickedAll B (keep (dueAt B) xs)) (plain t)) none) ∙ T .left;
-      })
+      record {
+        played = record {
+          orderly = T .orderly;
+          state = sym (ap (λ (xs : List ℕ). play lists (tickedAll B (keep (dueAt B) xs)) (plain t)) none) ∙ T .left;
+        };
+        number = omega (arith, ap (λ (xs : List ℕ). length (keep (startsNow B) xs)) none);
+      }
 
 -- a due and its interval are far below the largest number
 near : (c d : ℕ) → c < ceiling → (d ≢ 0 → d ≤ c + farthest) → Dec (d ≡ 0) → d ≤ ceiling + farthest

@@ -3,28 +3,33 @@
 use Prim.Native.Nat.{ℕ, _+_, _-_, _≤_, _<_}
 use mathlib.Core.Path.{_≡_}
 use mathlib.Core.Logic.{_≢_}
-use mathlib.Core.Bool.{Bool, true}
-use mathlib.Core.List.{List, [], _∷_}
+use mathlib.Core.Bool.{Bool, true, _&&_}
+use mathlib.Core.List.{List, [], _∷_, map}
 use lib.ListN.{length, getD, set, take}
-use Rattle.lists.specs.Lists.{count}
+use lib.Dec.{eqb}
+use Rattle.lists.specs.Lists.{count, keep, join}
+use Rattle.clock.specs.Clock.{ceiling}
 use Rattle.records.specs.declared.Program.{Program}
 use Rattle.records.specs.declared.Numbers.{Numbers}
-use Rattle.records.specs.declared.Why.the-variants.{Nothing}
-use Rattle.records.specs.Records.{Known}
+use Rattle.records.specs.Records.{Known, all}
 use Rattle.records.specs.Inner as numbers
 use Rattle.tracks.specs.declared.Tracks.{Tracks}
 use Rattle.tracks.specs.Tracks.{holders}
 use Rattle.tracks.specs.Inner as tracks
-use Rattle.rules.specs.Book.{stateOf, prioOf}
-use Rattle.rules.specs.Requests.{Call}
-use Rattle.rules.specs.Plans.{Event, Plan, done, on, becomes}
-use Rattle.rules.specs.Rules.{named, inside, call}
+use Rattle.rules.specs.declared.Answer.{Answer}
+use Rattle.rules.specs.Book.{Book, at, stateOf, prioOf}
+use Rattle.rules.specs.Plans.{Event, clocked, Release, fromDisc, fromGeneral}
+use Rattle.rules.specs.Rules.{dueAt, ticked}
 use Rattle.rules.specs.Keeper.{lists, Entries, State, play, view}
 use Rattle.rules.specs.Replay.{Accounts}
+use Rattle.chains.specs.declared.Listing.{Listing}
 use Rattle.chains.specs.Links.{read}
-use Rattle.chains.specs.Inner.{Laid}
+use Rattle.chains.specs.Inner.{Laid, Lists}
+use Rattle.decisions.specs.declared.Effect.{Effect}
+use Rattle.decisions.specs.Inner.{eventsFor, replyFor, Apt}
 use Rattle.tables.specs.declared.Tables.{Tables}
-use Rattle.tables.specs.Tables.{plain, callerOf}
+use Rattle.tables.specs.Tables.{plain}
+use Rattle.tables.specs.Calls.{Result, laid}
 use Rattle.tables.specs.Sound.{sound}
 
 -- Tables in order: the links lay out chains that some entries account for, and the tables of tracks and numbers are as they are made. What a call does
@@ -111,40 +116,69 @@ pub record CanSettle (t : Tables) (ids : List ℕ) (len : ℕ) (ids′ : List �
   pub first : CanWake t ids len
   pub second : CanWake t ids′ len′
 
--- the program of a name goes from one state to another
-abbrev pub shift : Tables → List ℕ → ℕ → ℕ → Plan
-shift t nm from to = named (view lists (plain t)) nm (λ p. inside (view lists (plain t)) p from (done (0 ∷ []) (on p (becomes to Nothing) ∷ [])))
-
--- what program c calls for
-abbrev pub callOf : Tables → ℕ → Call → Plan
-callOf t c q = call (view lists (plain t)) c q
-
--- the tables are ready, and c is the caller
-pub record Calls (t : Tables) (c : ℕ) : Type 0 where
-  pub ready : Ready t
-  pub known : Known c
-  pub caller : callerOf t ≡ c
-
 -- p, which holds n tracks, can be ended
 pub record CanEnd (t : Tables) (p n : ℕ) : Type 0 where
   pub orderly : Orderly t
   pub known : Known p
   pub held : n ≡ count p (holders (t .ledger .tracks))
 
--- the tables after some events, and how many are woken by them
-pub record Woke (t : Tables) (es : List Event) (c : List ℕ) (r : Tables) (n : ℕ) : Type 0 where
+-- the tables after some events, and how many are woken or started by them
+pub record Counts (t : Tables) (es : List Event) (c : List ℕ) (r : Tables) (n : ℕ) : Type 0 where
   pub played : Played t es r
   pub number : n ≡ length c
 
--- T tracks, S of them the system's, and R numbers are tables
-pub record Sizes (T S R : ℕ) : Type 0 where
-  pub least : 1 ≤ T
-  pub most : T ≤ 256
-  pub part : S ≤ T
-  pub few : R ≤ 16
+-- those who wake by a release, in two lists of at most 32
+pub record Awaits (t : Tables) (y : Release) (d g : Listing) : Type 0 where
+  pub disc : Lists (d .ids) (d .len) (fromDisc (view lists (plain t)) y)
+  pub general : Lists (g .ids) (g .len) (fromGeneral (view lists (plain t)) y)
+
+pub record Few (m n : ℕ) : Type 0 where
+  pub disc : m ≤ 32
+  pub general : n ≤ 32
+
+-- n tracks from i on are there; r is one of the numbers; p and c are programs
+pub record CanFill (t : Tables) (i n : ℕ) : Type 0 where
+  pub orderly : Orderly t
+  pub within : i + n ≤ t .ledger .tracks .count
+
+pub record CanPut (t : Tables) (r : ℕ) : Type 0 where
+  pub orderly : Orderly t
+  pub low : 1 ≤ r
+  pub high : r ≤ t .ledger .numbers .count
+
+pub record CanAwait (p c : ℕ) (t : Tables) : Type 0 where
+  pub orderly : Orderly t
+  pub known : Known p
+  pub caller : Known c
 
 -- the due and interval of a record r can be added up
 pub record CanTick (t : Tables) (p : ℕ) (r : Program) : Type 0 where
   pub orderly : Orderly t
   pub known : Known p
   pub fits : r .due + r .interval ≤ 18446744073709551615
+
+-- a tick: what happens, and who is started
+pub record CanTickOn (t : Tables) : Type 0 where
+  pub ready : Ready t
+  pub below : t .ledger .clock .ticks < ceiling
+
+abbrev pub tickEvents : Book → List Event
+tickEvents b = clocked (b .clock + 1) ∷ join (map (λ p. ticked p (at b p)) (keep (dueAt b) all))
+
+abbrev pub startsNow : Book → ℕ → Bool
+startsNow b p = dueAt b p && eqb (stateOf b p) 0
+
+-- what is decided, made of ready tables
+pub record CanCarry (t : Tables) (e : Effect) : Type 0 where
+  pub ready : Ready t
+  pub apt : Apt (view lists (plain t)) e
+
+abbrev pub carried : Tables → List ℕ → Answer → Effect → Result
+carried t nm a e = record {
+  number = replyFor (view lists (plain t)) a e .0;
+  values = replyFor (view lists (plain t)) a e .1;
+  tables = laid t (eventsFor (view lists (plain t)) nm e);
+}
+
+abbrev pub counted : ℕ → Tables → Result
+counted n t = record { number = 0; values = n ∷ []; tables = t }

@@ -4,4 +4,3 @@ pub mod Calls
 pub mod Demand
 pub mod Inner
 pub mod Walks
-pub mod Releasing

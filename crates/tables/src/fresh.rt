@@ -1,10 +1,9 @@
 // FRESH: new tables, which takes none.
 ghost use mathlib.Core.Path.{_≡_};
-ghost use Rattle.rules.specs.Rules.{sizes};
 ghost use Rattle.rules.specs.Keeper.{lists, fresh};
 ghost use Rattle.tables.specs.Tables.{lay};
 ghost use Rattle.tables.specs.Calls.{told, made};
-ghost use Rattle.tables.specs.Inner.{Sizes};
+ghost use Rattle.decisions.specs.Inner.{Sizes};
 use super::Outcome;
 use super::Tables;
 use clock::Clock;
@@ -13,28 +12,12 @@ use records::Numbers;
 use rules::Answer;
 use tracks::Tracks;
 
-// Whether tables may have these sizes.
-fn allowed(tracks: u64, system: u64, numbers: u64) -> bool
-    ensures { λ r. ⌜ r ≡ sizes tracks system numbers ⌝ }
-{
-    if tracks < 1 {
-        return false;
-    }
-    if 256 < tracks {
-        return false;
-    }
-    if tracks < system {
-        return false;
-    }
-    numbers <= 16
-}
-
 impl Tables {
     // FRESH: the smallest tables where the sizes are not allowed.
     pub fn fresh(tracks: u64, system: u64, numbers: u64) -> Outcome
         ensures { λ r. ⌜ told r ≡ made tracks system numbers ⌝ }
     {
-        if allowed(tracks, system, numbers) {
+        if decisions::is_sized(tracks, system, numbers) {
             return Outcome {
                 answer: Answer::Done(0),
                 tables: Tables::empty(tracks as u16, system as u16, numbers as u8),
@@ -47,7 +30,7 @@ impl Tables {
     }
 
     // Clock 0, no record used, every track from `system` up and every number free.
-    fn empty(tracks: u16, system: u16, numbers: u8) -> Tables
+    pub(crate) fn empty(tracks: u16, system: u16, numbers: u8) -> Tables
         requires { ⌜ Sizes tracks system numbers ⌝ }
         ensures { λ t. ⌜ t ≡ lay (fresh lists tracks system numbers) ⌝ }
     {

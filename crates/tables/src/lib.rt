@@ -1,17 +1,17 @@
 // The executive's tables, and what a call hands back.
+mod asking;
 mod base;
+mod calls;
 mod changes;
-mod disc;
 mod ending;
 mod fresh;
 mod moves;
-mod operator;
-mod resources;
-mod sons;
+mod releasing;
 mod sound;
 mod ticking;
 mod waking;
 
+use chains::Listing;
 use ledger::Ledger;
 use rules::Answer;
 
@@ -26,8 +26,14 @@ pub struct Outcome {
     pub tables: Tables,
 }
 
-// The tables, and how many programs were woken.
-pub struct Woken {
+// The tables, and how many programs were woken or started.
+pub struct Counted {
     pub tables: Tables,
-    pub woken: usize,
+    pub number: u64,
+}
+
+// Those who will wake: of chain 5, and of chain 3.
+pub struct Waiters {
+    pub disc: Listing,
+    pub general: Listing,
 }

@@ -2,11 +2,12 @@
 ghost use mathlib.Core.Path.{_≡_};
 ghost use mathlib.Core.List.{[], _∷_};
 ghost use Rattle.records.specs.Records.{Known};
+ghost use Rattle.records.specs.declared.Why.the-variants.{Nothing, Son};
 ghost use Rattle.rules.specs.Book.{at};
 ghost use Rattle.rules.specs.Plans.{becomes, priced, loaded, unloaded, timed, on};
 ghost use Rattle.rules.specs.Keeper.{lists, leave, enter, amend};
 ghost use Rattle.tables.specs.Tables.{plain};
-ghost use Rattle.tables.specs.Inner.{Says, Played, CanTurn, CanJoin, CanAmend, CanBecome, withRecord};
+ghost use Rattle.tables.specs.Inner.{Says, Played, CanTurn, CanJoin, CanAmend, CanBecome, CanAwait, withRecord};
 use super::Tables;
 use records::Program;
 use records::Why;
@@ -91,6 +92,15 @@ impl Tables {
     {
         let t = self.left(p);
         t.entered(p, state, why)
+    }
+
+    // p is sent off, and c waits for it.
+    pub(crate) fn awaited(self, p: u8, c: u8) -> Tables
+        requires { ⌜ CanAwait p c self ⌝ }
+        ensures { λ t. ⌜ Played self (on p (becomes 1 Nothing) ∷ on c (becomes 3 (Son p)) ∷ []) t ⌝ }
+    {
+        let t = self.becomes(p, 1, Why::Nothing);
+        t.becomes(c, 3, Why::Son(p))
     }
 
     // p is priced anew, and enters its chain anew.

@@ -4,17 +4,15 @@ ghost use mathlib.Core.Path.{_≡_};
 ghost use mathlib.Core.Bool.{cond, _&&_};
 ghost use mathlib.Core.List.{[]};
 ghost use lib.Dec.{eqb};
-ghost use Rattle.lists.specs.Lists.{hit};
-ghost use Rattle.rules.specs.Requests.{TICK};
-ghost use Rattle.tables.specs.Calls.{told, served, asked};
+ghost use Rattle.lists.specs.Lists.{hit, keep};
+ghost use Rattle.records.specs.Records.{all};
 ghost use Rattle.rules.specs.Rules.{ticked};
-ghost use Rattle.tables.specs.Inner.{Ready, Played, CanTick};
-use super::Outcome;
+ghost use Rattle.tables.specs.Inner.{Played, CanTick, CanTickOn, Counts, tickEvents, startsNow};
+ghost use Rattle.tables.specs.Tables.{plain};
+use super::Counted;
 use super::Tables;
-use clock::Clock;
 use records::Program;
 use records::Why;
-use rules::Answer;
 
 // The due that follows: none without an interval.
 fn next_due(due: u64, interval: u64) -> u64
@@ -41,25 +39,13 @@ fn starts(r: Program, now: u64) -> u64
 }
 
 impl Tables {
-    // TICK: the number of programs that it starts.
-    pub fn tick(self) -> Outcome
-        ensures { λ r. ⌜ told r ≡ asked self TICK ⌝ }
-    {
-        if self.tested() {
-            return self.tick_ready();
-        }
-        self.refused(Answer::NotSound)
-    }
-
-    fn tick_ready(self) -> Outcome
-        requires { ⌜ Ready self ⌝ }
-        ensures { λ r. ⌜ told r ≡ served self TICK ⌝ }
+    // TICK, where the clock stands below its ceiling; how many programs it starts.
+    pub(crate) fn ticked_on(self) -> Counted
+        requires { ⌜ CanTickOn self ⌝ }
+        ensures { λ r. ⌜ Counts self (tickEvents (plain self .book)) (keep (startsNow (plain self .book)) all) (r .tables) (r .number) ⌝ }
     {
         let book = self.ledger;
         let ticks = book.clock.ticks;
-        if Clock::CEILING <= ticks {
-            return self.refused(Answer::AtCeiling);
-        }
         let now = ticks + 1;
         let mut t = self.clocked(now);
         let mut n: u64 = 0;
@@ -74,9 +60,9 @@ impl Tables {
             t = t.ticked(p, r, now);
             p += 1;
         }
-        Outcome {
-            answer: Answer::Done(n),
+        Counted {
             tables: t,
+            number: n,
         }
     }
 

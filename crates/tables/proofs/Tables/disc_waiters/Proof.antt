@@ -1,7 +1,7 @@
 -- `tables::Tables::disc_waiters` meets its contract.
 -- Assumes nothing.
 use native.Mathlib.Omega.{arith}
-use Rattle.tables.proofs.Waiters.{listed-chain, disc-none, disc-all}
+use Rattle.tables.proofs.Waiting.{listed-chain, disc-none, disc-all}
 use borrow.Author.Needs.{needs}
 use Rattle.tables.proofs.Tables.disc_waiters.Statement.{statement}
 use Rattle.tables.proofs.Tables.disc_waiters.Tie as tie

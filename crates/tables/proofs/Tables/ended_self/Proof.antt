@@ -1,63 +1,39 @@
--- `tables::Tables::ended_self` meets its contract.
--- Assumes nothing.
+-- `tables::Tables::ended_self` meets its contract. Assumes nothing.
+use borrow.Author.Needs.{needs}
 use mathlib.Core.Path.{_≡_}
 use lib.ListN.{length}
-use Rattle.tables.proofs.Waiters.{can-settle}
-use Rattle.tables.proofs.Endings.{ends-is, ended-itself, woken-number}
-use borrow.Author.Needs.{needs}
+use Rattle.rules.specs.Rules.{ends}
+use Rattle.rules.specs.Keeper.{lists, view}
+use Rattle.tables.specs.Tables.{plain}
+use Rattle.tables.specs.Inner.{Awaits}
+use Rattle.tables.proofs.Endings.{ends-is, ended-itself}
+use Rattle.tables.proofs.Carrying.{can-rouse, roused-number}
 use Rattle.tables.proofs.Tables.ended_self.Statement.{statement}
 use Rattle.tables.proofs.Tables.ended_self.Tie as tie
-use Rattle.tables.proofs.Tables.ended_self.Reads as reads
-use Rattle.tables.proofs.Tables.ended_self.Lts as lts
-use Rattle.ledger.proofs.Release.of_ending.Reads as of-ending-reads
-use Rattle.tables.proofs.Tables.becomes.Reads as becomes-reads
-use Rattle.tables.proofs.Tables.disc_waiters.Reads as disc-waiters-reads
-use Rattle.tables.proofs.Tables.general_waiters.Reads as general-waiters-reads
-use Rattle.tables.proofs.Tables.settled.Reads as settled-reads
 
-of-ending-requires : tie.Need-of-ending-requires
-of-ending-requires c κs = search needs
+abbrev S : tie.After-waiters → tie.Start
+S w = w .before .before .before .before
 
-disc-waiters-requires : tie.Need-disc-waiters-requires
-disc-waiters-requires c κs = search needs
+those : (w : tie.After-waiters) → Awaits (S w .args .self) (ends (view lists (plain (S w .args .self))) (S w .args .p) 0) (w .waiters .result .disc) (w .waiters .result .general)
+those w = w .waiters .ensures _ (ends-is (S w .args .self) (S w .args .p) 0 _ (w .before .of-ending .ensures))
 
-general-waiters-requires : tie.Need-general-waiters-requires
-general-waiters-requires c κs = search needs
-
-becomes-requires : tie.Need-becomes-requires
-becomes-requires c κs = search needs
+long : (w : tie.After-waiters) → (length (w .waiters .result .disc .ids) ≡ 32) × (length (w .waiters .result .general .ids) ≡ 32)
+long w = (search needs, search needs)
 
 settled-requires : tie.Need-settled-requires
-settled-requires c κs =
-    let g = c .before in
-    let o = g .before .before in
-    let s = o .before .before .before in
-    let E = ends-is (s .args .self) (s .args .p) 0 _ (o .of-ending .ensures) in
-    can-settle _ (s .pre .orderly) _ _ _ (g .before .disc-waiters .ensures _ E) (g .general-waiters .ensures _ E) _ (c .becomes .ensures .orderly)
+settled-requires c κs = can-rouse _ (S (c .before) .pre .orderly) _ _ _ (those (c .before)) _ (c .becomes .ensures .orderly)
 
-long : (g : tie.After-general-waiters) → length (g .general-waiters .result .ids) ≡ 32
-long g = search needs
+how-many-requires : tie.Need-how-many-requires
+how-many-requires c κs = let W = those (c .before .before) in record { disc = W .disc .most; general = W .general .most }
 
 returns : tie.Need-returns
 returns c =
-    let b = c .before in
-    let g = b .before in
-    let o = g .before .before in
-    let s = o .before .before .before in
-    let E = ends-is (s .args .self) (s .args .p) 0 _ (o .of-ending .ensures) in
-    let G = g .general-waiters .ensures _ E in
+    let b = c .before .before in
+    let w = b .before in
     record {
-      played = ended-itself (s .args .self) (s .args .p) _ _ _ (g .before .disc-waiters .ensures _ E) G _ _ (b .becomes .ensures) (c .settled .ensures);
-      number = woken-number (s .args .self) (s .args .p) _ G (long g);
+      played = ended-itself _ _ _ _ (those w .disc) (those w .general) (S w .args .p) _ _ (b .becomes .ensures) (c .before .settled .ensures);
+      number = roused-number _ (S w .pre .orderly) _ _ _ (those w) _ (c .how-many .ensures) (long w .0) (long w .1);
     }
 
 pub ended-self-spec : {M : Type 1} → statement M
-ended-self-spec =
-    tie.close
-    (tie.spec
-    of-ending-requires
-    disc-waiters-requires
-    general-waiters-requires
-    becomes-requires
-    settled-requires
-    returns)
+ended-self-spec = tie.close (tie.spec (λ c κs. search needs) (λ c κs. search needs) (λ c κs. search needs) settled-requires how-many-requires returns)

@@ -1,33 +1,26 @@
--- `tables::Tables::freed` meets its contract: nobody else waits for tracks but the programs of chain 5.
--- Assumes nothing.
-use Rattle.tables.proofs.TrackPaths.{can-rouse, freed-on}
+-- `tables::Tables::freed` meets its contract. Assumes nothing.
 use borrow.Author.Needs.{needs}
+use mathlib.Core.List.{[], _∷_}
+use Rattle.tracks.specs.Tracks.{holders}
+use Rattle.rules.specs.Plans.{held, wake, woken}
+use Rattle.rules.specs.Rules.{frees}
+use Rattle.rules.specs.Keeper.{lists, view}
+use Rattle.tables.specs.Tables.{plain}
+use Rattle.tables.proofs.Endings.{played-on}
+use Rattle.tables.proofs.Carrying.{can-rouse, roused}
 use Rattle.tables.proofs.Tables.freed.Statement.{statement}
 use Rattle.tables.proofs.Tables.freed.Tie as tie
 
-of-tracks-requires : tie.Need-of-tracks-requires
-of-tracks-requires c κs = search needs
-
-disc-waiters-requires : tie.Need-disc-waiters-requires
-disc-waiters-requires c κs = search needs
-
-held-requires : tie.Need-held-requires
-held-requires c κs = search needs
-
-wake-requires : tie.Need-wake-requires
-wake-requires c κs =
-    let d = c .before in
-    let o = d .before in
-    can-rouse _ (o .before .pre .orderly) _ _ (d .disc-waiters .ensures _ (o .of-tracks .ensures)) _ (c .held .ensures .orderly)
+roused-requires : tie.Need-roused-requires
+roused-requires c κs = let w = c .before in can-rouse _ (w .before .before .pre .orderly) _ _ _ (w .waiters .ensures _ (w .before .of-tracks .ensures)) _ (c .held .ensures .orderly)
 
 returns : tie.Need-returns
 returns c =
     let h = c .before in
-    let d = h .before in
-    let o = d .before in
-    freed-on _ (o .before .pre .orderly) _ _ (d .disc-waiters .ensures _ (o .of-tracks .ensures)) _ _ _ (h .held .ensures) (c .wake .ensures)
+    let w = h .before in
+    let s = w .before .before in
+    played-on _ _ _ (held (holders (s .args .tracks)) ∷ []) (wake (woken (view lists (plain (s .args .self))) (frees (s .args .n)))) (h .held .ensures)
+    (roused _ (s .pre .orderly) _ _ _ (w .waiters .ensures _ (w .before .of-tracks .ensures)) _ _ (c .roused .ensures))
 
 pub freed-spec : {M : Type 1} → statement M
-freed-spec =
-    tie.close
-    (tie.spec of-tracks-requires disc-waiters-requires held-requires wake-requires returns)
+freed-spec = tie.close (tie.spec (λ c κs. search needs) (λ c κs. search needs) (λ c κs. search needs) roused-requires returns)

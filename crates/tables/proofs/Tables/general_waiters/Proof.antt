@@ -1,7 +1,7 @@
 -- `tables::Tables::general_waiters` meets its contract.
 -- Assumes nothing.
 use native.Mathlib.Omega.{arith}
-use Rattle.tables.proofs.Waiters.{listed-chain, listed-less, general-all}
+use Rattle.tables.proofs.Waiting.{listed-chain, listed-less, general-all}
 use borrow.Author.Needs.{needs}
 use Rattle.tables.proofs.Tables.general_waiters.Statement.{statement}
 use Rattle.tables.proofs.Tables.general_waiters.Tie as tie
