@@ -20,7 +20,7 @@ use Rattle.records.specs.declared.Why.the-variants.{Nothing}
 use Rattle.records.specs.Records.{Known, known, missing, unused, inState, withPriority, withTimer, newcomer}
 use Rattle.rules.specs.Book.{Book, at, stateOf, prioOf, whyOf, put, withClock, withHolders, withResources, freshBook}
 use Rattle.rules.specs.Requests.{Request}
-use Rattle.rules.specs.Plans.{Deed, becomes, priced, loaded, unloaded, timed, Event, on, clocked, held, numbered, renewed, numberOf, valuesOf, eventsOf}
+use Rattle.rules.specs.Plans.{Deed, becomes, wakes, priced, loaded, unloaded, timed, Event, on, clocked, held, numbered, renewed, numberOf, valuesOf, eventsOf}
 use Rattle.rules.specs.Rules.{plan}
 use Rattle.rules.specs.Keeper.{lists, Entries, entries, sorted, State, leave, enter, amend, act, step, play, view, scheduled, asks, after, fresh}
 use Rattle.rules.specs.Replay.{Fits}
@@ -250,9 +250,13 @@ module _ (p : ℕ) (P : Known p) where
   pub left-state : (a : State lists) → length (a .book .programs) ≡ 32 → stateOf (leave lists p a .book) p ≡ 0
   left-state a L = state-same (a .book) L p P (inState 0 Nothing (at (a .book) p))
 
+  shift-alike : (s : ℕ) (w : Why) (a : State lists) (t : State entries) → Alike a t → Alike (enter lists p s w (leave lists p a)) (enter entries p s w (leave entries p t))
+  shift-alike s w a t A = enter-alike s w (leave lists p a) (leave entries p t) (leave-alike a t A) (left-state a (A .noted .long))
+
   pub act-alike : (d : Deed) (a : State lists) (t : State entries) → Alike a t → Alike (act lists p d a) (act entries p d t)
   unfolding act
-  act-alike (becomes s w) a t A = enter-alike s w (leave lists p a) (leave entries p t) (leave-alike a t A) (left-state a (A .noted .long))
+  act-alike (becomes s w) a t A = shift-alike s w a t A
+  act-alike wakes a t A = shift-alike 1 Nothing a t A
   act-alike (priced n) a t A =
       one-book (λ u. Alike (act lists p (priced n) a) (act entries p (priced n) u)) t (a .book) (A .book)
       (enter-alike (stateOf (a .book) p) (whyOf (a .book) p) (amend lists p r u) (amend entries p r v)

@@ -11,10 +11,10 @@ use Rattle.records.specs.declared.Program.{Program}
 use Rattle.records.specs.declared.Resource.{Resource}
 use Rattle.records.specs.declared.Why.the-variants.{Son}
 use Rattle.records.specs.Records.{Known, recordAt}
-use Rattle.rules.specs.Book.{Book, at, stateOf, whyOf}
-use Rattle.rules.specs.Plans.{Deed, becomes, priced, loaded, unloaded, timed, on, held, numbered}
-use Rattle.rules.specs.Keeper.{Keeper, lists, State, act, step}
-use Rattle.rules.proofs.Deeds.{made, Turned, act-turned, step-act}
+use Rattle.rules.specs.Book.{Book, at, stateOf, whyOf, put}
+use Rattle.rules.specs.Plans.{Deed, on, held, numbered}
+use Rattle.rules.specs.Keeper.{lists, State, act, step}
+use Rattle.rules.proofs.Deeds.{made, Turned, turned-put, act-put, step-put}
 use Rattle.rules.proofs.Chaining.{Ordered, act-order}
 use Rattle.rules.proofs.Fine.{Slack, Right, Sonny, Uses, Tracked, Owned, Numbered, Fine}
 
@@ -48,7 +48,7 @@ pub numbered-map : (U W : ℕ → Type 0) (R : ℕ) (xs : List Resource) → ((h
 numbered-map U W R xs f t = record { long = t .long; each = λ r l m. owned-map U W _ f (t .each r l m) }
 
 -- the book with other records
-abbrev pub over : List Program → Book → Book
+abbrev over : List Program → Book → Book
 over ps b = record {
   programs = ps;
   clock = b .clock;
@@ -153,25 +153,13 @@ module _ (e : Slack) (a : State lists) (F : Fine e a) (p : ℕ) (P : Known p) (r
     time = F .time;
   }
 
--- a deed alters the records only
-act-over : (K : Keeper) (p : ℕ) (d : Deed) (t : State K)
-    → act K p d t ≡ record { book = over (act K p d t .book .programs) (t .book); kept = act K p d t .kept }
-unfolding act
-act-over K p (becomes s w) t = refl
-act-over K p (priced n) t = refl
-act-over K p (loaded nm n) t = refl
-act-over K p unloaded t = refl
-act-over K p (timed d i) t = refl
-
-pub step-over : (K : Keeper) (p : ℕ) → Known p → (d : Deed) (t : State K)
-    → step K (on p d) t ≡ record { book = over (act K p d t .book .programs) (t .book); kept = act K p d t .kept }
-step-over K p P d t = step-act K p P d t ∙ act-over K p d t
-
+-- a deed puts one record, and keeps the chains in order
 pub fine-on : (e : Slack) (p : ℕ) → Known p → (d : Deed) (a : State lists) → Fine e a → Apt e (a .book) p (made d (at (a .book) p)) → Fine e (step lists (on p d) a)
 fine-on e p P d a F A =
-    subst (Fine e) (sym (step-over lists p P d a))
-    (fine-put e a F p P (made d (at (a .book) p)) A (act lists p d a .book .programs) (act-turned lists p P a (F .order .long) d)
-    (act lists p d a .kept) (act-order p P d a (F .order)))
+    let r : Program = made d (at (a .book) p) in
+    subst (Fine e) (sym (step-put lists p P d a))
+    (fine-put e a F p P r A (put p r (a .book) .programs) (turned-put (a .book) p r P (F .order .long)) (act lists p d a .kept)
+    (subst (λ (u : State lists). Ordered (u .book .programs) (u .kept)) (act-put lists p d a) (act-order p P d a (F .order))))
 
 -- tracks and numbers may pass to others
 pub fine-held : (e : Slack) (xs : List ℕ) (a : State lists) → Fine e a

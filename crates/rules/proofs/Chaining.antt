@@ -14,9 +14,10 @@ use Rattle.lists.specs.Lists.{same, count, insert, remove, Ascending}
 use Rattle.lists.proofs.Laws.{same-eq}
 use Rattle.records.specs.declared.Program.{Program}
 use Rattle.records.specs.declared.Why.{Why}
+use Rattle.records.specs.declared.Why.the-variants.{Nothing}
 use Rattle.records.specs.Records.{Known, recordAt, withPriority}
 use Rattle.rules.specs.Book.{at, stateOf, prioOf, whyOf}
-use Rattle.rules.specs.Plans.{Deed, becomes, priced, loaded, unloaded, timed}
+use Rattle.rules.specs.Plans.{Deed, becomes, wakes, priced, loaded, unloaded, timed}
 use Rattle.rules.specs.Keeper.{lists, entries, State, leave, enter, amend, act}
 use Rattle.rules.specs.Sound.{Chains}
 use Rattle.rules.proofs.Alike.{Alike, act-alike}
@@ -72,6 +73,7 @@ enter-dormant p s w a = spared s (a .kept) (insert (prioOf (enter lists p s w a 
 act-dormant : (p : ℕ) (d : Deed) (a : State lists) → getD (a .kept) 0 [] ≡ [] → getD (act lists p d a .kept) 0 [] ≡ []
 unfolding act
 act-dormant p (becomes s w) a e = enter-dormant p s w (leave lists p a) (leave-dormant p a e)
+act-dormant p wakes a e = enter-dormant p 1 Nothing (leave lists p a) (leave-dormant p a e)
 act-dormant p (priced n) a e =
     enter-dormant p (stateOf (a .book) p) (whyOf (a .book) p) (amend lists p (withPriority n (at (leave lists p a .book) p)) (leave lists p a)) (leave-dormant p a e)
 act-dormant p (loaded nm n) a e = leave-dormant p a e

@@ -25,7 +25,8 @@ use Rattle.rules.specs.Keeper.{lists, State, step, play, view, scheduled
 use Rattle.rules.specs.Sound.{Sound}
 use Rattle.rules.specs.Counts.{awoken, roused}
 use Rattle.rules.proofs.Places.{known-true, known-is, all-one, all-in}
-use Rattle.rules.proofs.Rising.{Rise, clocks, numbers, wake-rises, tick-rises, rise-in, rise-out, becomes-same, becomes-other, becomes-long}
+use Rattle.rules.proofs.Deeds.{step-turned}
+use Rattle.rules.proofs.Rising.{Rise, clocks, numbers, wake-rises, tick-rises, rise-in, rise-out, state-here, state-there}
 use Rattle.rules.proofs.IfDone.{IfDone, if-need, if-either, if-called, if-allocated}
 use Rattle.rules.proofs.Settling.{settle}
 use Rattle.rules.proofs.Freed.{off-frees, own-frees, global-frees, each-frees}
@@ -157,13 +158,13 @@ module _ (a : State lists) (S : Sound a) where
         so = λ z. ap (λ (n : ℕ). n ∷ [])
             (woken-awoken (ends v c 0) refl (step lists (on c (becomes 0 Nothing)) a) (settle v c (ends v c 0))
             (numbers (wake-rises (woken v (ends v c 0)) (woken-known (ends v c 0) refl)))
-            (becomes-long lists a c C (S .shape .programs) 0 Nothing) (λ x X k. before c C x X k (ℕ-discrete x c)));
+            (step-turned lists c C (becomes 0 Nothing) a (S .shape .programs) .long) (λ x X k. before c C x X k (ℕ-discrete x c)));
       })
     where
       before : (c : ℕ) → Known c → (x : ℕ) → Known x → stateOf (step lists (on c (becomes 0 Nothing)) a .book) x ≡ 1 → Dec (x ≡ c) → stateOf (a .book) x ≡ 1
       before c C x X k (yes e) =
-          absurd (omega (arith, ap (stateOf (step lists (on c (becomes 0 Nothing)) a .book)) e, becomes-same lists a c C (S .shape .programs) 0 Nothing))
-      before c C x X k (no n) = sym (becomes-other lists a c C (S .shape .programs) 0 Nothing x X n) ∙ k
+          absurd (omega (arith, ap (stateOf (step lists (on c (becomes 0 Nothing)) a .book)) e, state-here lists c C (becomes 0 Nothing) a (S .shape .programs)))
+      before c C x X k (no n) = sym (state-there lists c C (becomes 0 Nothing) a (S .shape .programs) x X n) ∙ k
 
   clearing-wakes : (r : ℕ) → IfDone Wakes (asks lists a (running (CLEAR r)))
   unfolding plan call clears

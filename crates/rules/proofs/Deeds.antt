@@ -1,25 +1,67 @@
--- What a deed leaves of the records: the program's own becomes what the deed says, and the others stay. Each deed puts a record once or twice at one place.
+-- What a deed leaves of the book: the program's own record becomes what the deed says, and nothing else changes. A deed may put records more than once, but at one place.
 -- Assumes nothing.
-use Prim.Native.Nat.{ℕ}
-use mathlib.Core.Path.{_≡_, sym, ap, _∙_, subst}
+use Prim.Native.Nat.{ℕ, zero, suc, _-_}
+use mathlib.Core.Path.{_≡_, refl, sym, ap, _∙_, subst}
 use mathlib.Core.Logic.{_≢_}
-use mathlib.Core.List.{List}
-use lib.ListN.{length}
+use mathlib.Core.List.{List, [], _∷_}
+use lib.ListN.{length, getD, set}
 use Rattle.records.specs.declared.Program.{Program}
 use Rattle.records.specs.declared.Why.the-variants.{Nothing}
-use Rattle.records.specs.Records.{Known, recordAt, unused, newcomer, inState, withPriority, withTimer}
-use Rattle.rules.specs.Book.{Book, at, put}
-use Rattle.rules.specs.Plans.{Deed, becomes, priced, loaded, unloaded, timed, on}
+use Rattle.records.specs.Records.{Known, recordAt, missing, unused, newcomer, inState, withPriority, withTimer}
+use Rattle.rules.specs.Book.{Book, at, put, altered}
+use Rattle.rules.specs.Plans.{Deed, becomes, wakes, priced, loaded, unloaded, timed, on}
 use Rattle.rules.specs.Keeper.{Keeper, State, act, step}
 use Rattle.rules.proofs.Places.{known-is, at-same, at-other, put-long}
 
 -- the record after a deed
 abbrev pub made : Deed → Program → Program
 made (becomes s w) r = inState s w r
+made wakes r = inState 1 Nothing r
 made (priced n) r = withPriority n r
 made (loaded nm n) r = newcomer nm n
 made unloaded r = unused
 made (timed d i) r = withTimer d i r
+
+-- a record made of the one just put
+set-again : (ps : List Program) (i : ℕ) (r : Program) (f : Program → Program) → set (set ps i r) i (f (getD (set ps i r) i missing)) ≡ set ps i (f r)
+set-again [] i r f = refl
+set-again (x ∷ xs) zero r f = refl
+set-again (x ∷ xs) (suc i) r f = ap (λ (ys : List Program). x ∷ ys) (set-again xs i r f)
+
+module _ (K : Keeper) (p : ℕ) where
+  -- the state with other records and another order kept
+  abbrev with : State K → K .Kept → List Program → State K
+  with t k ps = record { book = altered (t .book) ps (t .book .clock) (t .book .holders) (t .book .resources); kept = k }
+
+  -- p leaves its chain, and a record is made of the one that it has then
+  abbrev once-more : State K → K .Kept → (Program → Program) → State K
+  once-more t k f =
+      let ps : List Program = set (t .book .programs) (p - 1) (inState 0 Nothing (at (t .book) p)) in
+      with t k (set ps (p - 1) (f (getD ps (p - 1) missing)))
+
+  left-made : (t : State K) (k : K .Kept) (f : Program → Program) → once-more t k f ≡ with t k (set (t .book .programs) (p - 1) (f (inState 0 Nothing (at (t .book) p))))
+  left-made t k f = ap (with t k) (set-again (t .book .programs) (p - 1) (inState 0 Nothing (at (t .book) p)) f)
+
+  pub act-put : (d : Deed) (t : State K) → act K p d t ≡ record { book = put p (made d (at (t .book) p)) (t .book); kept = act K p d t .kept }
+  unfolding act
+  act-put (becomes s w) t = left-made t _ (inState s w)
+  act-put wakes t = left-made t _ (inState 1 Nothing)
+  act-put (priced n) t =
+      let s = at (t .book) p .state in
+      let w = at (t .book) p .why in
+      ap (λ (u : State K). with t (act K p (priced n) t .kept) (set (u .book .programs) (p - 1) (inState s w (getD (u .book .programs) (p - 1) missing)))) (left-made t (t .kept) (withPriority n))
+      ∙ ap (with t _) (set-again (t .book .programs) (p - 1) (withPriority n (inState 0 Nothing (at (t .book) p))) (inState s w))
+  act-put (loaded nm n) t = left-made t _ (λ r. newcomer nm n)
+  act-put unloaded t = left-made t _ (λ r. unused)
+  act-put (timed d i) t = refl
+
+  -- the same of an event
+  pub step-act : Known p → (d : Deed) (t : State K) → step K (on p d) t ≡ act K p d t
+  unfolding step
+  step-act P d t = rw (known-is p P)
+
+  pub step-put : Known p → (d : Deed) (t : State K) → step K (on p d) t ≡ record { book = put p (made d (at (t .book) p)) (t .book); kept = act K p d t .kept }
+  step-put P d t = step-act P d t ∙ act-put d t
 
 -- the records of the second list are those of the first, but program p's is r
 pub record Turned (p : ℕ) (r : Program) (ps qs : List Program) : Type 0 where
@@ -30,48 +72,8 @@ pub record Turned (p : ℕ) (r : Program) (ps qs : List Program) : Type 0 where
 pub turned-put : (b : Book) (p : ℕ) (r : Program) → Known p → length (b .programs) ≡ 32 → Turned p r (b .programs) (put p r b .programs)
 turned-put b p r P L = record { long = put-long b p r L; here = at-same b L p P r; rest = at-other b p P r }
 
--- once more at the same place
-turned-again : (ps : List Program) (b : Book) (p : ℕ) (q r : Program) → Known p → Turned p q ps (b .programs) → Turned p r ps (put p r b .programs)
-turned-again ps b p q r P T = record {
-  long = put-long b p r (T .long);
-  here = at-same b (T .long) p P r;
-  rest = λ z Z n. at-other b p P r z Z n ∙ T .rest z Z n;
-}
-
-turned-is : (p : ℕ) (q r : Program) (ps qs : List Program) → q ≡ r → Turned p q ps qs → Turned p r ps qs
-turned-is p q r ps qs e T = record { long = T .long; here = T .here ∙ e; rest = T .rest }
-
-module _ (K : Keeper) (p : ℕ) (P : Known p) (t : State K) (L : length (t .book .programs) ≡ 32) where
-  -- p has left its chain
-  gone : Book
-  gone = put p (inState 0 Nothing (at (t .book) p)) (t .book)
-
-  out : Turned p (inState 0 Nothing (at (t .book) p)) (t .book .programs) (gone .programs)
-  unfolding gone
-  out = turned-put (t .book) p (inState 0 Nothing (at (t .book) p)) P L
-
-  pub act-turned : (d : Deed) → Turned p (made d (at (t .book) p)) (t .book .programs) (act K p d t .book .programs)
-  unfolding act gone
-  act-turned (becomes s w) =
-      turned-is p _ _ (t .book .programs) _ (ap (inState s w) (out .here))
-      (turned-again (t .book .programs) gone p _ (inState s w (at gone p)) P out)
-  act-turned (priced n) =
-      let m : Book = put p (withPriority n (at gone p)) gone in
-      let M = turned-again (t .book .programs) gone p _ (withPriority n (at gone p)) P out in
-      let s = at (t .book) p .state in
-      let w = at (t .book) p .why in
-      turned-is p _ _ (t .book .programs) _ (ap (inState s w) (M .here) ∙ ap (λ (r : Program). inState s w (withPriority n r)) (out .here))
-      (turned-again (t .book .programs) m p _ (inState s w (at m p)) P M)
-  act-turned (loaded nm n) = turned-again (t .book .programs) gone p _ (newcomer nm n) P out
-  act-turned unloaded = turned-again (t .book .programs) gone p _ unused P out
-  act-turned (timed d i) = turned-put (t .book) p (withTimer d i (at (t .book) p)) P L
-
--- the same of an event
-pub step-act : (K : Keeper) (p : ℕ) → Known p → (d : Deed) (t : State K) → step K (on p d) t ≡ act K p d t
-unfolding step
-step-act K p P d t = rw (known-is p P)
-
 pub step-turned : (K : Keeper) (p : ℕ) → Known p → (d : Deed) (t : State K) → length (t .book .programs) ≡ 32
     → Turned p (made d (at (t .book) p)) (t .book .programs) (step K (on p d) t .book .programs)
 step-turned K p P d t L =
-    subst (λ (u : State K). Turned p (made d (at (t .book) p)) (t .book .programs) (u .book .programs)) (sym (step-act K p P d t)) (act-turned K p P t L d)
+    subst (λ (u : State K). Turned p (made d (at (t .book) p)) (t .book .programs) (u .book .programs)) (sym (step-put K p P d t))
+    (turned-put (t .book) p (made d (at (t .book) p)) P L)

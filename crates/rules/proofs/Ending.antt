@@ -22,9 +22,9 @@ use Rattle.rules.specs.Book.{at, whyOf}
 use Rattle.rules.specs.Plans.{Deed, becomes, unloaded, timed, on, held, numbered, Release, woken, wake}
 use Rattle.rules.specs.Rules.{dismissed}
 use Rattle.rules.specs.Keeper.{lists, State, step, play, view}
-use Rattle.rules.proofs.Deeds.{made, step-turned}
+use Rattle.rules.proofs.Deeds.{made, step-put, step-turned}
 use Rattle.rules.proofs.Fine.{Slack, exact, right-slack, Uses, Tracked, Numbered, Fine}
-use Rattle.rules.proofs.Apt.{tracked-map, numbered-map, step-over, fine-on, fine-held, fine-numbered}
+use Rattle.rules.proofs.Apt.{tracked-map, numbered-map, fine-on, fine-held, fine-numbered}
 use Rattle.rules.proofs.Making.{Timer, nothing-childless, apt-plain, apt-timed, apt-unused}
 use Rattle.rules.proofs.Passing.{tracked-replaced, numbered-without}
 use Rattle.rules.proofs.Settling.{settle}
@@ -171,8 +171,8 @@ gone-step a₀ a₁ p P d L w O H N =
     record {
       why = ap (λ (r : Program). r .why) (T .here) ∙ w;
       rest = λ z Z n. T .rest z Z n ∙ O z Z n;
-      holders = ap (λ (t : State lists). t .book .holders) (step-over lists p P d a₁) ∙ H;
-      resources = ap (λ (t : State lists). t .book .resources) (step-over lists p P d a₁) ∙ N;
+      holders = ap (λ (t : State lists). t .book .holders) (step-put lists p P d a₁) ∙ H;
+      resources = ap (λ (t : State lists). t .book .resources) (step-put lists p P d a₁) ∙ N;
     }
 
 module _ (c : ℕ) (a : State lists) (F : Fine (exact c) a) (R : Release) (P : Known (R .ended)) (u : at (a .book) (R .ended) .used ≡ true) where

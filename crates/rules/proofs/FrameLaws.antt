@@ -8,17 +8,18 @@ use mathlib.Core.Path.{_≡_, refl, sym, ap, _∙_, subst}
 use mathlib.Core.Logic.{_≢_}
 use mathlib.Core.Bool.{Bool, true, false, cond}
 use mathlib.Core.List.{List, [], _∷_}
-use lib.ListN.{length, getD, length-set}
+use lib.ListN.{length, getD}
 use lib.Seq.{getD-set-same, set-out}
 use Rattle.records.specs.declared.Program.{Program}
 use Rattle.records.specs.declared.Why.the-variants.{Nothing}
-use Rattle.records.specs.Records.{Known, known, missing, unused, inState, withPriority, withTimer, newcomer}
-use Rattle.rules.specs.Book.{Book, at, stateOf, whyOf, put}
+use Rattle.records.specs.Records.{Known, known, missing, inState}
+use Rattle.rules.specs.Book.{at, put}
 use Rattle.rules.specs.Requests.{Request, FRESH}
-use Rattle.rules.specs.Plans.{Deed, becomes, priced, loaded, unloaded, timed, Event, on, clocked, held, numbered, renewed, releaseOf, eventsOf}
-use Rattle.rules.specs.Keeper.{Keeper, State, leave, amend, act, step, play, view, scheduled, asks, after}
+use Rattle.rules.specs.Plans.{Deed, wakes as waking, Event, on, clocked, held, numbered, renewed, releaseOf, eventsOf}
+use Rattle.rules.specs.Keeper.{Keeper, State, act, step, play, view, scheduled, asks, after}
 use Rattle.rules.specs.Frame.{Party, Concerned, party, anew, woken, Stirred, stays, wakes}
 use Rattle.rules.proofs.Places.{known-true, at-other}
+use Rattle.rules.proofs.Deeds.{made, act-put}
 use Rattle.rules.proofs.Parts.{Upon, upon-map, By, as-party, as-woken, plan-of}
 
 stirred-on : (r s u : Program) → Stirred r s → Stirred s u → Stirred r u
@@ -29,28 +30,12 @@ stirred-on r s u (wakes e) (wakes f) = wakes (f ∙ ap (inState 1 Nothing) e)
 
 module _ (K : Keeper) (x : ℕ) (X : Known x) where
   -- events about others leave a record alone
-  act-frame : (p : ℕ) → Known p → x ≢ p → (d : Deed) (t : State K) → at (act K p d t .book) x ≡ at (t .book) x
-  unfolding act
-  act-frame p P n (becomes s w) t =
-      at-other (leave K p t .book) p P (inState s w (at (leave K p t .book) p)) x X n ∙ at-other (t .book) p P (inState 0 Nothing (at (t .book) p)) x X n
-  act-frame p P n (priced m) t =
-      let u : State K = leave K p t in
-      let v : State K = amend K p (withPriority m (at (u .book) p)) u in
-      at-other (v .book) p P (inState (stateOf (t .book) p) (whyOf (t .book) p) (at (v .book) p)) x X n
-      ∙ at-other (u .book) p P (withPriority m (at (u .book) p)) x X n
-      ∙ at-other (t .book) p P (inState 0 Nothing (at (t .book) p)) x X n
-  act-frame p P n (loaded nm m) t =
-      at-other (leave K p t .book) p P (newcomer nm m) x X n ∙ at-other (t .book) p P (inState 0 Nothing (at (t .book) p)) x X n
-  act-frame p P n unloaded t =
-      at-other (leave K p t .book) p P unused x X n ∙ at-other (t .book) p P (inState 0 Nothing (at (t .book) p)) x X n
-  act-frame p P n (timed d i) t = at-other (t .book) p P (withTimer d i (at (t .book) p)) x X n
-
   on-frame : (p : ℕ) (d : Deed) (t : State K) → x ≢ p → at (step K (on p d) t .book) x ≡ at (t .book) x
   unfolding step
   on-frame p d t n = go (known p) refl
     where
       go : (b : Bool) → known p ≡ b → at (cond b (act K p d t) t .book) x ≡ at (t .book) x
-      go true h = act-frame p (known-true p h) n d t
+      go true h = ap (λ (u : State K). at (u .book) x) (act-put K p d t) ∙ at-other (t .book) p (known-true p h) (made d (at (t .book) p)) x X n
       go false h = refl
 
   play-frame : (P : ℕ → Type 0) → (P x → ⊥) → (es : List Event) → Upon (λ p d. P p) ⊥ es → (t : State K) → at (play K es t .book) x ≡ at (t .book) x
@@ -63,31 +48,22 @@ module _ (K : Keeper) (x : ℕ) (X : Known x) where
   play-frame P n (renewed T S R ∷ es) u t = absurd (u .0)
 
   -- a waking, also where the records are too few
-  act-stirred : (t : State K) → Stirred (at (t .book) x) (at (act K x (becomes 1 Nothing) t .book) x)
-  unfolding act
-  act-stirred t = go (decLe (length (t .book .programs)) (x - 1))
+  act-stirred : (t : State K) → Stirred (at (t .book) x) (at (act K x waking t .book) x)
+  act-stirred t =
+      subst (λ (u : State K). Stirred (at (t .book) x) (at (u .book) x)) (sym (act-put K x waking t)) (go (decLe (length (t .book .programs)) (x - 1)))
     where
-      b : Book
-      b = leave K x t .book
-
       r : Program
-      r = inState 0 Nothing (at (t .book) x)
+      r = made waking (at (t .book) x)
 
-      go : Dec (length (t .book .programs) ≤ x - 1) → Stirred (at (t .book) x) (at (put x (inState 1 Nothing (at b x)) b) x)
-      go (yes h) =
-          let e : b .programs ≡ t .book .programs = set-out (t .book .programs) (x - 1) r h in
-          let f : put x (inState 1 Nothing (at b x)) b .programs ≡ b .programs =
-          set-out (b .programs) (x - 1) (inState 1 Nothing (at b x)) (omega (arith, ap length e)) in
-          stays (ap (λ (ps : List Program). getD ps (x - 1) missing) (f ∙ e))
-      go (no h) =
-          let e : at b x ≡ r = getD-set-same (t .book .programs) (x - 1) r missing (omega (arith, h)) in
-          wakes (getD-set-same (b .programs) (x - 1) (inState 1 Nothing (at b x)) missing (omega (arith, h, length-set (t .book .programs) (x - 1) r)) ∙ ap (inState 1 Nothing) e)
+      go : Dec (length (t .book .programs) ≤ x - 1) → Stirred (at (t .book) x) (at (put x r (t .book)) x)
+      go (yes h) = stays (ap (λ (ps : List Program). getD ps (x - 1) missing) (set-out (t .book .programs) (x - 1) r h))
+      go (no h) = wakes (getD-set-same (t .book .programs) (x - 1) r missing (omega (arith, h)))
 
-  on-stirred : (p : ℕ) (d : Deed) (t : State K) → (p ≡ x → d ≡ becomes 1 Nothing) → Stirred (at (t .book) x) (at (step K (on p d) t .book) x)
+  on-stirred : (p : ℕ) (d : Deed) (t : State K) → (p ≡ x → d ≡ waking) → Stirred (at (t .book) x) (at (step K (on p d) t .book) x)
   unfolding step
   on-stirred p d t h = go (ℕ-discrete x p)
     where
-      woken-up : (c : Bool) → Stirred (at (t .book) x) (at (cond c (act K x (becomes 1 Nothing) t) t .book) x)
+      woken-up : (c : Bool) → Stirred (at (t .book) x) (at (cond c (act K x waking t) t .book) x)
       woken-up true = act-stirred t
       woken-up false = stays refl
 
@@ -97,7 +73,7 @@ module _ (K : Keeper) (x : ℕ) (X : Known x) where
           subst (λ (y : ℕ). Stirred (at (t .book) x) (at (step K (on y d) t .book) x)) e
           (subst (λ (f : Deed). Stirred (at (t .book) x) (at (step K (on x f) t .book) x)) (sym (h (sym e))) (woken-up (known x)))
 
-  play-stirred : (es : List Event) → Upon (λ p d. p ≡ x → d ≡ becomes 1 Nothing) ⊥ es → (t : State K) → Stirred (at (t .book) x) (at (play K es t .book) x)
+  play-stirred : (es : List Event) → Upon (λ p d. p ≡ x → d ≡ waking) ⊥ es → (t : State K) → Stirred (at (t .book) x) (at (play K es t .book) x)
   unfolding step
   play-stirred [] u t = stays refl
   play-stirred (on p d ∷ es) u t =
@@ -147,9 +123,9 @@ module _ (K : Keeper) (t : State K) (q : Request) (x : ℕ) (X : Known x) where
     pub stirred : Stirred (at (t .book) x) (at (after K t q .book) x)
     stirred =
         play-stirred K x X (eventsOf (view K t) (asks K t q))
-        (upon-map (By (view K t) (λ p d. Has p) (releaseOf (asks K t q))) (λ p d. p ≡ x → d ≡ becomes 1 Nothing) Renews ⊥ others (λ f. old (f .0) (f .1) (f .2) (f .3))
+        (upon-map (By (view K t) (λ p d. Has p) (releaseOf (asks K t q))) (λ p d. p ≡ x → d ≡ waking) Renews ⊥ others (λ f. old (f .0) (f .1) (f .2) (f .3))
         (eventsOf (view K t) (asks K t q)) walked) t
       where
-        others : (p : ℕ) (d : Deed) → By (view K t) (λ p d. Has p) (releaseOf (asks K t q)) p d → p ≡ x → d ≡ becomes 1 Nothing
+        others : (p : ℕ) (d : Deed) → By (view K t) (λ p d. Has p) (releaseOf (asks K t q)) p d → p ≡ x → d ≡ waking
         others p d (as-party h) e = absurd (apart (subst Has e h))
         others p d (as-woken w k) e = w

@@ -14,11 +14,12 @@ use Rattle.records.specs.Records.{known, find}
 use Rattle.tracks.specs.Tracks.{nobody, everybody, filled, replaced}
 use Rattle.tracks.proofs.Runs.{run-true, count-freed, count-replaced}
 use Rattle.rules.specs.Requests.{OF, EXEC5, EXEC16, EXEC5ALL, operator, running}
-use Rattle.rules.specs.Plans.{Deed, becomes, priced, loaded, unloaded, timed, Event, on, clocked, held, numbered, renewed, Plan, valuesOf, eventsOf, woken, wake}
+use Rattle.rules.specs.Plans.{Event, on, clocked, held, numbered, renewed, Plan, valuesOf, eventsOf, woken, wake}
 use Rattle.rules.specs.Rules.{frees, ends, dismissed, order, gives, call, head, plan}
 use Rattle.rules.specs.Keeper.{Keeper, State, act, step, play, view, scheduled, asks}
 use Rattle.rules.specs.Counts.{freeTracks, Freed}
 use Rattle.lists.proofs.Tests.{both}
+use Rattle.rules.proofs.Deeds.{act-put}
 use Rattle.rules.proofs.Settling.{settle, off-events}
 use Rattle.rules.proofs.IfDone.{IfDone, if-need, if-named, if-called}
 
@@ -36,21 +37,13 @@ quiet-wake [] = tt
 quiet-wake (q ∷ qs) = quiet-wake qs
 
 module _ (K : Keeper) where
-  act-holders : (p : ℕ) (d : Deed) (t : State K) → act K p d t .book .holders ≡ t .book .holders
-  unfolding act
-  act-holders p (becomes s w) t = refl
-  act-holders p (priced n) t = refl
-  act-holders p (loaded nm n) t = refl
-  act-holders p unloaded t = refl
-  act-holders p (timed d i) t = refl
-
   quiet-holders : (es : List Event) → Quiet es → (t : State K) → play K es t .book .holders ≡ t .book .holders
   unfolding step
   quiet-holders [] u t = refl
   quiet-holders (on p d ∷ es) u t = quiet-holders es u (step K (on p d) t) ∙ go (known p)
     where
       go : (b : Bool) → cond b (act K p d t) t .book .holders ≡ t .book .holders
-      go true = act-holders p d t
+      go true = ap (λ (u : State K). u .book .holders) (act-put K p d t)
       go false = refl
   quiet-holders (clocked c ∷ es) u t = quiet-holders es u (step K (clocked c) t)
   quiet-holders (held h ∷ es) u t = absurd u

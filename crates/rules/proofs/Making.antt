@@ -16,6 +16,8 @@ use Rattle.records.specs.Names.{legal}
 use Rattle.records.specs.Records.{Known, unused, newcomer, inState, withPriority, withTimer}
 use Rattle.rules.specs.Book.{at, stateOf, whyOf}
 use Rattle.rules.specs.Keeper.{lists, State}
+use Rattle.rules.specs.Plans.{wakes}
+use Rattle.rules.proofs.Deeds.{made}
 use Rattle.rules.proofs.Fine.{Slack, alone, Right, Sonny, Fine}
 use Rattle.rules.proofs.Apt.{Apt}
 
@@ -81,8 +83,11 @@ module _ (e : Slack) (a : State lists) (F : Fine e a) (p : ℕ) (P : Known p) wh
         → (p ≢ e .son → stateOf (a .book) p ≢ 0 → s ≢ 0) → Apt e (a .book) p (inState s w (at (a .book) p))
     apt-plain s w h f m = apt-state s w h (λ k i. absurd (f k i)) (λ k z i Z n j. f k i) m
 
-    pub apt-woken : Apt e (a .book) p (inState 1 Nothing (at (a .book) p))
-    apt-woken = apt-plain 1 Nothing refl nothing-childless (λ n v i. omega arith)
+    pub apt-scheduled : Apt e (a .book) p (inState 1 Nothing (at (a .book) p))
+    apt-scheduled = apt-plain 1 Nothing refl nothing-childless (λ n v i. omega arith)
+
+    pub apt-woken : Apt e (a .book) p (made wakes (at (a .book) p))
+    apt-woken = apt-scheduled
 
     same-sons : (k : ℕ) → whyOf (a .book) p ≡ Son k → Sonny (e .son) (a .book .programs) p k
     same-sons k i = F .sons p k P i

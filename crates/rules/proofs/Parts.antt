@@ -19,7 +19,7 @@ use Rattle.records.specs.Records.{Known, all, find, lowestUnused}
 use Rattle.records.specs.Numbers.{numberAt}
 use Rattle.rules.specs.Book.{at, whyOf}
 use Rattle.rules.specs.Requests.{Order, RU, SS, GO, PR, OF, Call, EXEC4, EXEC15, EXEC5, EXEC16, EXEC5ALL, EXEC6, EXEC7, EXEC11, EXEC9, EXEC10, EXEC12, ALLOC, LOCK, CLEAR, FREE, Request, FRESH, LOAD, operator, TICK, running}
-use Rattle.rules.specs.Plans.{Deed, becomes, timed, unloaded, Event, on, clocked, held, numbered, renewed, Plan, refused, done, releasing, waiting, nothing, releaseOf, View, eventsOf, need, either, found, Release, awaits, woken, wake}
+use Rattle.rules.specs.Plans.{Deed, becomes, wakes, timed, unloaded, Event, on, clocked, held, numbered, renewed, Plan, refused, done, releasing, waiting, nothing, releaseOf, View, eventsOf, need, either, found, Release, awaits, woken, wake}
 use Rattle.rules.specs.Rules.{named, inside, waits, dismissed, order, dueAt, ticked, takes, gives, allocated, call, head, asCaller, plan}
 use Rattle.rules.specs.Frame.{Party, calls, takes-name, ordered, son, started, due, Woken, tracks-freed, reason-gone}
 use Rattle.rules.specs.Frame as party
@@ -45,7 +45,7 @@ upon-map P Q F G f g (renewed T S R ∷ es) u = (g (u .0), upon-map P Q F G f g 
 -- a deed of a program is of the kind P, or it is a waking by what was set free
 pub data By (v : View) (P : ℕ → Deed → Type 0) (R : Release) (p : ℕ) (d : Deed) : Type 0 where
   as-party : P p d → By v P R p d
-  as-woken : d ≡ becomes 1 Nothing → Woken v R p → By v P R p d
+  as-woken : d ≡ wakes → Woken v R p → By v P R p d
 
 -- a refusal's number is one of 2 to 11
 abbrev pub Listed : Plan → Type 0

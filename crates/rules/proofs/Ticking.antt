@@ -24,7 +24,7 @@ use Rattle.rules.proofs.Places.{all-one, all-once, all-in}
 use Rattle.rules.proofs.Deeds.{Turned, step-turned}
 use Rattle.rules.proofs.Fine.{Slack, exact, right-slack, Fine}
 use Rattle.rules.proofs.Apt.{fine-on}
-use Rattle.rules.proofs.Making.{Timer, apt-woken, apt-timed}
+use Rattle.rules.proofs.Making.{Timer, apt-scheduled, apt-timed}
 
 -- the clock stands at c + 1, and the dues are still as at c
 abbrev ticking : ℕ → Slack
@@ -166,7 +166,7 @@ module _ (c : ℕ) (b : Book) where
       T₂ = step-turned lists p P (becomes 1 Nothing) t₁ (T₁ .long)
 
       F₂ : Fine (ticking c) t₂
-      F₂ = fine-on (ticking c) p P (becomes 1 Nothing) t₁ F₁ (apt-woken (ticking c) t₁ F₁ p P used₁)
+      F₂ = fine-on (ticking c) p P (becomes 1 Nothing) t₁ F₁ (apt-scheduled (ticking c) t₁ F₁ p P used₁)
 
       here₁ : at (t₁ .book) p .due ≢ c + 1
       here₁ i = next-moved p d (ap (λ (r : Program). r .due) (sym (T₁ .here)) ∙ i)

@@ -16,11 +16,11 @@ use Rattle.lists.proofs.Laws.{same-refl, same-ne, same-le, count-remove, count-
 use Rattle.records.specs.declared.Program.{Program}
 use Rattle.records.specs.declared.Why.{Why}
 use Rattle.records.specs.declared.Why.the-variants.{Nothing, Son}
-use Rattle.records.specs.Records.{Known, recordAt, inState}
+use Rattle.records.specs.Records.{Known, recordAt}
 use Rattle.rules.specs.Book.{at, stateOf, whyOf}
-use Rattle.rules.specs.Plans.{becomes, on, View, Release, awaits, woken, wake}
+use Rattle.rules.specs.Plans.{wakes, on, View, Release, awaits, woken, wake}
 use Rattle.rules.specs.Keeper.{lists, State, step, play, view}
-use Rattle.rules.proofs.Deeds.{Turned, step-turned}
+use Rattle.rules.proofs.Deeds.{made, Turned, step-turned}
 use Rattle.rules.proofs.Chaining.{chain-state}
 use Rattle.rules.proofs.Fine.{Slack, alone, Fine}
 use Rattle.rules.proofs.Apt.{fine-on}
@@ -41,9 +41,9 @@ pub fine-wake : (e : Slack) (c : List ℕ) (a : State lists) → Fine e a → ((
 fine-wake e [] a F h = F
 fine-wake e (q ∷ qs) a F h =
     let Q = h q (omega (arith, same-refl q)) in
-    let T = step-turned lists q (Q .0) (becomes 1 Nothing) a (F .order .long) in
-    fine-wake e qs (step lists (on q (becomes 1 Nothing)) a) (fine-on e q (Q .0) (becomes 1 Nothing) a F (apt-woken e a F q (Q .0) (Q .1)))
-    (λ x k. turned-used q (inState 1 Nothing (at (a .book) q)) _ _ T (Q .1) x (h x (omega arith)))
+    let T = step-turned lists q (Q .0) wakes a (F .order .long) in
+    fine-wake e qs (step lists (on q wakes) a) (fine-on e q (Q .0) wakes a F (apt-woken e a F q (Q .0) (Q .1)))
+    (λ x k. turned-used q (made wakes (at (a .book) q)) _ _ T (Q .1) x (h x (omega arith)))
 
 -- the records after a waking
 pub record Woke (c : List ℕ) (ps qs : List Program) : Type 0 where
@@ -55,10 +55,10 @@ pub woke : (c : List ℕ) (a : State lists) → length (a .book .programs) ≡ 3
 woke [] a L h = record { freed = λ z k. absurd (omega arith); rest = λ z Z k. refl }
 woke (q ∷ qs) a L h =
     let Q = h q (omega (arith, same-refl q)) in
-    let T = step-turned lists q Q (becomes 1 Nothing) a L in
-    go (step lists (on q (becomes 1 Nothing)) a) Q T (woke qs (step lists (on q (becomes 1 Nothing)) a) (T .long) (λ x k. h x (omega arith)))
+    let T = step-turned lists q Q wakes a L in
+    go (step lists (on q wakes) a) Q T (woke qs (step lists (on q wakes) a) (T .long) (λ x k. h x (omega arith)))
   where
-    go : (b : State lists) → Known q → Turned q (inState 1 Nothing (at (a .book) q)) (a .book .programs) (b .book .programs)
+    go : (b : State lists) → Known q → Turned q (made wakes (at (a .book) q)) (a .book .programs) (b .book .programs)
         → Woke qs (b .book .programs) (play lists (wake qs) b .book .programs) → Woke (q ∷ qs) (a .book .programs) (play lists (wake qs) b .book .programs)
     go b Q T W = record {
       freed = λ z k. here z k (decLe 1 (count z qs)) (ℕ-discrete z q);

@@ -12,7 +12,7 @@ use Rattle.records.specs.declared.Why.the-variants.{Nothing}
 use Rattle.records.specs.Records.{known, all, unused, newcomer, inState, withPriority, withTimer}
 use Rattle.rules.specs.Book.{Book, at, stateOf, prioOf, whyOf, put, withClock, withHolders, withResources, freshBook}
 use Rattle.rules.specs.Requests.{Request}
-use Rattle.rules.specs.Plans.{Deed, becomes, priced, loaded, unloaded, timed, Event, on, clocked, held, numbered, renewed, Plan, View, eventsOf}
+use Rattle.rules.specs.Plans.{Deed, becomes, wakes, priced, loaded, unloaded, timed, Event, on, clocked, held, numbered, renewed, Plan, View, eventsOf}
 use Rattle.rules.specs.Rules.{plan}
 
 -- What is kept of the order; the chain of a state, lowest first; what entering a chain and leaving it do to what is kept.
@@ -84,6 +84,7 @@ module _ (K : Keeper) where
 
   unfoldable pub act : ℕ → Deed → State → State
   act p (becomes s w) t = enter p s w (leave p t)
+  act p wakes t = enter p 1 Nothing (leave p t)
   act p (priced n) t =
       let u = leave p t in
       enter p (stateOf (t .book) p) (whyOf (t .book) p) (amend p (withPriority n (at (u .book) p)) u)

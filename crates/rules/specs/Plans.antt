@@ -2,7 +2,7 @@
 -- Assumes nothing.
 use Prim.Native.Nat.{ℕ}
 use mathlib.Core.Bool.{Bool, true, false, cond, _&&_}
-use mathlib.Core.List.{List, [], _∷_, _++_}
+use mathlib.Core.List.{List, [], _∷_, _++_, map}
 use mathlib.Core.Option.{Option, none, some}
 use lib.Dec.{ltb, eqb}
 use Rattle.lists.specs.Lists.{keep, remove}
@@ -11,10 +11,11 @@ use Rattle.records.specs.declared.Why.{Why}
 use Rattle.records.specs.declared.Why.the-variants.{Nothing, Tracks, Son, Lock, Number}
 use Rattle.rules.specs.Book.{Book, whyOf}
 
--- What may happen to a program's record: it takes a state for a reason, leaving its chain and entering the new one; it is priced anew, leaving its
--- chain and entering it again; it is loaded; it is made unused; its timer is set, or goes where the due is 0.
+-- What may happen to a program's record: it takes a state for a reason, leaving its chain and entering the new one; its wait is over and it is scheduled; it is
+-- priced anew, leaving its chain and entering it again; it is loaded; it is made unused; its timer is set, or goes where the due is 0.
 pub data Deed : Type 0 where
   becomes : ℕ → Why → Deed
+  wakes : Deed
   priced : ℕ → Deed
   loaded : List ℕ → ℕ → Deed
   unloaded : Deed
@@ -92,8 +93,7 @@ woken v R = fromDisc v R ++ fromGeneral v R
 
 -- the woken enter the scheduled chain one by one
 abbrev pub wake : List ℕ → List Event
-wake [] = []
-wake (q ∷ qs) = on q (becomes 1 Nothing) ∷ wake qs
+wake qs = map (λ q. on q wakes) qs
 
 -- what happens, the waking last
 abbrev pub eventsOf : View → Plan → List Event
