@@ -12,8 +12,9 @@ use lib.ListN.{length, getD, set, length-set, replicate, length-replicate}
 use lib.Seq.{getD-set-same, getD-set-other}
 use lib.Dec.{eqb}
 use borrow.Author.Tests.{eq-eqb, ne-eqb, eqb-true, eqb-false}
-use Rattle.lists.specs.Lists.{same, insert, remove}
+use Rattle.lists.specs.Lists.{same, insert, remove, upTo}
 use Rattle.lists.proofs.Laws.{same-ne}
+use Rattle.lists.proofs.Tests.{upTo-true}
 use Rattle.records.specs.declared.Program.{Program}
 use Rattle.records.specs.declared.Why.{Why}
 use Rattle.records.specs.declared.Why.the-variants.{Nothing}
@@ -22,7 +23,7 @@ use Rattle.rules.specs.Book.{Book, at, stateOf, prioOf, whyOf, put, with
 use Rattle.rules.specs.Requests.{Request}
 use Rattle.rules.specs.Plans.{Deed, becomes, wakes, priced, loaded, unloaded, timed, Event, on, clocked, held, numbered, renewed, numberOf, valuesOf, eventsOf}
 use Rattle.rules.specs.Rules.{plan}
-use Rattle.rules.specs.Keeper.{lists, Entries, entries, sorted, State, leave, enter, amend, act, step, play, view, scheduled, asks, after, fresh}
+use Rattle.rules.specs.Keeper.{lists, Entries, entries, sorted, State, leave, enter, amend, act, step, play, view, asks, after, fresh}
 use Rattle.rules.specs.Replay.{Fits}
 use Rattle.rules.proofs.Places.{known-true, at-same, at-other, put-long}
 use Rattle.rules.proofs.Fits.{Noted, fits-unique, fits-edit, fits-remove, fits-insert, sorted-fits}
@@ -358,22 +359,16 @@ order-alike a t A s l h =
     ap (λ (b : Book). sorted b (t .kept) s) (A .book)
     ∙ fits-unique (a .book) (t .kept .entry) s (sorted (a .book) (t .kept) s) (getD (a .kept) s []) (sorted-fits (a .book) (t .kept) (A .noted) s l) (A .fits s l h)
 
-pub scheduled-alike : (a : State lists) (t : State entries) → Alike a t → scheduled lists a ≡ scheduled entries t
-scheduled-alike a t A = sym (order-alike a t A 1 (omega arith) (omega arith))
-
 pub view-alike : (a : State lists) (t : State entries) → Alike a t → view lists a ≡ view entries t
-view-alike a t A =
-    let b : a .book ≡ t .book = sym (A .book) in
-    let g : getD (a .kept) 3 [] ≡ sorted (t .book) (t .kept) 3 = sym (order-alike a t A 3 (omega arith) (omega arith)) in
-    let d : getD (a .kept) 5 [] ≡ sorted (t .book) (t .kept) 5 = sym (order-alike a t A 5 (omega arith) (omega arith)) in
-    λ i. record { book = b i; general = g i; disc = d i }
+view-alike a t A = λ i. record { book = sym (A .book) i; chain = λ s. chain s (upTo 1 6 s) refl i }
+  where
+    chain : (s : ℕ) (b : Bool) → upTo 1 6 s ≡ b → cond b (getD (a .kept) s []) [] ≡ cond b (sorted (t .book) (t .kept) s) []
+    chain s true e = let l = upTo-true 1 6 s e in sym (order-alike a t A s (l .0) (omega (arith, l .1)))
+    chain s false e = refl
 
 -- a request comes to the same, and leaves states that are alike
 pub asks-alike : (a : State lists) (t : State entries) → Alike a t → (q : Request) → asks lists a q ≡ asks entries t q
-asks-alike a t A q =
-    let v : view lists a ≡ view entries t = view-alike a t A in
-    let c : scheduled lists a ≡ scheduled entries t = scheduled-alike a t A in
-    λ i. plan (v i) (c i) q
+asks-alike a t A q = ap (λ v. plan v q) (view-alike a t A)
 
 pub after-alike : (a : State lists) (t : State entries) → Alike a t → (q : Request) → Alike (after lists a q) (after entries t q)
 after-alike a t A q =

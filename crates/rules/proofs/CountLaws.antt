@@ -107,11 +107,11 @@ module _ (a : State lists) (S : Sound a) where
   v = view lists a
 
   -- those woken where no track was freed are of chain 3, once
-  woken-few : (R : Release) → R .tracks ≡ 0 → (x : ℕ) → count x (woken v R) ≤ count x (v .general)
+  woken-few : (R : Release) → R .tracks ≡ 0 → (x : ℕ) → count x (woken v R) ≤ count x (v .chain 3)
   unfolding woken
   woken-few R e x =
       rw (le-ltb 0 (R .tracks) (omega arith))
-      (omega (arith, keep-le (λ q. awaits R (whyOf (v .book) q)) x (remove (R .ended) (v .general)), count-remove-le x (R .ended) (v .general)))
+      (omega (arith, keep-le (λ q. awaits R (whyOf (v .book) q)) x (remove (R .ended) (v .chain 3)), count-remove-le x (R .ended) (v .chain 3)))
 
   woken-known : (R : Release) → R .tracks ≡ 0 → (x : ℕ) → 1 ≤ count x (woken v R) → Known x
   woken-known R e x h = S .chains .within 3 x (omega arith) (omega arith) (omega (arith, woken-few R e x))

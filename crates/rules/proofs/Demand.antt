@@ -6,17 +6,16 @@ use native.Mathlib.Omega.{arith}
 use mathlib.Core.Path.{_≡_, refl, sym, ap, _∙_}
 use mathlib.Core.Logic.{_≢_}
 use mathlib.Core.List.{List, [], _∷_}
-use borrow.Author.Tests.{lt-ltb}
 use Rattle.lists.specs.Lists.{same, count}
 use Rattle.lists.proofs.Laws.{same-refl, same-ne}
 use Rattle.records.specs.Records.{Known}
 use Rattle.rules.specs.Book.{Book, stateOf}
-use Rattle.rules.specs.Requests.{Call, Request, running}
-use Rattle.rules.specs.Plans.{View, refused, need}
-use Rattle.rules.specs.Rules.{call, asCaller, plan}
+use Rattle.rules.specs.Requests.{Call, Request}
+use Rattle.rules.specs.Rules.{call, head, plan}
 use Rattle.rules.specs.Keeper.{lists, Entries, entries, sorted, State, view, scheduled, fresh}
 use Rattle.rules.specs.Sound.{Sound}
 use Rattle.rules.specs.Replay.{Fits, Accounts, First}
+use Rattle.rules.proofs.Paths.{caller-none, caller-is}
 use Rattle.rules.proofs.Fits.{fits-state, sorted-fits}
 use Rattle.rules.proofs.Alike.{Alike, fresh-alike, order-alike, runs-alike, answers-alike}
 use Rattle.rules.proofs.Notes.{notes, alike-accounts, accounts-alike, chained-accounts}
@@ -35,22 +34,15 @@ head-first b en s p ps F =
 none-there : (b : Book) (en : ℕ → ℕ) (s : ℕ) → Fits b en s [] → (z : ℕ) → Known z → stateOf b z ≢ s
 none-there b en s F z Z e = omega (arith, F .member z Z, ap (λ (x : ℕ). same x s) e, same-refl s)
 
-for-nobody : (v : View) (c : Call) → plan v [] (running c) ≡ refused 2 0
-unfolding plan asCaller need
-for-nobody v c = refl
-
-for-head : (v : View) (p : ℕ) (ps : List ℕ) (c : Call) → 1 ≤ p → plan v (p ∷ ps) (running c) ≡ call v p c
-unfolding plan asCaller need
-for-head v p ps c h = rw (lt-ltb 0 p h)
-
 alike-acts : (a : State lists) (t : State entries) → Alike a t → (c : Call) → Acts a (t .kept .entry) c
+unfolding plan
 alike-acts a t A c = go (scheduled lists a) refl (A .fits 1 (omega arith) (omega arith))
   where
     go : (l : List ℕ) → scheduled lists a ≡ l → Fits (a .book) (t .kept .entry) 1 l → Acts a (t .kept .entry) c
-    go [] e F = for-none (none-there (a .book) (t .kept .entry) 1 F) (ap (λ (l : List ℕ). plan (view lists a) l (running c)) e ∙ for-nobody (view lists a) c)
+    go [] e F = for-none (none-there (a .book) (t .kept .entry) 1 F) (caller-none (view lists a) (λ p. call (view lists a) p c) (ap head e))
     go (p ∷ ps) e F =
         let f : First (a .book) (t .kept .entry) 1 p = head-first (a .book) (t .kept .entry) 1 p ps F in
-        for-first p f (ap (λ (l : List ℕ). plan (view lists a) l (running c)) e ∙ for-head (view lists a) p ps c (f .known .0))
+        for-first p f (caller-is (view lists a) (λ p. call (view lists a) p c) p (ap head e) (f .known .0))
 
 alike-holds : (a : State lists) (t : State entries) → Alike a t → Holds a t
 alike-holds a t A = record {

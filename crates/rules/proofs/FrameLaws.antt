@@ -16,7 +16,7 @@ use Rattle.records.specs.Records.{Known, known, missing, inState}
 use Rattle.rules.specs.Book.{at, put}
 use Rattle.rules.specs.Requests.{Request, FRESH}
 use Rattle.rules.specs.Plans.{Deed, wakes as waking, Event, on, clocked, held, numbered, renewed, releaseOf, eventsOf}
-use Rattle.rules.specs.Keeper.{Keeper, State, act, step, play, view, scheduled, asks, after}
+use Rattle.rules.specs.Keeper.{Keeper, State, act, step, play, view, asks, after}
 use Rattle.rules.specs.Frame.{Party, Concerned, party, anew, woken, Stirred, stays, wakes}
 use Rattle.rules.proofs.Places.{known-true, at-other}
 use Rattle.rules.proofs.Deeds.{made, act-put}
@@ -90,17 +90,17 @@ some-happen e es i = let z = ap length i in omega (arith, z)
 
 module _ (K : Keeper) (t : State K) (q : Request) (x : ℕ) (X : Known x) where
   abbrev Has : ℕ → Type 0
-  Has p = Party (t .book) (scheduled K t) p q
+  Has p = Party (view K t) p q
 
   abbrev Whom : ℕ → Type 0
-  Whom p = Concerned (view K t) (scheduled K t) q p
+  Whom p = Concerned (view K t) q p
 
   abbrev Renews : Type 0
   Renews = (T : ℕ) × (S : ℕ) × (R : ℕ) × (q ≡ FRESH T S R)
 
   -- whom the events of the plan are about
   walked : Upon (By (view K t) (λ p d. Has p) (releaseOf (asks K t q))) Renews (eventsOf (view K t) (asks K t q))
-  walked = plan-of (λ p d. Has p) Renews (view K t) (scheduled K t) q (record { fresh = λ T S R e. (T, S, R, e); party = λ p l h d. h }) .events
+  walked = plan-of (λ p d. Has p) Renews (view K t) q (record { fresh = λ T S R e. (T, S, R, e); party = λ p l h d. h }) .events
 
   -- THE FRAME
   pub frame : (Whom x → ⊥) → at (after K t q .book) x ≡ at (t .book) x

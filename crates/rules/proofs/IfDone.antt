@@ -30,9 +30,9 @@ module _ (P : Plan → Type 0) where
   unfolding named
   if-named v nm f g = if-need _ _ _ _ (omega arith) (λ e. if-need _ _ _ _ (omega arith) (λ t. g (ltb-true 0 (find (v .book .programs) nm) t)))
 
-  pub if-called : (c : List ℕ) (f : ℕ → Plan) → (1 ≤ head c → IfDone P (f (head c))) → IfDone P (asCaller c f)
+  pub if-called : (v : View) (f : ℕ → Plan) → (1 ≤ head (v .chain 1) → IfDone P (f (head (v .chain 1)))) → IfDone P (asCaller v f)
   unfolding asCaller
-  if-called c f g = if-need _ _ _ _ (omega arith) (λ t. g (ltb-true 0 (head c) t))
+  if-called v f g = if-need _ _ _ _ (omega arith) (λ t. g (ltb-true 0 (head (v .chain 1)) t))
 
   pub if-allocated : (v : View) (r : ℕ) (f : Resource → Plan) → IfDone P (f (numberAt (v .book .resources) r)) → IfDone P (allocated v r f)
   unfolding allocated

@@ -85,7 +85,7 @@ module _ (a : State lists) (S : Sound a) where
   unfolding inside
   keeps-inside p s x f = keeps-need (eqb (stateOf (a .book) p) s) 5 (stateOf (a .book) p) x (λ e. f (eqb-true (stateOf (a .book) p) s e))
 
-  pub keeps-caller : (f : ℕ → Plan) → ((p : ℕ) → Caller a p → Keeps a (f p)) → Keeps a (asCaller (scheduled lists a) f)
+  pub keeps-caller : (f : ℕ → Plan) → ((p : ℕ) → Caller a p → Keeps a (f p)) → Keeps a (asCaller (view lists a) f)
   unfolding asCaller
   keeps-caller f g =
       let p : ℕ = head (scheduled lists a) in

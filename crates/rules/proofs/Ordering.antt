@@ -7,7 +7,7 @@ use borrow.Author.Tests.{lt-ltb, le-ltb}
 use Rattle.lists.specs.Lists.{remove}
 use Rattle.rules.specs.Plans.{View, Release, fromGeneral, woken}
 
-pub disc-first : (v : View) (R : Release) → 1 ≤ R .tracks → woken v R ≡ remove (R .ended) (v .disc) ++ fromGeneral v R
+pub disc-first : (v : View) (R : Release) → 1 ≤ R .tracks → woken v R ≡ remove (R .ended) (v .chain 5) ++ fromGeneral v R
 unfolding woken
 disc-first v R h = rw (lt-ltb 0 (R .tracks) h)
 

@@ -59,9 +59,9 @@ pub record Of (P : ℕ → Deed → Type 0) (F : Type 0) (v : View) (x : Plan) :
   pub number : Listed x
 
 -- what is asked holds of those who have to do with the request
-pub record About (v : View) (scheduled : List ℕ) (q : Request) (P : ℕ → Deed → Type 0) (F : Type 0) : Type 0 where
+pub record About (v : View) (q : Request) (P : ℕ → Deed → Type 0) (F : Type 0) : Type 0 where
   pub fresh : (T S R : ℕ) → q ≡ FRESH T S R → F
-  pub party : (x : ℕ) → 1 ≤ x → Party (v .book) scheduled x q → (d : Deed) → P x d
+  pub party : (x : ℕ) → 1 ≤ x → Party v x q → (d : Deed) → P x d
 
 -- those that a request wakes waited, and their reason is gone
 pub woken-waits : (v : View) (R : Release) (x : ℕ) → 1 ≤ count x (woken v R) → Woken v R x
@@ -69,15 +69,15 @@ unfolding woken
 woken-waits v R x h = go (ltb 0 (R .tracks)) refl (count x rest) refl h
   where
     rest : List ℕ
-    rest = keep (λ q. awaits R (whyOf (v .book) q)) (remove (R .ended) (v .general))
+    rest = keep (λ q. awaits R (whyOf (v .book) q)) (remove (R .ended) (v .chain 3))
 
-    go : (b : Bool) → ltb 0 (R .tracks) ≡ b → (n : ℕ) → count x rest ≡ n → 1 ≤ count x (cond b (remove (R .ended) (v .disc)) [] ++ rest) → Woken v R x
+    go : (b : Bool) → ltb 0 (R .tracks) ≡ b → (n : ℕ) → count x rest ≡ n → 1 ≤ count x (cond b (remove (R .ended) (v .chain 5)) [] ++ rest) → Woken v R x
     go b e (suc n) i k =
-        let r = keep-in (λ q. awaits R (whyOf (v .book) q)) x (remove (R .ended) (v .general)) (omega arith) in
-        reason-gone (r .0) (omega (arith, r .1, count-remove-le x (R .ended) (v .general)))
+        let r = keep-in (λ q. awaits R (whyOf (v .book) q)) x (remove (R .ended) (v .chain 3)) (omega arith) in
+        reason-gone (r .0) (omega (arith, r .1, count-remove-le x (R .ended) (v .chain 3)))
     go true e zero i k =
         tracks-freed (ltb-true 0 (R .tracks) e)
-        (omega (arith, count-append x (remove (R .ended) (v .disc)) rest, count-remove-le x (R .ended) (v .disc)))
+        (omega (arith, count-append x (remove (R .ended) (v .chain 5)) rest, count-remove-le x (R .ended) (v .chain 5)))
     go false e zero i k = absurd (omega arith)
 
 upon-append : (P : ℕ → Deed → Type 0) (F : Type 0) (es fs : List Event) → Upon P F es → Upon P F fs → Upon P F (es ++ fs)
@@ -178,37 +178,40 @@ module _ (P : ℕ → Deed → Type 0) (F : Type 0) (v : View) where
   order-of (PR n) p h = of-done _ _ (h _, tt)
   order-of (OF k) p h = of-releasing _ _ _ (upon-append P F (dismissed k p) _ (upon-dismissed k p h) tt)
 
-  call-of : (c : List ℕ) (q : Call) → 1 ≤ head c → ((x : ℕ) → 1 ≤ x → Party (v .book) c x (running q) → (d : Deed) → P x d) → Of P F v (call v (head c) q)
-  unfolding call
-  call-of c (EXEC4 n w) l f = of-takes _ _ _ _ (f (head c) l (calls _ refl))
-  call-of c (EXEC15 n w) l f = of-takes _ _ _ _ (f (head c) l (calls _ refl))
-  call-of c (EXEC5 n s) l f = of-gives _ _ _
-  call-of c (EXEC16 n s) l f = of-gives _ _ _
-  call-of c EXEC5ALL l f = of-releasing _ _ _ tt
-  call-of c EXEC6 l f = of-releasing _ _ _ (f (head c) l (calls _ refl) _, tt)
-  call-of c EXEC7 l f = of-done _ _ (f (head c) l (calls _ refl) _, tt)
-  call-of c EXEC11 l f = of-done _ _ tt
-  call-of c (EXEC9 nm) l f = of-named _ _ (λ i. of-inside _ _ _ (of-waiting _ _ (f _ i (son nm refl) _, (f (head c) l (calls _ refl) _, tt))))
-  call-of c (EXEC10 nm) l f = of-named _ _ (λ i. of-inside _ _ _ (of-done _ _ (f _ i (started nm refl) _, tt)))
-  call-of c (EXEC12 nm r m o) l f = of-need _ _ _ _ refl (of-named _ _ (λ i. of-done _ _ (f _ i (party.timed nm r m o refl) _, tt)))
-  call-of c (ALLOC g w) l f = of-need _ _ _ _ refl (of-either _ _ _ (of-done _ _ tt) (of-waits _ _ _ _ (f (head c) l (calls _ refl))))
-  call-of c (LOCK r w) l f =
-      of-need _ _ _ _ refl (of-allocated _ _ (of-either _ _ _ (of-done _ _ tt) (of-either _ _ _ (of-done _ _ tt) (of-waits _ _ _ _ (f (head c) l (calls _ refl))))))
-  call-of c (CLEAR r) l f = of-allocated _ _ (of-either _ _ _ (of-done _ _ tt) (of-need _ _ _ _ refl (of-releasing _ _ _ tt)))
-  call-of c (FREE r) l f = of-allocated _ _ (of-need _ _ _ _ refl (of-releasing _ _ _ tt))
+  abbrev caller : ℕ
+  caller = head (v .chain 1)
 
-pub plan-of : (P : ℕ → Deed → Type 0) (F : Type 0) (v : View) (scheduled : List ℕ) (q : Request) → About v scheduled q P F → Of P F v (plan v scheduled q)
+  call-of : (q : Call) → 1 ≤ caller → ((x : ℕ) → 1 ≤ x → Party v x (running q) → (d : Deed) → P x d) → Of P F v (call v caller q)
+  unfolding call
+  call-of (EXEC4 n w) l f = of-takes _ _ _ _ (f caller l (calls _ refl))
+  call-of (EXEC15 n w) l f = of-takes _ _ _ _ (f caller l (calls _ refl))
+  call-of (EXEC5 n s) l f = of-gives _ _ _
+  call-of (EXEC16 n s) l f = of-gives _ _ _
+  call-of EXEC5ALL l f = of-releasing _ _ _ tt
+  call-of EXEC6 l f = of-releasing _ _ _ (f caller l (calls _ refl) _, tt)
+  call-of EXEC7 l f = of-done _ _ (f caller l (calls _ refl) _, tt)
+  call-of EXEC11 l f = of-done _ _ tt
+  call-of (EXEC9 nm) l f = of-named _ _ (λ i. of-inside _ _ _ (of-waiting _ _ (f _ i (son nm refl) _, (f caller l (calls _ refl) _, tt))))
+  call-of (EXEC10 nm) l f = of-named _ _ (λ i. of-inside _ _ _ (of-done _ _ (f _ i (started nm refl) _, tt)))
+  call-of (EXEC12 nm r m o) l f = of-need _ _ _ _ refl (of-named _ _ (λ i. of-done _ _ (f _ i (party.timed nm r m o refl) _, tt)))
+  call-of (ALLOC g w) l f = of-need _ _ _ _ refl (of-either _ _ _ (of-done _ _ tt) (of-waits _ _ _ _ (f caller l (calls _ refl))))
+  call-of (LOCK r w) l f =
+      of-need _ _ _ _ refl (of-allocated _ _ (of-either _ _ _ (of-done _ _ tt) (of-either _ _ _ (of-done _ _ tt) (of-waits _ _ _ _ (f caller l (calls _ refl))))))
+  call-of (CLEAR r) l f = of-allocated _ _ (of-either _ _ _ (of-done _ _ tt) (of-need _ _ _ _ refl (of-releasing _ _ _ tt)))
+  call-of (FREE r) l f = of-allocated _ _ (of-need _ _ _ _ refl (of-releasing _ _ _ tt))
+
+pub plan-of : (P : ℕ → Deed → Type 0) (F : Type 0) (v : View) (q : Request) → About v q P F → Of P F v (plan v q)
 unfolding plan asCaller
-plan-of P F v c (FRESH T S R) A = of-need P F v _ _ _ _ refl (of-done P F v _ _ (A .fresh T S R refl, tt))
-plan-of P F v c (LOAD nm n) A =
+plan-of P F v (FRESH T S R) A = of-need P F v _ _ _ _ refl (of-done P F v _ _ (A .fresh T S R refl, tt))
+plan-of P F v (LOAD nm n) A =
     of-need P F v _ _ _ _ refl (of-need P F v _ _ _ _ refl (of-test P F v _ _ _ _ refl
     (λ e. of-done P F v _ _ (A .party _ (ltb-true 0 (lowestUnused (v .book .programs)) e) (takes-name nm n refl) _, tt))))
-plan-of P F v c (operator o nm) A =
+plan-of P F v (operator o nm) A =
     of-need P F v _ _ _ _ refl (of-named P F v _ _ (λ i. order-of P F v o (find (v .book .programs) nm) (A .party _ i (ordered o nm refl))))
-plan-of P F v c TICK A =
+plan-of P F v TICK A =
     of-need P F v _ _ _ _ refl (of-done P F v _ _ (upon-each P F v (λ p. ticked p (at (v .book) p)) (keep (dueAt (v .book)) all)
     (λ x h.
     let k = keep-in (dueAt (v .book)) x all h in
     let X : Known x = all-in x (k .1) in
     upon-ticked P F v x (at (v .book) x) (A .party x (X .0) (due X (k .0))))))
-plan-of P F v c (running r) A = of-test P F v _ _ _ _ refl (λ e. call-of P F v c r (ltb-true 0 (head c) e) (A .party))
+plan-of P F v (running r) A = of-test P F v _ _ _ _ refl (λ e. call-of P F v r (ltb-true 0 (caller P F v) e) (A .party))

@@ -68,14 +68,14 @@ module _ (v : View) (p s : ℕ) (x : Plan) where
   inside-failed n = need-failed 5 (stateOf (v .book) p) x (ne-eqb (stateOf (v .book) p) s n)
 
 -- the caller
-module _ (c : List ℕ) (f : ℕ → Plan) where
-  pub caller-none : head c ≡ 0 → asCaller c f ≡ refused 2 0
+module _ (v : View) (f : ℕ → Plan) where
+  pub caller-none : head (v .chain 1) ≡ 0 → asCaller v f ≡ refused 2 0
   unfolding asCaller
-  caller-none e = need-failed 2 0 (f (head c)) (le-ltb 0 (head c) (omega arith))
+  caller-none e = need-failed 2 0 _ (le-ltb 0 (head (v .chain 1)) (omega arith))
 
-  pub caller-is : (p : ℕ) → head c ≡ p → 1 ≤ p → asCaller c f ≡ f p
+  pub caller-is : (p : ℕ) → head (v .chain 1) ≡ p → 1 ≤ p → asCaller v f ≡ f p
   unfolding asCaller
-  caller-is p e h = need-met 2 0 (f (head c)) (lt-ltb 0 (head c) (omega arith)) ∙ ap f e
+  caller-is p e h = need-met 2 0 _ (lt-ltb 0 (head (v .chain 1)) (omega arith)) ∙ ap f e
 
 -- to wait, or to be told
 module _ (c w s : ℕ) (y : Why) where

@@ -1,7 +1,7 @@
 -- A request that is refused has a number of the outline's list, 2 to 14, and leaves the state as it was: for every request, under any keeper.
 -- A plan that is a refusal holds no events, so nothing can happen; its number is read off the rules by the one walk over them.
 -- Assumes nothing.
-use Prim.Native.Nat.{ℕ, _≤_}
+use Prim.Native.Nat.{_≤_}
 use native.Mathlib.Omega.{arith}
 use mathlib.Core.Path.{_≡_, refl, ap, subst}
 use mathlib.Core.List.{List, [], _∷_}
@@ -9,13 +9,13 @@ use Rattle.lists.proofs.Tests.{upTo-true}
 use Rattle.rules.specs.Requests.{Request}
 use Rattle.rules.specs.Plans.{Plan, refused, done, releasing, waiting, View, numberOf, eventsOf}
 use Rattle.rules.specs.Rules.{plan}
-use Rattle.rules.specs.Keeper.{Keeper, State, play, view, scheduled, asks}
+use Rattle.rules.specs.Keeper.{Keeper, State, play, view, asks}
 use Rattle.rules.proofs.Parts.{Listed, plan-of}
 use Rattle.rules.proofs.Statements.{Answered, runs}
 
-plan-listed : (v : View) (c : List ℕ) (q : Request) → Listed (plan v c q)
-plan-listed v c q =
-    plan-of (λ p d. Unit {0}) (Unit {0}) v c q (record { fresh = λ T S R e. tt; party = λ x h y d. tt }) .number
+plan-listed : (v : View) (q : Request) → Listed (plan v q)
+plan-listed v q =
+    plan-of (λ p d. Unit {0}) (Unit {0}) v q (record { fresh = λ T S R e. tt; party = λ x h y d. tt }) .number
 
 listed-highest : (x : Plan) → Listed x → numberOf x ≤ 11
 listed-highest (refused a v) h = upTo-true 2 11 a h .1
@@ -31,7 +31,7 @@ refusal-nothing v (waiting s es) h = absurd (omega arith)
 
 pub answered : (K : Keeper) (t : State K) (q : Request) → Answered K t q
 answered K t q =
-    let listed : Listed (asks K t q) = plan-listed (view K t) (scheduled K t) q in
+    let listed : Listed (asks K t q) = plan-listed (view K t) q in
     record {
       highest = listed-highest (asks K t q) listed;
       lowest = λ a v e. upTo-true 2 11 a (subst Listed e listed) .0;

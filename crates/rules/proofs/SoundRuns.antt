@@ -17,7 +17,7 @@ use Rattle.tracks.specs.Tracks.{nobody, replaced}
 use Rattle.rules.specs.Requests.{Order, RU, SS, GO, PR, OF, Request, FRESH, LOAD, operator, TICK, running}
 use Rattle.rules.specs.Plans.{priced, loaded, on, Release}
 use Rattle.rules.specs.Rules.{allowed, order, call, endsIn, ends, sizes, plan}
-use Rattle.rules.specs.Keeper.{lists, State, step, view, scheduled, after}
+use Rattle.rules.specs.Keeper.{lists, State, step, view, after}
 use Rattle.rules.specs.Sound.{Sound}
 use Rattle.rules.proofs.Finding.{find-none, unused-known, unused-is}
 use Rattle.rules.proofs.Fine.{Fine, fine-sound}
@@ -52,7 +52,7 @@ module _ (a : State lists) (S : Sound a) where
       fine-on (strict a) p P (loaded nm n) a (before a S)
       (apt-loaded (strict a) a (before a S) p P nm n (unused-is (a .book .programs) k) l m (find-none (a .book .programs) nm f))
 
-  keeps-plan : (q : Request) → Keeps a (plan (view lists a) (scheduled lists a) q)
+  keeps-plan : (q : Request) → Keeps a (plan (view lists a) q)
   unfolding plan step
   keeps-plan (FRESH T B R) = keeps-need a S (sizes T B R) 3 0 _ λ e. record { sound = sound-fresh T B R e }
   keeps-plan (LOAD nm n) =

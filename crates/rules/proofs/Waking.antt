@@ -87,8 +87,8 @@ count-gone p c l = go (decLe 1 (count p c))
     go (no h) = omega (arith, h, count-remove-le p p c)
 
 -- who is woken stood in chain 5 or chain 3, and the one that ended has left it
-woken-from : (v : View) (R : Release) (x : ℕ) (A : Type 0) → 1 ≤ count x (woken v R) → (1 ≤ count x (remove (R .ended) (v .disc)) → A)
-    → (1 ≤ count x (remove (R .ended) (v .general)) → A) → A
+woken-from : (v : View) (R : Release) (x : ℕ) (A : Type 0) → 1 ≤ count x (woken v R) → (1 ≤ count x (remove (R .ended) (v .chain 5)) → A)
+    → (1 ≤ count x (remove (R .ended) (v .chain 3)) → A) → A
 unfolding woken
 woken-from v R x A h f g = go (ltb 0 (R .tracks)) h
   where
@@ -96,17 +96,17 @@ woken-from v R x A h f g = go (ltb 0 (R .tracks)) h
     f₃ q = awaits R (whyOf (v .book) q)
 
     c₃ : List ℕ
-    c₃ = remove (R .ended) (v .general)
+    c₃ = remove (R .ended) (v .chain 3)
 
     general : 1 ≤ count x (keep f₃ c₃) → A
     general k = g (keep-in f₃ x c₃ k .1)
 
-    go : (b : Bool) → 1 ≤ count x (cond b (remove (R .ended) (v .disc)) [] ++ keep f₃ c₃) → A
-    go true k = pick (decLe 1 (count x (remove (R .ended) (v .disc))))
+    go : (b : Bool) → 1 ≤ count x (cond b (remove (R .ended) (v .chain 5)) [] ++ keep f₃ c₃) → A
+    go true k = pick (decLe 1 (count x (remove (R .ended) (v .chain 5))))
       where
-        pick : Dec (1 ≤ count x (remove (R .ended) (v .disc))) → A
+        pick : Dec (1 ≤ count x (remove (R .ended) (v .chain 5))) → A
         pick (yes l) = f l
-        pick (no l) = general (omega (arith, l, count-append x (remove (R .ended) (v .disc)) (keep f₃ c₃)))
+        pick (no l) = general (omega (arith, l, count-append x (remove (R .ended) (v .chain 5)) (keep f₃ c₃)))
     go false k = general k
 
 -- an awake program is used

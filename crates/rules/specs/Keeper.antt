@@ -5,7 +5,7 @@ use mathlib.Core.Bool.{Bool, cond}
 use mathlib.Core.List.{List, [], _∷_}
 use lib.ListN.{getD, set, replicate}
 use lib.Dec.{leb, eqb}
-use Rattle.lists.specs.Lists.{keep, insertBy, insert, remove}
+use Rattle.lists.specs.Lists.{keep, insertBy, insert, remove, upTo}
 use Rattle.records.specs.declared.Program.{Program}
 use Rattle.records.specs.declared.Why.{Why}
 use Rattle.records.specs.declared.Why.the-variants.{Nothing}
@@ -108,16 +108,16 @@ module _ (K : Keeper) where
   play [] t = t
   play (e ∷ es) t = play es (step e t)
 
-  -- what a rule sees, and the scheduled chain
+  -- what a rule sees; the scheduled chain
   abbrev pub view : State → View
-  view t = record { book = t .book; general = K .order (t .book) (t .kept) 3; disc = K .order (t .book) (t .kept) 5 }
+  view t = record { book = t .book; chain = λ s. cond (upTo 1 6 s) (K .order (t .book) (t .kept) s) [] }
 
   abbrev pub scheduled : State → List ℕ
   scheduled t = K .order (t .book) (t .kept) 1
 
   -- a request: what it comes to, and the state after it
   abbrev pub asks : State → Request → Plan
-  asks t q = plan (view t) (scheduled t) q
+  asks t q = plan (view t) q
 
   abbrev pub after : State → Request → State
   after t q = play (eventsOf (view t) (asks t q)) t

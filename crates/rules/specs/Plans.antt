@@ -65,11 +65,10 @@ releaseOf (done vs es) = nothing
 releaseOf (releasing vs es R) = R
 releaseOf (waiting s es) = nothing
 
--- what a rule sees besides its caller: the book, and the chains of those who wait, 3 and 5
+-- what a rule sees: the book, and the chain of each state
 pub record View : Type 0 where
   pub book : Book
-  pub general : List ℕ
-  pub disc : List ℕ
+  pub chain : ℕ → List ℕ  -- of a state from 1 to 6, lowest first
 
 -- the reason to wait in chain 3 is gone
 abbrev pub awaits : Release → Why → Bool
@@ -81,11 +80,11 @@ awaits R Number = R .dealt
 
 -- all of chain 5 if a track was freed, in chain order; the one that ended has left its chain
 abbrev pub fromDisc : View → Release → List ℕ
-fromDisc v R = cond (ltb 0 (R .tracks)) (remove (R .ended) (v .disc)) []
+fromDisc v R = cond (ltb 0 (R .tracks)) (remove (R .ended) (v .chain 5)) []
 
 -- chain 3 is walked once: those whose reason is gone
 abbrev pub fromGeneral : View → Release → List ℕ
-fromGeneral v R = keep (λ q. awaits R (whyOf (v .book) q)) (remove (R .ended) (v .general))
+fromGeneral v R = keep (λ q. awaits R (whyOf (v .book) q)) (remove (R .ended) (v .chain 3))
 
 -- chain 5, then chain 3
 unfoldable pub woken : View → Release → List ℕ
