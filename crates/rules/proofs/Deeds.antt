@@ -63,6 +63,11 @@ module _ (K : Keeper) (p : ℕ) where
   pub step-put : Known p → (d : Deed) (t : State K) → step K (on p d) t ≡ record { book = put p (made d (at (t .book) p)) (t .book); kept = act K p d t .kept }
   step-put P d t = step-act P d t ∙ act-put d t
 
+-- a waking comes to this
+pub wakes-becomes : (K : Keeper) (p : ℕ) (t : State K) → step K (on p wakes) t ≡ step K (on p (becomes 1 Nothing)) t
+unfolding step act
+wakes-becomes K p t = refl
+
 -- the records of the second list are those of the first, but program p's is r
 pub record Turned (p : ℕ) (r : Program) (ps qs : List Program) : Type 0 where
   pub long : length qs ≡ 32
