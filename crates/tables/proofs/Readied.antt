@@ -52,11 +52,11 @@ module _ (t : Tables) (R : Ready t) (q : Call) where
   unfolding served plan
   no-caller e =
       refuses t NoCaller 0 refl
-      ∙ ap (planned t) (sym (caller-none (scheduled lists (plain t)) (λ p. call (view lists (plain t)) p q) e))
+      ∙ ap (planned t) (sym (caller-none (view lists (plain t)) (λ p. call (view lists (plain t)) p q) e))
       ∙ sym (asked-sound t (running q) (R .sound))
 
   pub by-caller : (c : ℕ) → callerOf t ≡ c → 1 ≤ c → planned t (callOf t c q) ≡ asked t (running q)
   unfolding served plan
   by-caller c e h =
-      ap (planned t) (sym (caller-is (scheduled lists (plain t)) (λ p. call (view lists (plain t)) p q) c e h))
+      ap (planned t) (sym (caller-is (view lists (plain t)) (λ p. call (view lists (plain t)) p q) c e h))
       ∙ sym (asked-sound t (running q) (R .sound))

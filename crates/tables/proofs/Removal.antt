@@ -20,7 +20,7 @@ use Rattle.rules.specs.Book.{at, stateOf, whyOf}
 use Rattle.rules.specs.Requests.{OF, Request, FRESH, operator}
 use Rattle.rules.specs.Plans.{Plan, Release, on, unloaded, held, wake, woken, numberOf, eventsOf}
 use Rattle.rules.specs.Rules.{plan, order, endsIn, ends, quit}
-use Rattle.rules.specs.Keeper.{lists, State, step, play, view, scheduled, asks, after}
+use Rattle.rules.specs.Keeper.{lists, State, step, play, view, asks, after}
 use Rattle.rules.specs.Frame.{Party, ordered, Stirred, stays, wakes}
 use Rattle.rules.specs.Sound as rules
 use Rattle.rules.proofs.Paths.{need-met, named-found}
@@ -115,7 +115,7 @@ module _ (a : State lists) (S : rules.Sound a) (nm : List ℕ) (h : 1 ≤ find (
       other : (T O R : ℕ) → q ≢ FRESH T O R
       other T O R e = let o : _≡_ {A = ℕ} 0 1 = cc in omega arith
 
-      apart : Party (a .book) (scheduled lists a) z q → ⊥
+      apart : Party (view lists a) z q → ⊥
       apart (ordered o m e) = n (sym e)
 
   off-unnamed : find (after lists a q .book .programs) nm ≡ 0

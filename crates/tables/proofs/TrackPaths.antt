@@ -159,7 +159,7 @@ woken-disc : (v : View) (n : ℕ) → woken v (frees n) ≡ fromDisc v (frees n)
 unfolding woken
 woken-disc v n =
     ap (λ (c : List ℕ). fromDisc v (frees n) ++ c)
-    (keep-none (λ q. awaits (frees n) (whyOf (v .book) q)) (remove (frees n .ended) (v .general)) (λ q. awaits-none n (whyOf (v .book) q)))
+    (keep-none (λ q. awaits (frees n) (whyOf (v .book) q)) (remove (frees n .ended) (v .chain 3)) (λ q. awaits-none n (whyOf (v .book) q)))
     ∙ append-nil (fromDisc v (frees n))
 
 -- tracks freed: who waits for tracks wakes
