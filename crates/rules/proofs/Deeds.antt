@@ -1,6 +1,7 @@
 -- What a deed leaves of the book: the program's own record becomes what the deed says, and nothing else changes. A deed may put records more than once, but at one place.
 -- Assumes nothing.
 use Prim.Native.Nat.{ℕ, zero, suc, _-_}
+use native.Mathlib.Decide.{ℕ-discrete}
 use mathlib.Core.Path.{_≡_, refl, sym, ap, _∙_, subst}
 use mathlib.Core.Logic.{_≢_}
 use mathlib.Core.List.{List, [], _∷_}
@@ -73,6 +74,23 @@ pub record Turned (p : ℕ) (r : Program) (ps qs : List Program) : Type 0 where
   pub long : length qs ≡ 32
   pub here : recordAt qs p ≡ r
   pub rest : (z : ℕ) → Known z → z ≢ p → recordAt qs z ≡ recordAt ps z
+
+module _ {p : ℕ} {r : Program} {ps qs : List Program} (T : Turned p r ps qs) where
+  -- what is said of the new record, and of the others as they were, is said of each
+  pub turned-each : (Q : ℕ → Program → Type 0) → Q p r → ((z : ℕ) → Known z → z ≢ p → Q z (recordAt ps z)) → (z : ℕ) → Known z → Q z (recordAt qs z)
+  turned-each Q h f z Z = go (ℕ-discrete z p)
+    where
+      go : Dec (z ≡ p) → Q z (recordAt qs z)
+      go (yes i) = subst (λ (y : ℕ). Q y (recordAt qs y)) (sym i) (subst (Q p) (sym (T .here)) h)
+      go (no n) = subst (Q z) (sym (T .rest z Z n)) (f z Z n)
+
+  -- records of which no two are alike in some way, nor is the new one to another
+  pub turned-apart : (E : Program → Program → Type 0) → ((x y : Program) → E x y → E y x) → ((z : ℕ) → Known z → z ≢ p → E r (recordAt ps z) → ⊥)
+      → ((y z : ℕ) → Known y → Known z → E (recordAt ps y) (recordAt ps z) → y ≡ z) → (y z : ℕ) → Known y → Known z → E (recordAt qs y) (recordAt qs z) → y ≡ z
+  turned-apart E turn new old y z Y Z =
+      turned-each (λ y x. E x (recordAt qs z) → y ≡ z)
+      (turned-each (λ z x. E r x → p ≡ z) (λ h. refl) (λ z Z n h. absurd (new z Z n h)) z Z)
+      (λ y Y m. turned-each (λ z x. E (recordAt ps y) x → y ≡ z) (λ h. absurd (new y Y m (turn _ _ h))) (λ z Z n. old y z Y Z) z Z) y Y
 
 pub turned-put : (b : Book) (p : ℕ) (r : Program) → Known p → length (b .programs) ≡ 32 → Turned p r (b .programs) (put p r b .programs)
 turned-put b p r P L = record { long = put-long b p r L; here = at-same b L p P r; rest = at-other b p P r }

@@ -23,81 +23,38 @@ use Rattle.rules.specs.Plans.{Deed, becomes, unloaded, timed, on, held, 
 use Rattle.rules.specs.Rules.{dismissed}
 use Rattle.rules.specs.Keeper.{lists, State, step, play, view}
 use Rattle.rules.proofs.Deeds.{made, step-put, step-turned}
-use Rattle.rules.proofs.Fine.{Slack, exact, right-slack, Uses, Tracked, Numbered, Fine}
-use Rattle.rules.proofs.Apt.{tracked-map, numbered-map, fine-on, fine-held, fine-numbered}
-use Rattle.rules.proofs.Making.{Timer, nothing-childless, apt-plain, apt-timed, apt-unused}
+use Rattle.rules.proofs.Fine.{Slack, exact, Sonny, Uses, Tracked, Numbered, Fine, fine-anew}
+use Rattle.rules.proofs.Apt.{tracked-map, numbered-map, fine-on}
+use Rattle.rules.proofs.Making.{timer-none, nothing-childless, apt-plain, apt-timed, apt-unused}
 use Rattle.rules.proofs.Passing.{tracked-replaced, numbered-without}
 use Rattle.rules.proofs.Settling.{settle}
 use Rattle.rules.proofs.Waking.{Callable, fine-wake, woke, woken-callable, woken-other, son-woken}
 
 -- p is excused as a son, and u as a user
-abbrev pub away : ℕ → ℕ → ℕ → Slack
+abbrev away : ℕ → ℕ → ℕ → Slack
 away c p u = record { son = p; user = u; clock = c; low = c; high = c + farthest }
 
 module _ (c p : ℕ) (a : State lists) where
-  pub excuse-son : Fine (exact c) a → Fine (away c p 0) a
-  excuse-son F = record {
-    order = F .order;
-    right = λ z Z. right-slack (exact c) (away c p 0) _ _ _ (omega arith) (omega arith) (F .right z Z);
-    distinct = F .distinct;
-    sons = λ z k Z i. let S = F .sons z k Z i in
-        record { known = S .known; other = S .other; used = λ n. S .used (λ w. omega (arith, w, S .known .0)); awake = λ n. S .awake (λ w. omega (arith, w, S .known .0)) };
-    once = F .once;
-    tracked = F .tracked;
-    numbered = F .numbered;
-    sized = F .sized;
-    now = F .now;
-    time = F .time;
-  }
+  -- other excuses: what is said of sons, tracks and numbers is said anew
+  excused : (q u v w : ℕ) → Fine (away c q u) a → ((z k : ℕ) → Known z → whyOf (a .book) z ≡ Son k → Sonny v (a .book .programs) z k)
+      → Tracked (Uses w (a .book .programs)) (a .book .tracks) (a .book .system) (a .book .holders)
+      → Numbered (Uses w (a .book .programs)) (a .book .numbers) (a .book .resources) → Fine (away c v w) a
+  excused q u v w F s t n = fine-anew (away c q u) (away c v w) a (a .book .clock) (a .book .holders) (a .book .resources) F (F .right) s t n (F .now) (F .time)
 
-  pub excuse-user : Fine (away c p 0) a → Fine (away c p p) a
-  excuse-user F = record {
-    order = F .order;
-    right = λ z Z. right-slack (away c p 0) (away c p p) _ _ _ (omega arith) (omega arith) (F .right z Z);
-    distinct = F .distinct;
-    sons = F .sons;
-    once = F .once;
-    tracked = tracked-map (Uses 0 (a .book .programs)) (Uses p (a .book .programs)) (a .book .tracks) (a .book .system) (a .book .holders)
-        (λ h H u n. u (λ w. omega (arith, w, H .0))) (F .tracked);
-    numbered = numbered-map (Uses 0 (a .book .programs)) (Uses p (a .book .programs)) (a .book .numbers) (a .book .resources)
-        (λ h H u n. u (λ w. omega (arith, w, H .0))) (F .numbered);
-    sized = F .sized;
-    now = F .now;
-    time = F .time;
-  }
+  excuse-son : Fine (exact c) a → Fine (away c p 0) a
+  excuse-son F = excused 0 0 p 0 F (λ z k Z i. let S = F .sons z k Z i in
+      record { known = S .known; other = S .other; used = λ n. S .used (λ w. omega (arith, w, S .known .0)); awake = λ n. S .awake (λ w. omega (arith, w, S .known .0)) })
+      (F .tracked) (F .numbered)
 
-  pub blame-user : Fine (away c p p) a → Tracked (Uses 0 (a .book .programs)) (a .book .tracks) (a .book .system) (a .book .holders)
-      → Numbered (Uses 0 (a .book .programs)) (a .book .numbers) (a .book .resources) → Fine (away c p 0) a
-  blame-user F t n = record {
-    order = F .order;
-    right = λ z Z. right-slack (away c p p) (away c p 0) _ _ _ (omega arith) (omega arith) (F .right z Z);
-    distinct = F .distinct;
-    sons = F .sons;
-    once = F .once;
-    tracked = t;
-    numbered = n;
-    sized = F .sized;
-    now = F .now;
-    time = F .time;
-  }
+  excuse-user : Fine (away c p 0) a → Fine (away c p p) a
+  excuse-user F = excused p 0 p p F (F .sons) (tracked-map (λ h H u n. u (λ w. omega (arith, w, H .0))) (F .tracked)) (numbered-map (λ h H u n. u (λ w. omega (arith, w, H .0))) (F .numbered))
 
-  pub blame-son : Fine (away c p 0) a → ((z : ℕ) → Known z → whyOf (a .book) z ≡ Son p → ⊥) → Fine (exact c) a
-  blame-son F f = record {
-    order = F .order;
-    right = λ z Z. right-slack (away c p 0) (exact c) _ _ _ (omega arith) (omega arith) (F .right z Z);
-    distinct = F .distinct;
-    sons = λ z k Z i. let S = F .sons z k Z i in let n : k ≢ p = λ w. f z Z (i ∙ ap Son w) in
-        record { known = S .known; other = S .other; used = λ m. S .used n; awake = λ m. S .awake n };
-    once = F .once;
-    tracked = F .tracked;
-    numbered = F .numbered;
-    sized = F .sized;
-    now = F .now;
-    time = F .time;
-  }
+  blame-son : Fine (away c p 0) a → ((z : ℕ) → Known z → whyOf (a .book) z ≡ Son p → ⊥) → Fine (exact c) a
+  blame-son F f = excused p 0 0 0 F (λ z k Z i. let S = F .sons z k Z i in let n : k ≢ p = λ w. f z Z (i ∙ ap Son w) in
+      record { known = S .known; other = S .other; used = λ m. S .used n; awake = λ m. S .awake n }) (F .tracked) (F .numbered)
 
 -- a₁ is a₀ where p waits for nothing any more, and else no record, holder or number is altered
-pub record Gone (p : ℕ) (a₀ a₁ : State lists) : Type 0 where
+record Gone (p : ℕ) (a₀ a₁ : State lists) : Type 0 where
   pub why : whyOf (a₁ .book) p ≡ Nothing
   pub rest : (z : ℕ) → Known z → z ≢ p → at (a₁ .book) z ≡ at (a₀ .book) z
   pub holders : a₁ .book .holders ≡ a₀ .book .holders
@@ -127,40 +84,25 @@ module _ (c : ℕ) (a₀ : State lists) (F₀ : Fine (exact c) a₀) (R : Releas
           let r = woke l a₁ (F₁ .order .long) (λ q k. callable q k .0) .rest z Z (omega (arith, h)) in
           h (son-woken (exact c) a₀ F₀ R P z Z n (ap (λ (x : Program). x .why) (sym (O z Z n)) ∙ ap (λ (x : Program). x .why) (sym r) ∙ i))
 
-  -- its numbers pass to nobody, and then they are woken
-  pub settle-fine : (a₁ : State lists) → Fine (away c (R .ended) (R .ended)) a₁
-      → Tracked (Uses 0 (a₁ .book .programs)) (a₁ .book .tracks) (a₁ .book .system) (a₁ .book .holders)
-      → whyOf (a₁ .book) (R .ended) ≡ Nothing → ((z : ℕ) → Known z → z ≢ R .ended → at (a₁ .book) z ≡ at (a₀ .book) z)
-      → a₁ .book .resources ≡ a₀ .book .resources → Fine (exact c) (play lists (settle (view lists a₀) (R .ended) R) a₁)
+  -- its tracks are hs now, its numbers pass to nobody, and then they are woken
+  settle-fine : (a₁ : State lists) (hs : List ℕ) → Fine (away c (R .ended) (R .ended)) a₁ → Gone (R .ended) a₀ a₁
+      → Tracked (Uses 0 (a₁ .book .programs)) (a₁ .book .tracks) (a₁ .book .system) hs → Fine (exact c) (play lists (settle (view lists a₀) (R .ended) R) (step lists (held hs) a₁))
   unfolding step
-  settle-fine a₁ F₁ t y O N =
-      let xs : List Resource = map (without (R .ended)) (a₀ .book .resources) in
-      let n : Numbered (Uses 0 (a₁ .book .programs)) (a₁ .book .numbers) xs =
-      subst (λ (y : List Resource). Numbered (Uses 0 (a₁ .book .programs)) (a₁ .book .numbers) (map (without (R .ended)) y)) N
-      (numbered-without (Uses 0 (a₁ .book .programs)) (a₁ .book .numbers) (a₁ .book .resources) (R .ended)
-      (numbered-map (Uses (R .ended) (a₁ .book .programs)) (λ h. h ≢ R .ended → Uses 0 (a₁ .book .programs) h) (a₁ .book .numbers) (a₁ .book .resources)
-      (λ h H u m w. u m) (F₁ .numbered))) in
-      let w : Numbered (Uses (R .ended) (a₁ .book .programs)) (a₁ .book .numbers) xs =
-      numbered-map (Uses 0 (a₁ .book .programs)) (Uses (R .ended) (a₁ .book .programs)) (a₁ .book .numbers) xs
-      (λ h H u m. u (λ i. omega (arith, i, H .0))) n in
-      settle-sons (step lists (numbered xs) a₁)
-      (blame-user c (R .ended) (step lists (numbered xs) a₁) (fine-numbered (away c (R .ended) (R .ended)) xs a₁ F₁ w) t n) y O
+  settle-fine a₁ hs F₁ G t =
+      let rs : List Resource = map (without (R .ended)) (a₀ .book .resources) in
+      let n : Numbered (Uses 0 (a₁ .book .programs)) (a₁ .book .numbers) rs =
+      subst (λ (y : List Resource). Numbered (Uses 0 (a₁ .book .programs)) (a₁ .book .numbers) (map (without (R .ended)) y)) (G .resources)
+      (numbered-without (R .ended) (numbered-map (λ h H u m w. u m) (F₁ .numbered))) in
+      settle-sons (step lists (numbered rs) (step lists (held hs) a₁))
+      (fine-anew (away c (R .ended) (R .ended)) (away c (R .ended) 0) a₁ (a₁ .book .clock) hs rs F₁ (F₁ .right) (F₁ .sons) t n (F₁ .now) (F₁ .time)) (G .why) (G .rest)
 
-  -- its tracks too
-  pub depart-fine : (a₁ : State lists) → Fine (away c (R .ended) (R .ended)) a₁ → Gone (R .ended) a₀ a₁
+  -- its tracks pass to nobody too
+  depart-fine : (a₁ : State lists) → Fine (away c (R .ended) (R .ended)) a₁ → Gone (R .ended) a₀ a₁
       → Fine (exact c) (play lists (held (replaced (R .ended) nobody (a₀ .book .holders)) ∷ settle (view lists a₀) (R .ended) R) a₁)
-  unfolding step
   depart-fine a₁ F₁ G =
-      let xs : List ℕ = replaced (R .ended) nobody (a₀ .book .holders) in
-      let t : Tracked (Uses 0 (a₁ .book .programs)) (a₁ .book .tracks) (a₁ .book .system) xs =
-      subst (λ (y : List ℕ). Tracked (Uses 0 (a₁ .book .programs)) (a₁ .book .tracks) (a₁ .book .system) (replaced (R .ended) nobody y)) (G .holders)
-      (tracked-replaced (Uses 0 (a₁ .book .programs)) (a₁ .book .tracks) (a₁ .book .system) (a₁ .book .holders) (R .ended) (omega (arith, P .1))
-      (tracked-map (Uses (R .ended) (a₁ .book .programs)) (λ h. h ≢ R .ended → Uses 0 (a₁ .book .programs) h) (a₁ .book .tracks) (a₁ .book .system) (a₁ .book .holders)
-      (λ h H u m w. u m) (F₁ .tracked))) in
-      let w : Tracked (Uses (R .ended) (a₁ .book .programs)) (a₁ .book .tracks) (a₁ .book .system) xs =
-      tracked-map (Uses 0 (a₁ .book .programs)) (Uses (R .ended) (a₁ .book .programs)) (a₁ .book .tracks) (a₁ .book .system) xs
-      (λ h H u m. u (λ i. omega (arith, i, H .0))) t in
-      settle-fine (step lists (held xs) a₁) (fine-held (away c (R .ended) (R .ended)) xs a₁ F₁ w) t (G .why) (G .rest) (G .resources)
+      settle-fine a₁ (replaced (R .ended) nobody (a₀ .book .holders)) F₁ G
+      (subst (λ (y : List ℕ). Tracked (Uses 0 (a₁ .book .programs)) (a₁ .book .tracks) (a₁ .book .system) (replaced (R .ended) nobody y)) (G .holders)
+      (tracked-replaced (R .ended) (omega (arith, P .1)) (tracked-map (λ h H u m w. u m) (F₁ .tracked))))
 
 -- what a deed of p leaves
 gone-step : (a₀ a₁ : State lists) (p : ℕ) → Known p → (d : Deed) → length (a₁ .book .programs) ≡ 32 → made d (at (a₁ .book) p) .why ≡ Nothing
@@ -178,13 +120,15 @@ gone-step a₀ a₁ p P d L w O H N =
 module _ (c : ℕ) (a : State lists) (F : Fine (exact c) a) (R : Release) (P : Known (R .ended)) (u : at (a .book) (R .ended) .used ≡ true) where
   -- EXEC 6
   pub end-fine : Fine (exact c) (play lists (on (R .ended) (becomes 0 Nothing) ∷ settle (view lists a) (R .ended) R) a)
+  unfolding step
   end-fine =
       let e : Slack = away c (R .ended) 0 in
       let F₀ : Fine e a = excuse-son c (R .ended) a F in
-      let F₁ : Fine e (step lists (on (R .ended) (becomes 0 Nothing)) a) =
+      let a₁ : State lists = step lists (on (R .ended) (becomes 0 Nothing)) a in
+      let F₁ : Fine e a₁ =
       fine-on e (R .ended) P (becomes 0 Nothing) a F₀ (apt-plain e a F₀ (R .ended) P u 0 Nothing refl nothing-childless (λ n. absurd (n refl))) in
       let G = gone-step a a (R .ended) P (becomes 0 Nothing) (F .order .long) refl (λ z Z n. refl) refl refl in
-      settle-fine c a F R P (step lists (on (R .ended) (becomes 0 Nothing)) a) (excuse-user c (R .ended) _ F₁) (F₁ .tracked) (G .why) (G .rest) (G .resources)
+      settle-fine c a F R P a₁ (a₁ .book .holders) (excuse-user c (R .ended) a₁ F₁) G (F₁ .tracked)
 
   -- OF 1 and 8
   pub off-fine : (k : ℕ)
@@ -212,14 +156,11 @@ module _ (c : ℕ) (a : State lists) (F : Fine (exact c) a) (R : Release) (P : K
       v : at (b .book) p .used ≡ true
       v = ap (λ (r : Program). r .used) (step-turned lists p P (becomes 0 Nothing) a (F .order .long) .here) ∙ u
 
-      off : Timer e 0 0
-      off = record { timeless = λ i. refl; above = λ n. absurd (n refl); near = λ n. absurd (n refl); steps = omega arith }
-
       go : (x : Bool) → Fine (exact c) (play lists (cond x (on p unloaded ∷ []) (on p (becomes 0 Nothing) ∷ on p (timed 0 0) ∷ [])
           ++ (held (replaced p nobody (a .book .holders)) ∷ settle (view lists a) p R)) a)
       go true =
           depart-fine c a F R P (step lists (on p unloaded) a) (fine-on e p P unloaded a F₀ (apt-unused e a F₀ p P refl refl))
           (gone-step a a p P unloaded (F .order .long) refl (λ z Z n. refl) refl refl)
       go false =
-          depart-fine c a F R P (step lists (on p (timed 0 0)) b) (fine-on e p P (timed 0 0) b B (apt-timed e b B p P v 0 0 off))
+          depart-fine c a F R P (step lists (on p (timed 0 0)) b) (fine-on e p P (timed 0 0) b B (apt-timed e b B p P v 0 0 (timer-none c (c + farthest))))
           (gone-step a b p P (timed 0 0) (B .order .long) (G .why) (G .rest) (G .holders) (G .resources))

@@ -22,7 +22,7 @@ use Rattle.records.specs.Names.{legal}
 use Rattle.records.specs.Records.{Known, known, recordAt, unused}
 use Rattle.records.specs.Numbers.{globally, numberAt}
 use Rattle.tracks.specs.Tracks.{nobody, system}
-use Rattle.rules.specs.Book.{Book, at, stateOf, whyOf}
+use Rattle.rules.specs.Book.{Book, at, stateOf, whyOf, altered}
 use Rattle.rules.specs.Keeper.{lists, State}
 use Rattle.rules.specs.Sound.{suits, Sound}
 use Rattle.rules.proofs.Places.{known-true, known-is}
@@ -47,29 +47,24 @@ alone T R s (Son k) = eqb s 3
 alone T R s (Lock r) = eqb s 3 && upTo 1 R r
 alone T R s Number = eqb s 3
 
+-- a timer with a due between two bounds
+pub record Timer (low high d i : ℕ) : Type 0 where
+  pub timeless : d ≡ 0 → i ≡ 0
+  pub above : d ≢ 0 → low < d
+  pub near : d ≢ 0 → d ≤ high
+  pub steps : i ≤ farthest
+
 -- one record, beside T tracks and R numbers
-pub record Right (e : Slack) (T R : ℕ) (r : Program) : Type 0 where
+pub record Right (low high T R : ℕ) (r : Program) : Type 0 where
   pub lawful : r .used ≡ true → legal (r .name) ≡ true
   pub empty : r .used ≡ false → r ≡ unused
-  pub timeless : r .due ≡ 0 → r .interval ≡ 0
   pub priority : r .priority ≤ 32767
-  pub above : r .due ≢ 0 → e .low < r .due
-  pub near : r .due ≢ 0 → r .due ≤ e .high
-  pub steps : r .interval ≤ farthest
+  pub timer : Timer low high (r .due) (r .interval)
   pub fitting : alone T R (r .state) (r .why) ≡ true
 
--- wider bounds ask for less
-pub right-slack : (e f : Slack) (T R : ℕ) (r : Program) → f .low ≤ e .low → e .high ≤ f .high → Right e T R r → Right f T R r
-right-slack e f T R r l h G = record {
-  lawful = G .lawful;
-  empty = G .empty;
-  timeless = G .timeless;
-  priority = G .priority;
-  above = λ n. omega (arith, G .above n);
-  near = λ n. omega (arith, G .near n);
-  steps = G .steps;
-  fitting = G .fitting;
-}
+-- another timer, or other bounds
+pub right-timed : (l h l′ h′ T R : ℕ) (r : Program) → Right l h T R r → Timer l′ h′ (r .due) (r .interval) → Right l′ h′ T R r
+right-timed l h l′ h′ T R r G t = record { lawful = G .lawful; empty = G .empty; priority = G .priority; timer = t; fitting = G .fitting }
 
 -- k is a son that p may await
 pub record Sonny (x : ℕ) (ps : List Program) (p k : ℕ) : Type 0 where
@@ -114,7 +109,7 @@ pub record Sized (T S R : ℕ) : Type 0 where
 
 pub record Fine (e : Slack) (a : State lists) : Type 0 where
   pub order : Ordered (a .book .programs) (a .kept)
-  pub right : (p : ℕ) → Known p → Right e (a .book .tracks) (a .book .numbers) (at (a .book) p)
+  pub right : (p : ℕ) → Known p → Right (e .low) (e .high) (a .book .tracks) (a .book .numbers) (at (a .book) p)
   pub distinct : (p q : ℕ) → Known p → Known q → at (a .book) p .used ≡ true → at (a .book) q .used ≡ true → at (a .book) p .name ≡ at (a .book) q .name → p ≡ q
   pub sons : (p k : ℕ) → Known p → whyOf (a .book) p ≡ Son k → Sonny (e .son) (a .book .programs) p k
   pub once : (p q k : ℕ) → Known p → Known q → whyOf (a .book) p ≡ Son k → whyOf (a .book) q ≡ Son k → p ≡ q
@@ -123,6 +118,25 @@ pub record Fine (e : Slack) (a : State lists) : Type 0 where
   pub sized : Sized (a .book .tracks) (a .book .system) (a .book .numbers)
   pub now : a .book .clock ≡ e .clock
   pub time : e .clock ≤ ceiling
+
+-- records and chains stay; what is said of each record's timer, of sons, tracks, numbers and the clock is said anew
+pub fine-anew : (e f : Slack) (a : State lists) (c : ℕ) (hs : List ℕ) (rs : List Resource) → Fine e a
+    → ((p : ℕ) → Known p → Right (f .low) (f .high) (a .book .tracks) (a .book .numbers) (at (a .book) p))
+    → ((p k : ℕ) → Known p → whyOf (a .book) p ≡ Son k → Sonny (f .son) (a .book .programs) p k)
+    → Tracked (Uses (f .user) (a .book .programs)) (a .book .tracks) (a .book .system) hs → Numbered (Uses (f .user) (a .book .programs)) (a .book .numbers) rs
+    → c ≡ f .clock → f .clock ≤ ceiling → Fine f (record { book = altered (a .book) (a .book .programs) c hs rs; kept = a .kept })
+fine-anew e f a c hs rs F right sons tracked numbered now time = record {
+  order = F .order;
+  right = right;
+  distinct = F .distinct;
+  sons = sons;
+  once = F .once;
+  tracked = tracked;
+  numbered = numbered;
+  sized = F .sized;
+  now = now;
+  time = time;
+}
 
 -- what is said of whys in two parts
 record Suited (b : Book) (p s k : ℕ) : Type 0 where
@@ -178,11 +192,8 @@ sound-fine a S = record {
   right = λ p P. record {
     lawful = S .names .lawful p P;
     empty = S .zeros .empty p P;
-    timeless = S .zeros .timeless p P;
     priority = S .limits .priority p P;
-    above = S .dues .above p P;
-    near = S .dues .near p P;
-    steps = S .dues .steps p P;
+    timer = record { timeless = S .zeros .timeless p P; above = S .dues .above p P; near = S .dues .near p P; steps = S .dues .steps p P };
     fitting = suits-alone (a .book) p (stateOf (a .book) p) (whyOf (a .book) p) (S .whys .fitting p P);
   };
   distinct = S .names .distinct;
@@ -211,7 +222,7 @@ pub fine-sound : (c : ℕ) (a : State lists) → Fine (exact c) a → Sound a
 fine-sound c a F = record {
   shape = record { programs = F .order .long; holders = F .tracked .long; resources = F .numbered .long; chains = F .order .seven; dormant = F .order .dormant };
   names = record { lawful = λ p P. F .right p P .lawful; distinct = F .distinct };
-  zeros = record { empty = λ p P. F .right p P .empty; timeless = λ p P. F .right p P .timeless };
+  zeros = record { empty = λ p P. F .right p P .empty; timeless = λ p P. F .right p P .timer .timeless };
   chains = record {
     member = λ s p l m P. F .order .chain s l m .member p P;
     within = λ s p l m h. F .order .chain s l m .within p h;
@@ -240,8 +251,8 @@ fine-sound c a F = record {
     locker = λ r o. F .numbered .each r (o .0) (o .1) .most;
   };
   dues = record {
-    above = λ p P n. omega (arith, F .now, F .right p P .above n);
-    near = λ p P n. omega (arith, F .now, F .right p P .near n);
-    steps = λ p P. F .right p P .steps;
+    above = λ p P n. omega (arith, F .now, F .right p P .timer .above n);
+    near = λ p P n. omega (arith, F .now, F .right p P .timer .near n);
+    steps = λ p P. F .right p P .timer .steps;
   };
 }

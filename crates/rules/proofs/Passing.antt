@@ -52,8 +52,8 @@ tracked-filled U T S xs o start n h t R d k = record {
     go i l (yes u) (no v) = subst (Holds U S i) (sym (filled-out start n h xs i (λ w. omega (arith, v)))) (t .each i l)
 
 -- p holds nothing any more, so that it need be no user
-pub tracked-replaced : (W : ℕ → Type 0) (T S : ℕ) (xs : List ℕ) (p : ℕ) → p < system → Tracked (λ h. h ≢ p → W h) T S xs → Tracked W T S (replaced p nobody xs)
-tracked-replaced W T S xs p m t = record {
+pub tracked-replaced : {W : ℕ → Type 0} {T S : ℕ} {xs : List ℕ} (p : ℕ) → p < system → Tracked (λ h. h ≢ p → W h) T S xs → Tracked W T S (replaced p nobody xs)
+tracked-replaced {W} {T} {S} {xs} p m t = record {
   long = replaced-long p nobody xs ∙ t .long;
   each = λ i l. subst (Holds W S i) (sym (replaced-is p nobody xs i (omega (arith, t .long)))) (go i l (eqb (getD xs i nobody) p) refl);
 }
@@ -108,8 +108,8 @@ map-at f (x ∷ xs) zero h = refl
 map-at f (x ∷ xs) (suc i) h = map-at f xs i (omega arith)
 
 -- p owns and locks nothing any more
-pub numbered-without : (W : ℕ → Type 0) (R : ℕ) (xs : List Resource) (p : ℕ) → Numbered (λ h. h ≢ p → W h) R xs → Numbered W R (map (without p) xs)
-numbered-without W R xs p n = record {
+pub numbered-without : {W : ℕ → Type 0} {R : ℕ} {xs : List Resource} (p : ℕ) → Numbered (λ h. h ≢ p → W h) R xs → Numbered W R (map (without p) xs)
+numbered-without {W} {R} {xs} p n = record {
   long = length-map xs (without p) ∙ n .long;
   each = λ r l m.
       subst (Owned W) (sym (map-at (without p) xs (r - 1) (omega (arith, n .long)))) (owned-without W p (numberAt xs r) (n .each r l m));

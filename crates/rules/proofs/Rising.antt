@@ -20,7 +20,7 @@ use Rattle.rules.specs.Book.{Book, at, stateOf}
 use Rattle.rules.specs.Plans.{Deed, becomes, Event, on, clocked, numbered, wake}
 use Rattle.rules.specs.Rules.{ticked}
 use Rattle.rules.specs.Keeper.{Keeper, State, step, play}
-use Rattle.rules.proofs.Deeds.{made, step-turned}
+use Rattle.rules.proofs.Deeds.{made, turned-each, step-turned}
 
 -- a deed of p
 module _ (K : Keeper) (p : ℕ) (P : Known p) (d : Deed) (t : State K) (L : length (t .book .programs) ≡ 32) where
@@ -31,11 +31,7 @@ module _ (K : Keeper) (p : ℕ) (P : Known p) (d : Deed) (t : State K) (L : leng
   state-there x X n = ap (λ r. r .state) (step-turned K p P d t L .rest x X n)
 
   state-stays : ((r : Program) → made d r .state ≡ r .state) → (x : ℕ) → Known x → stateOf (step K (on p d) t .book) x ≡ stateOf (t .book) x
-  state-stays f x X = go (ℕ-discrete x p)
-    where
-      go : Dec (x ≡ p) → stateOf (step K (on p d) t .book) x ≡ stateOf (t .book) x
-      go (yes e) = rw e (state-here ∙ f (at (t .book) p))
-      go (no n) = state-there x X n
+  state-stays f = turned-each (step-turned K p P d t L) (λ x r. r .state ≡ stateOf (t .book) x) (f (at (t .book) p)) (λ x X n. refl)
 
 -- events by which just those of a list take state 1, and none another
 pub data Rise : List Event → List ℕ → Type 0 where

@@ -101,8 +101,7 @@ module _ (a : State lists) (S : Sound a) where
 
   all-given : (p : ℕ) → Caller a p → Tracked (InUse a) (a .book .tracks) (a .book .system) (replaced p nobody (a .book .holders))
   all-given p C =
-      tracked-replaced (InUse a) (a .book .tracks) (a .book .system) (a .book .holders) p (omega (arith, C .known .1))
-      (tracked-map (InUse a) (λ h. h ≢ p → InUse a h) (a .book .tracks) (a .book .system) (a .book .holders) (λ h H u n. u) (before a S .tracked))
+      tracked-replaced p (omega (arith, C .known .1)) (tracked-map (λ h H u n. u) (before a S .tracked))
 
   -- EXEC 9: the son, dormant till now, is scheduled, and its father waits
   father-fine : (p q : ℕ) → Caller a p → Callable (a .book .programs) q → stateOf (a .book) q ≡ 0

@@ -13,6 +13,7 @@ use borrow.Author.Tests.{leb-true}
 use Rattle.lists.specs.Lists.{same, upTo}
 use Rattle.lists.proofs.Laws.{same-ne}
 use Rattle.lists.proofs.Tests.{clash, both, upTo-true}
+use Rattle.clock.specs.Clock.{farthest}
 use Rattle.records.specs.declared.Program.{Program}
 use Rattle.records.specs.Records.{Known, recordAt, unused}
 use Rattle.records.specs.Numbers.{free}
@@ -81,7 +82,7 @@ fresh-tracks U T S l = record {
 pub fresh-fine : (T S R : ℕ) → sizes T S R ≡ true → Fine (exact 0) (fresh lists T S R)
 fresh-fine T S R e = record {
   order = fresh-order;
-  right = λ p P. subst (Right (exact 0) T R) (sym (blank p P)) (right-unused (exact 0) T R);
+  right = λ p P. subst (Right 0 (0 + farthest) T R) (sym (blank p P)) (right-unused 0 (0 + farthest) T R);
   distinct = λ p q P Q u v w. clash u (ap (λ (r : Program). r .used) (blank p P));
   sons = λ p k P w. absurd (nothing-childless k (ap (λ (r : Program). r .why) (sym (blank p P)) ∙ w));
   once = λ p q k P Q v w. absurd (nothing-childless k (ap (λ (r : Program). r .why) (sym (blank p P)) ∙ v));

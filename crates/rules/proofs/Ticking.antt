@@ -22,9 +22,9 @@ use Rattle.rules.specs.Rules.{dueAt, ticked}
 use Rattle.rules.specs.Keeper.{lists, State, step, play}
 use Rattle.rules.proofs.Places.{all-one, all-once, all-in}
 use Rattle.rules.proofs.Deeds.{Turned, step-turned}
-use Rattle.rules.proofs.Fine.{Slack, exact, right-slack, Fine}
+use Rattle.rules.proofs.Fine.{Slack, exact, Timer, right-timed, Fine, fine-anew}
 use Rattle.rules.proofs.Apt.{fine-on}
-use Rattle.rules.proofs.Making.{Timer, apt-scheduled, apt-timed}
+use Rattle.rules.proofs.Making.{apt-scheduled, apt-timed}
 
 -- the clock stands at c + 1, and the dues are still as at c
 abbrev ticking : ℕ → Slack
@@ -32,41 +32,24 @@ ticking c = record { son = 0; user = 0; clock = c + 1; low = c; high = c + 1 + f
 
 tick-start : (a : State lists) → Fine (exact (a .book .clock)) a → a .book .clock < ceiling → Fine (ticking (a .book .clock)) (step lists (clocked (a .book .clock + 1)) a)
 unfolding step
-tick-start a F l = record {
-  order = F .order;
-  right = λ z Z. right-slack (exact (a .book .clock)) (ticking (a .book .clock)) _ _ _ (omega arith) (omega arith) (F .right z Z);
-  distinct = F .distinct;
-  sons = F .sons;
-  once = F .once;
-  tracked = F .tracked;
-  numbered = F .numbered;
-  sized = F .sized;
-  now = refl;
-  time = omega arith;
-}
+tick-start a F l =
+    fine-anew (exact (a .book .clock)) (ticking (a .book .clock)) a (a .book .clock + 1) (a .book .holders) (a .book .resources) F
+    (λ z Z. let t = F .right z Z .timer in right-timed _ _ _ _ _ _ _ (F .right z Z) (record {
+      timeless = t .timeless;
+      above = t .above;
+      near = λ n. omega (arith, t .near n);
+      steps = t .steps;
+    })) (F .sons) (F .tracked) (F .numbered) refl (omega arith)
 
 tick-end : (c : ℕ) (a : State lists) → Fine (ticking c) a → ((z : ℕ) → Known z → at (a .book) z .due ≢ c + 1) → Fine (exact (c + 1)) a
-tick-end c a F f = record {
-  order = F .order;
-  right = λ z Z. let r = F .right z Z in record {
-    lawful = r .lawful;
-    empty = r .empty;
-    timeless = r .timeless;
-    priority = r .priority;
-    above = λ n. omega (arith, r .above n, f z Z);
-    near = λ n. omega (arith, r .near n);
-    steps = r .steps;
-    fitting = r .fitting;
-  };
-  distinct = F .distinct;
-  sons = F .sons;
-  once = F .once;
-  tracked = F .tracked;
-  numbered = F .numbered;
-  sized = F .sized;
-  now = F .now;
-  time = F .time;
-}
+tick-end c a F f =
+    fine-anew (ticking c) (exact (c + 1)) a (a .book .clock) (a .book .holders) (a .book .resources) F
+    (λ z Z. let t = F .right z Z .timer in right-timed _ _ _ _ _ _ _ (F .right z Z) (record {
+      timeless = t .timeless;
+      above = λ n. omega (arith, t .above n, f z Z);
+      near = λ n. omega (arith, t .near n);
+      steps = t .steps;
+    })) (F .sons) (F .tracked) (F .numbered) (F .now) (F .time)
 
 -- the programs of l are still to come; b is the book before
 record Midway (c : ℕ) (b : Book) (l : List ℕ) (t : State lists) : Type 0 where
@@ -98,11 +81,11 @@ module _ (c : ℕ) (b : Book) where
   next : ℕ → ℕ
   next p = cond (eqb (at b p .interval) 0) 0 (at b p .due + at b p .interval)
 
-  next-timer : (p : ℕ) → at b p .due ≡ c + 1 → at b p .interval ≤ farthest → Timer (ticking c) (next p) (at b p .interval)
+  next-timer : (p : ℕ) → at b p .due ≡ c + 1 → at b p .interval ≤ farthest → Timer c (c + 1 + farthest) (next p) (at b p .interval)
   unfolding next
   next-timer p d l = go (eqb (at b p .interval) 0) refl
     where
-      go : (x : Bool) → eqb (at b p .interval) 0 ≡ x → Timer (ticking c) (cond x 0 (at b p .due + at b p .interval)) (at b p .interval)
+      go : (x : Bool) → eqb (at b p .interval) 0 ≡ x → Timer c (c + 1 + farthest) (cond x 0 (at b p .due + at b p .interval)) (at b p .interval)
       go true e = record {
         timeless = λ i. eqb-true (at b p .interval) 0 e;
         above = λ n. absurd (n refl);
@@ -154,7 +137,7 @@ module _ (c : ℕ) (b : Book) where
       F₁ =
           fine-on (ticking c) p P (timed (next p) (at b p .interval)) t (M .fine)
           (apt-timed (ticking c) t (M .fine) p P used (next p) (at b p .interval)
-          (next-timer p d (omega (arith, M .fine .right p P .steps, ap (λ (r : Program). r .interval) s))))
+          (next-timer p d (omega (arith, M .fine .right p P .timer .steps, ap (λ (r : Program). r .interval) s))))
 
       used₁ : at (t₁ .book) p .used ≡ true
       used₁ = ap (λ (r : Program). r .used) (T₁ .here) ∙ used

@@ -20,7 +20,7 @@ use Rattle.records.specs.Records.{Known, recordAt}
 use Rattle.rules.specs.Book.{at, stateOf, whyOf}
 use Rattle.rules.specs.Plans.{wakes, on, View, Release, awaits, woken, wake}
 use Rattle.rules.specs.Keeper.{lists, State, step, play, view}
-use Rattle.rules.proofs.Deeds.{made, Turned, step-turned}
+use Rattle.rules.proofs.Deeds.{made, Turned, turned-each, step-turned}
 use Rattle.rules.proofs.Chaining.{chain-state}
 use Rattle.rules.proofs.Fine.{Slack, alone, Fine}
 use Rattle.rules.proofs.Apt.{fine-on}
@@ -31,11 +31,7 @@ abbrev pub Callable : List Program → ℕ → Type 0
 Callable ps z = Known z × (recordAt ps z .used ≡ true)
 
 pub turned-used : (p : ℕ) (r : Program) (ps qs : List Program) → Turned p r ps qs → r .used ≡ true → (z : ℕ) → Callable ps z → Callable qs z
-turned-used p r ps qs T u z Z = (Z .0, go (ℕ-discrete z p))
-  where
-    go : Dec (z ≡ p) → recordAt qs z .used ≡ true
-    go (yes e) = rw e (ap (λ (x : Program). x .used) (T .here) ∙ u)
-    go (no n) = ap (λ (x : Program). x .used) (T .rest z (Z .0) n) ∙ Z .1
+turned-used p r ps qs T u z Z = (Z .0, turned-each T (λ z x. recordAt ps z .used ≡ true → x .used ≡ true) (λ v. u) (λ z Z n v. v) z (Z .0) (Z .1))
 
 pub fine-wake : (e : Slack) (c : List ℕ) (a : State lists) → Fine e a → ((q : ℕ) → 1 ≤ count q c → Callable (a .book .programs) q) → Fine e (play lists (wake c) a)
 fine-wake e [] a F h = F
