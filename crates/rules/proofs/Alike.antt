@@ -25,7 +25,8 @@ use Rattle.rules.specs.Plans.{Deed, becomes, wakes, priced, loaded, unlo
 use Rattle.rules.specs.Rules.{plan}
 use Rattle.rules.specs.Keeper.{lists, Entries, entries, sorted, State, leave, enter, amend, act, step, play, view, asks, after, fresh}
 use Rattle.rules.specs.Replay.{Fits}
-use Rattle.rules.proofs.Places.{known-true, at-same, at-other, put-long}
+use Rattle.rules.proofs.Places.{known-true, at-same, at-other}
+use Rattle.rules.proofs.Deeds.{Turned, turned-each, turned-put}
 use Rattle.rules.proofs.Fits.{Noted, fits-unique, fits-edit, fits-remove, fits-insert, sorted-fits}
 use Rattle.rules.proofs.Statements.{runs, answers}
 
@@ -44,160 +45,101 @@ module _ (b : Book) (L : length (b .programs) ≡ 32) (p : ℕ) (P : Known p) (r
   pub state-same : stateOf (put p r b) p ≡ r .state
   state-same = ap (λ (x : Program). x .state) (at-same b L p P r)
 
-  state-kept : r .state ≡ stateOf b p → (z : ℕ) → Known z → stateOf (put p r b) z ≡ stateOf b z
-  state-kept h z Z = go (ℕ-discrete z p)
-    where
-      go : Dec (z ≡ p) → stateOf (put p r b) z ≡ stateOf b z
-      go (yes e) = rw e (state-same ∙ h)
-      go (no n) = state-other z Z n
-
-  prio-kept : (stateOf b p ≢ 0 → r .priority ≡ prioOf b p) → (z : ℕ) → Known z → stateOf b z ≢ 0 → prioOf (put p r b) z ≡ prioOf b z
-  prio-kept h z Z k = go (ℕ-discrete z p)
-    where
-      go : Dec (z ≡ p) → prioOf (put p r b) z ≡ prioOf b z
-      go (yes e) = let k′ : stateOf b p ≢ 0 = rw e at k in rw e (ap (λ (x : Program). x .priority) (at-same b L p P r) ∙ h k′)
-      go (no n) = ap (λ (x : Program). x .priority) (at-other b p P r z Z n)
-
-  prio-all : r .priority ≡ prioOf b p → (z : ℕ) → Known z → prioOf (put p r b) z ≡ prioOf b z
-  prio-all h z Z = go (ℕ-discrete z p)
-    where
-      go : Dec (z ≡ p) → prioOf (put p r b) z ≡ prioOf b z
-      go (yes e) = rw e (ap (λ (x : Program). x .priority) (at-same b L p P r) ∙ h)
-      go (no n) = ap (λ (x : Program). x .priority) (at-other b p P r z Z n)
-
--- what is to be shown of two states that are alike may be shown of two with the same book
-one-book : (Q : State entries → Type 0) (t : State entries) (b : Book) → t .book ≡ b → Q (record { book = b; kept = t .kept }) → Q t
-one-book Q t b e h = subst (λ (x : Book). Q (record { book = x; kept = t .kept })) (sym e) h
+-- the replay with the same book
+abbrev pub beside : State lists → Entries → State entries
+beside a e = record { book = a .book; kept = e }
 
 -- a change of the book that leaves states, and the priorities of programs in chains
-edit-alike : (a : State lists) (t : State entries) (b : Book) → Alike a t → length (b .programs) ≡ 32
+edit-alike : (a : State lists) (e : Entries) (b : Book) → Alike a (beside a e) → length (b .programs) ≡ 32
     → ((z : ℕ) → Known z → stateOf b z ≡ stateOf (a .book) z) → ((z : ℕ) → Known z → stateOf (a .book) z ≢ 0 → prioOf b z ≡ prioOf (a .book) z)
-    → Alike (record { book = b; kept = a .kept }) (record { book = b; kept = t .kept })
-edit-alike a t b A L f g = record {
+    → Alike (record { book = b; kept = a .kept }) (record { book = b; kept = e })
+edit-alike a e b A L f g = record {
   book = refl;
   noted = record {
     long = L;
     early = A .noted .early;
-    apart = λ y z Y Z h k. A .noted .apart y z Y Z (λ e. h (f y Y ∙ e)) (λ e. k (f z Z ∙ e));
+    apart = λ y z Y Z h k. A .noted .apart y z Y Z (λ i. h (f y Y ∙ i)) (λ i. k (f z Z ∙ i));
   };
   seven = A .seven;
-  fits = λ s l h. fits-edit (a .book) b (t .kept .entry) (t .kept .entry) s (getD (a .kept) s []) (A .fits s l h)
-      (λ z Z. ap (λ (x : ℕ). same x s) (f z Z)) (λ z Z e. g z Z (λ w. omega (arith, e, w))) (λ z Z e. refl);
+  fits = λ s l h. fits-edit (a .book) b (e .entry) (e .entry) s (getD (a .kept) s []) (A .fits s l h)
+      (λ z Z. ap (λ (x : ℕ). same x s) (f z Z)) (λ z Z i. g z Z (λ w. omega (arith, i, w))) (λ z Z i. refl);
 }
 
 module _ (p : ℕ) (P : Known p) where
-  pub amend-alike : (a : State lists) (t : State entries) (r : Program) → Alike a t → r .state ≡ stateOf (a .book) p
-      → (stateOf (a .book) p ≢ 0 → r .priority ≡ prioOf (a .book) p) → Alike (amend lists p r a) (amend entries p r t)
-  amend-alike a t r A h k =
-      one-book (λ u. Alike (amend lists p r a) (amend entries p r u)) t (a .book) (A .book)
-      (edit-alike a t (put p r (a .book)) A (put-long (a .book) p r (A .noted .long))
-      (state-kept (a .book) (A .noted .long) p P r h) (prio-kept (a .book) (A .noted .long) p P r k))
+  -- p's record is another
+  module _ (a : State lists) (e : Entries) (r : Program) (A : Alike a (beside a e)) where
+    turned : Turned p r (a .book .programs) (put p r (a .book) .programs)
+    turned = turned-put (a .book) p r P (A .noted .long)
+
+    states : (z : ℕ) → Known z → z ≢ p → stateOf (put p r (a .book)) z ≡ stateOf (a .book) z
+    states = state-other (a .book) (A .noted .long) p P r
+
+    priorities : r .priority ≡ prioOf (a .book) p → (z : ℕ) → Known z → prioOf (put p r (a .book)) z ≡ prioOf (a .book) z
+    priorities h = turned-each turned (λ z q. q .priority ≡ prioOf (a .book) z) h (λ z Z n. refl)
+
+    -- of the same state
+    pub amend-alike : r .state ≡ stateOf (a .book) p → (stateOf (a .book) p ≢ 0 → r .priority ≡ prioOf (a .book) p) → Alike (amend lists p r a) (amend entries p r (beside a e))
+    amend-alike h k =
+        edit-alike a e (put p r (a .book)) A (turned .long) (turned-each turned (λ z q. q .state ≡ stateOf (a .book) z) h (λ z Z n. refl))
+        (turned-each turned (λ z q. stateOf (a .book) z ≢ 0 → q .priority ≡ prioOf (a .book) z) k (λ z Z n m. refl))
+
+    -- of the same priority, and the chain of state x is another: p is in no other chain, before and after
+    chain-alike : (x : ℕ) (c : List ℕ) (e′ : Entries) → r .priority ≡ prioOf (a .book) p → ((s : ℕ) → 1 ≤ s → s ≢ x → (stateOf (a .book) p ≢ s) × (r .state ≢ s))
+        → Noted (put p r (a .book)) e′ → ((z : ℕ) → z ≢ p → e′ .entry z ≡ e .entry z) → (1 ≤ x → x < 7 → Fits (put p r (a .book)) (e′ .entry) x c)
+        → Alike (record { book = put p r (a .book); kept = set (a .kept) x c }) (record { book = put p r (a .book); kept = e′ })
+    chain-alike x c e′ pr out N old here = record {
+      book = refl;
+      noted = N;
+      seven = length-set (a .kept) x c ∙ A .seven;
+      fits = λ s l h. go s l h (ℕ-discrete s x);
+    }
+      where
+        go : (s : ℕ) → 1 ≤ s → s < 7 → Dec (s ≡ x) → Fits (put p r (a .book)) (e′ .entry) s (getD (set (a .kept) x c) s [])
+        go s l h (yes i) =
+            subst (λ (y : ℕ). Fits (put p r (a .book)) (e′ .entry) y (getD (set (a .kept) x c) y [])) (sym i)
+            (subst (Fits (put p r (a .book)) (e′ .entry) x) (sym (getD-set-same (a .kept) x c [] (omega (arith, A .seven)))) (here (omega arith) (omega arith)))
+        go s l h (no n) =
+            subst (Fits (put p r (a .book)) (e′ .entry) s) (sym (getD-set-other (a .kept) x s c [] n))
+            (fits-edit (a .book) (put p r (a .book)) (e .entry) (e′ .entry) s (getD (a .kept) s []) (A .fits s l h)
+            (turned-each turned (λ z q. same (q .state) s ≡ same (stateOf (a .book) z) s)
+            (same-ne (r .state) s (out s l n .1) ∙ sym (same-ne (stateOf (a .book) p) s (out s l n .0))) (λ z Z m. refl))
+            (λ z Z j. priorities pr z Z) (λ z Z j. old z (λ i. out s l n .0 (ap (stateOf (a .book)) (sym i) ∙ j))))
 
   -- p leaves
-  pub leave-alike : (a : State lists) (t : State entries) → Alike a t → Alike (leave lists p a) (leave entries p t)
-  leave-alike a t A =
-      one-book (λ u. Alike (leave lists p a) (leave entries p u)) t (a .book) (A .book)
-      (go (eqb (stateOf (a .book) p) 0) refl)
+  pub leave-alike : (a : State lists) (e : Entries) → Alike a (beside a e) → Alike (leave lists p a) (leave entries p (beside a e))
+  leave-alike a e A = go (eqb s 0) refl
     where
-      b : Book
-      b = a .book
+      s : ℕ
+      s = stateOf (a .book) p
 
-      L : length (b .programs) ≡ 32
-      L = A .noted .long
+      r : Program
+      r = inState 0 Nothing (at (a .book) p)
 
-      b′ : Book
-      b′ = put p (inState 0 Nothing (at b p)) b
+      was : (z : ℕ) → Known z → stateOf (put p r (a .book)) z ≢ 0 → stateOf (a .book) z ≢ 0
+      was = turned-each (turned a e r A) (λ z q. q .state ≢ 0 → stateOf (a .book) z ≢ 0) (λ h. absurd (h refl)) (λ z Z n h. h)
 
-      c : ℕ → List ℕ
-      c s = getD (a .kept) s []
-
-      en : ℕ → ℕ
-      en = t .kept .entry
-
-      k′ : List (List ℕ)
-      k′ = set (a .kept) (stateOf b p) (remove p (c (stateOf b p)))
-
-      st : (z : ℕ) → Known z → z ≢ p → stateOf b′ z ≡ stateOf b z
-      st = state-other b L p P (inState 0 Nothing (at b p))
-
-      zero-now : stateOf b′ p ≡ 0
-      zero-now = state-same b L p P (inState 0 Nothing (at b p))
-
-      pr : (z : ℕ) → Known z → prioOf b′ z ≡ prioOf b z
-      pr = prio-all b L p P (inState 0 Nothing (at b p)) refl
-
-      was : (z : ℕ) → Known z → stateOf b′ z ≢ 0 → stateOf b z ≢ 0
-      was z Z h = at-z (ℕ-discrete z p)
-        where
-          at-z : Dec (z ≡ p) → stateOf b z ≢ 0
-          at-z (yes e) = absurd (h (rw e zero-now))
-          at-z (no n) = λ w. h (st z Z n ∙ w)
-
-      chain : stateOf b p ≢ 0 → (s : ℕ) → 1 ≤ s → s < 7 → Dec (s ≡ stateOf b p) → Fits b′ en s (getD k′ s [])
-      chain N s l h (yes e) =
-          subst (λ (x : List ℕ). Fits b′ en s x)
-          (sym (ap (λ (x : ℕ). getD k′ x []) e ∙ getD-set-same (a .kept) (stateOf b p) (remove p (c (stateOf b p))) [] (omega (arith, A .seven)) ∙ ap (λ (x : ℕ). remove p (c x)) (sym e)))
-          (fits-remove b b′ p P st pr en s (c s) (A .fits s l h) (sym e) (λ w. omega (arith, w, zero-now)))
-      chain N s l h (no n) =
-          subst (λ (x : List ℕ). Fits b′ en s x) (sym (getD-set-other (a .kept) (stateOf b p) s (remove p (c (stateOf b p))) [] n))
-          (fits-edit b b′ en en s (c s) (A .fits s l h) (λ z Z. kept z Z (ℕ-discrete z p)) (λ z Z e. pr z Z) (λ z Z e. refl))
-        where
-          kept : (z : ℕ) → Known z → Dec (z ≡ p) → same (stateOf b′ z) s ≡ same (stateOf b z) s
-          kept z Z (yes e) = rw e (same-ne (stateOf b′ p) s (λ w. omega (arith, w, zero-now)) ∙ sym (same-ne (stateOf b p) s (λ w. n (sym w))))
-          kept z Z (no m) = ap (λ (x : ℕ). same x s) (st z Z m)
-
-      go : (d : Bool) → eqb (stateOf b p) 0 ≡ d
-          → Alike (record { book = b′; kept = cond d (a .kept) k′ }) (record { book = b′; kept = cond d (t .kept) (t .kept) })
-      go true e =
-          edit-alike a t b′ A (put-long b p (inState 0 Nothing (at b p)) L)
-          (state-kept b L p P (inState 0 Nothing (at b p)) (sym (eqb-true (stateOf b p) 0 e))) (λ z Z n. pr z Z)
-      go false e = record {
-        book = refl;
-        noted = record {
-          long = put-long b p (inState 0 Nothing (at b p)) L;
-          early = A .noted .early;
-          apart = λ y z Y Z h k. A .noted .apart y z Y Z (was y Y h) (was z Z k);
-        };
-        seven = length-set (a .kept) (stateOf b p) (remove p (c (stateOf b p))) ∙ A .seven;
-        fits = λ s l h. chain (eqb-false (stateOf b p) 0 e) s l h (ℕ-discrete s (stateOf b p));
-      }
+      go : (d : Bool) → eqb s 0 ≡ d → Alike (record { book = put p r (a .book); kept = cond d (a .kept) (set (a .kept) s (remove p (getD (a .kept) s []))) })
+          (record { book = put p r (a .book); kept = cond d e e })
+      go true i = amend-alike a e r A (sym (eqb-true s 0 i)) (λ n. refl)
+      go false i =
+          chain-alike a e r A s (remove p (getD (a .kept) s [])) e refl (λ x l n. (λ j. n (sym j), λ j. omega (arith, j)))
+          (record { long = turned a e r A .long; early = A .noted .early; apart = λ y z Y Z h k. A .noted .apart y z Y Z (was y Y h) (was z Z k) }) (λ z n. refl)
+          (λ l h. fits-remove (a .book) (put p r (a .book)) p P (states a e r A) (priorities a e r A refl) (e .entry) s (getD (a .kept) s []) (A .fits s l h) refl
+          (λ w. eqb-false s 0 i (sym w ∙ state-same (a .book) (A .noted .long) p P r)))
 
   -- p, dormant, enters
-  pub enter-alike : (s : ℕ) (w : Why) (a : State lists) (t : State entries) → Alike a t → stateOf (a .book) p ≡ 0
-      → Alike (enter lists p s w a) (enter entries p s w t)
-  enter-alike s w a t A D =
-      one-book (λ u. Alike (enter lists p s w a) (enter entries p s w u)) t (a .book) (A .book)
-      (go (eqb s 0) refl)
+  pub enter-alike : (s : ℕ) (w : Why) (a : State lists) (e : Entries) → Alike a (beside a e) → stateOf (a .book) p ≡ 0
+      → Alike (enter lists p s w a) (enter entries p s w (beside a e))
+  enter-alike s w a e A D = go (eqb s 0) refl
     where
+      r : Program
+      r = inState s w (at (a .book) p)
+
       b : Book
-      b = a .book
-
-      L : length (b .programs) ≡ 32
-      L = A .noted .long
-
-      b′ : Book
-      b′ = put p (inState s w (at b p)) b
-
-      c : ℕ → List ℕ
-      c x = getD (a .kept) x []
-
-      e : Entries
-      e = t .kept
+      b = put p r (a .book)
 
       e′ : Entries
-      e′ = entries .entered b′ p s e
-
-      k′ : List (List ℕ)
-      k′ = set (a .kept) s (insert (prioOf b′) p (c s))
-
-      st : (z : ℕ) → Known z → z ≢ p → stateOf b′ z ≡ stateOf b z
-      st = state-other b L p P (inState s w (at b p))
-
-      now : stateOf b′ p ≡ s
-      now = state-same b L p P (inState s w (at b p))
-
-      pr : (z : ℕ) → Known z → prioOf b′ z ≡ prioOf b z
-      pr = prio-all b L p P (inState s w (at b p)) refl
+      e′ = entries .entered b p s e
 
       new : e′ .entry p ≡ e .next
       new = rw (eq-eqb p p refl)
@@ -212,85 +154,55 @@ module _ (p : ℕ) (P : Known p) where
           at-z (yes q) = rw q (omega (arith, new))
           at-z (no n) = omega (arith, old z n, A .noted .early z)
 
-      apart : (y z : ℕ) → Known y → Known z → stateOf b′ y ≢ 0 → stateOf b′ z ≢ 0 → e′ .entry y ≡ e′ .entry z → y ≡ z
+      apart : (y z : ℕ) → Known y → Known z → stateOf b y ≢ 0 → stateOf b z ≢ 0 → e′ .entry y ≡ e′ .entry z → y ≡ z
       apart y z Y Z h k q = both (ℕ-discrete y p) (ℕ-discrete z p)
         where
           both : Dec (y ≡ p) → Dec (z ≡ p) → y ≡ z
           both (yes i) (yes j) = i ∙ sym j
           both (yes i) (no j) = absurd (omega (arith, A .noted .early z, old z j, q, new, ap (e′ .entry) i))
           both (no i) (yes j) = absurd (omega (arith, A .noted .early y, old y i, q, new, ap (e′ .entry) j))
-          both (no i) (no j) = A .noted .apart y z Y Z (λ v. h (st y Y i ∙ v)) (λ v. k (st z Z j ∙ v)) (sym (old y i) ∙ q ∙ old z j)
+          both (no i) (no j) =
+              A .noted .apart y z Y Z (λ v. h (states a e r A y Y i ∙ v)) (λ v. k (states a e r A z Z j ∙ v)) (sym (old y i) ∙ q ∙ old z j)
 
-      chain : (x : ℕ) → 1 ≤ x → x < 7 → Dec (x ≡ s) → Fits b′ (e′ .entry) x (getD k′ x [])
-      chain x l h (yes i) =
-          subst (λ (y : List ℕ). Fits b′ (e′ .entry) x y)
-          (sym (ap (λ (y : ℕ). getD k′ y []) i ∙ getD-set-same (a .kept) s (insert (prioOf b′) p (c s)) [] (omega (arith, A .seven)) ∙ ap (λ (y : ℕ). insert (prioOf b′) p (c y)) (sym i)))
-          (fits-insert b b′ p P st pr (e .entry) (e′ .entry) x (c x) (A .fits x l h) (λ v. omega (arith, v, D)) (now ∙ sym i) old
-          (λ z. omega (arith, new, A .noted .early z)))
-      chain x l h (no n) =
-          subst (λ (y : List ℕ). Fits b′ (e′ .entry) x y) (sym (getD-set-other (a .kept) s x (insert (prioOf b′) p (c s)) [] n))
-          (fits-edit b b′ (e .entry) (e′ .entry) x (c x) (A .fits x l h) (λ z Z. kept z Z (ℕ-discrete z p)) (λ z Z i. pr z Z)
-          (λ z Z i. old z (λ j. omega (arith, D, i, ap (stateOf b) j))))
-        where
-          kept : (z : ℕ) → Known z → Dec (z ≡ p) → same (stateOf b′ z) x ≡ same (stateOf b z) x
-          kept z Z (yes i) = rw i (same-ne (stateOf b′ p) x (λ v. n (sym v ∙ now)) ∙ sym (same-ne (stateOf b p) x (λ v. omega (arith, v, D))))
-          kept z Z (no m) = ap (λ (y : ℕ). same y x) (st z Z m)
-
-      go : (d : Bool) → eqb s 0 ≡ d → Alike (record { book = b′; kept = cond d (a .kept) k′ }) (record { book = b′; kept = cond d e e′ })
-      go true i =
-          edit-alike a t b′ A (put-long b p (inState s w (at b p)) L)
-          (state-kept b L p P (inState s w (at b p)) (eqb-true s 0 i ∙ sym D)) (λ z Z n. pr z Z)
-      go false i = record {
-        book = refl;
-        noted = record { long = put-long b p (inState s w (at b p)) L; early = early; apart = apart };
-        seven = length-set (a .kept) s (insert (prioOf b′) p (c s)) ∙ A .seven;
-        fits = λ x l h. chain x l h (ℕ-discrete x s);
-      }
+      go : (d : Bool) → eqb s 0 ≡ d → Alike (record { book = b; kept = cond d (a .kept) (set (a .kept) s (insert (prioOf b) p (getD (a .kept) s []))) }) (record { book = b; kept = cond d e e′ })
+      go true i = amend-alike a e r A (eqb-true s 0 i ∙ sym D) (λ n. refl)
+      go false i =
+          chain-alike a e r A s (insert (prioOf b) p (getD (a .kept) s [])) e′ refl (λ x l n. (λ j. omega (arith, j, D), λ j. n (sym j)))
+          (record { long = turned a e r A .long; early = early; apart = apart }) old
+          (λ l h. fits-insert (a .book) b p P (states a e r A) (priorities a e r A refl) (e .entry) (e′ .entry) s (getD (a .kept) s []) (A .fits s l h)
+          (λ v. omega (arith, v, D)) (state-same (a .book) (A .noted .long) p P r) old (λ z. omega (arith, new, A .noted .early z)))
 
   -- p is dormant once it has left
   pub left-state : (a : State lists) → length (a .book .programs) ≡ 32 → stateOf (leave lists p a .book) p ≡ 0
   left-state a L = state-same (a .book) L p P (inState 0 Nothing (at (a .book) p))
 
-  shift-alike : (s : ℕ) (w : Why) (a : State lists) (t : State entries) → Alike a t → Alike (enter lists p s w (leave lists p a)) (enter entries p s w (leave entries p t))
-  shift-alike s w a t A = enter-alike s w (leave lists p a) (leave entries p t) (leave-alike a t A) (left-state a (A .noted .long))
+  -- the deeds, of a state a and entries e
+  module _ (a : State lists) (e : Entries) (A : Alike a (beside a e)) where
+    abbrev u : State lists
+    u = leave lists p a
 
-  pub act-alike : (d : Deed) (a : State lists) (t : State entries) → Alike a t → Alike (act lists p d a) (act entries p d t)
-  unfolding act
-  act-alike (becomes s w) a t A = shift-alike s w a t A
-  act-alike wakes a t A = shift-alike 1 Nothing a t A
-  act-alike (priced n) a t A =
-      one-book (λ u. Alike (act lists p (priced n) a) (act entries p (priced n) u)) t (a .book) (A .book)
-      (enter-alike (stateOf (a .book) p) (whyOf (a .book) p) (amend lists p r u) (amend entries p r v)
-      (amend-alike u v r (leave-alike a t′ A′) refl (λ k. absurd (k Z)))
-      (state-same (u .book) (leave-alike a t′ A′ .noted .long) p P r ∙ Z))
-    where
-      t′ : State entries
-      t′ = record { book = a .book; kept = t .kept }
+    abbrev f : Entries
+    f = leave entries p (beside a e) .kept
 
-      A′ : Alike a t′
-      A′ = record { book = refl; noted = A .noted; seven = A .seven; fits = A .fits }
+    shift-alike : (s : ℕ) (w : Why) → Alike (enter lists p s w u) (enter entries p s w (beside u f))
+    shift-alike s w = enter-alike s w u f (leave-alike a e A) (left-state a (A .noted .long))
 
-      u : State lists
-      u = leave lists p a
+    put-alike : (r : Program) → r .state ≡ 0 → Alike (amend lists p r u) (amend entries p r (beside u f))
+    put-alike r z =
+        let Z : stateOf (u .book) p ≡ 0 = left-state a (A .noted .long) in
+        amend-alike u f r (leave-alike a e A) (z ∙ sym Z) (λ k. absurd (k Z))
 
-      v : State entries
-      v = leave entries p t′
-
-      r : Program
-      r = withPriority n (at (u .book) p)
-
-      Z : stateOf (u .book) p ≡ 0
-      Z = left-state a (A .noted .long)
-  act-alike (loaded nm n) a t A =
-      amend-alike (leave lists p a) (leave entries p t) (newcomer nm n) (leave-alike a t A) (sym (left-state a (A .noted .long))) (λ k. absurd (k (left-state a (A .noted .long))))
-  act-alike unloaded a t A =
-      amend-alike (leave lists p a) (leave entries p t) unused (leave-alike a t A) (sym (left-state a (A .noted .long))) (λ k. absurd (k (left-state a (A .noted .long))))
-  act-alike (timed d i) a t A =
-      one-book (λ u. Alike (act lists p (timed d i) a) (act entries p (timed d i) u)) t (a .book) (A .book)
-      (amend-alike a t′ (withTimer d i (at (a .book) p)) (record { book = refl; noted = A .noted; seven = A .seven; fits = A .fits }) refl (λ k. refl))
-    where
-      t′ : State entries
-      t′ = record { book = a .book; kept = t .kept }
+    pub act-alike : (d : Deed) → Alike (act lists p d a) (act entries p d (beside a e))
+    unfolding act
+    act-alike (becomes s w) = shift-alike s w
+    act-alike wakes = shift-alike 1 Nothing
+    act-alike (priced n) =
+        let r : Program = withPriority n (at (u .book) p) in
+        let z : r .state ≡ 0 = left-state a (A .noted .long) in
+        enter-alike (stateOf (a .book) p) (whyOf (a .book) p) (amend lists p r u) f (put-alike r z) (state-same (u .book) (leave-alike a e A .noted .long) p P r ∙ z)
+    act-alike (loaded nm n) = put-alike (newcomer nm n) refl
+    act-alike unloaded = put-alike unused refl
+    act-alike (timed d i) = amend-alike a e (withTimer d i (at (a .book) p)) A refl (λ k. refl)
 
 -- fresh tables
 idle-all : (n i : ℕ) → getD (replicate n unused) i missing .state ≡ 0
@@ -322,32 +234,22 @@ fresh-alike T S R = record {
     dormant : (z : ℕ) → stateOf (freshBook T S R) z ≡ 0
     dormant z = idle-all 32 (z - 1)
 
-pub step-alike : (e : Event) (a : State lists) (t : State entries) → Alike a t → Alike (step lists e a) (step entries e t)
+pub step-alike : (v : Event) (a : State lists) (t : State entries) → Alike a t → Alike (step lists v a) (step entries v t)
 unfolding step
-step-alike (on p d) a t A = go (known p) refl
+step-alike v a t A =
+    subst (λ (b : Book). Alike (step lists v a) (step entries v (record { book = b; kept = t .kept }))) (sym (A .book))
+    (one v (t .kept) (record { book = refl; noted = A .noted; seven = A .seven; fits = A .fits }))
   where
-    go : (x : Bool) → known p ≡ x → Alike (cond x (act lists p d a) a) (cond x (act entries p d t) t)
-    go true h = act-alike p (known-true p h) d a t A
-    go false h = A
-step-alike (clocked c) a t A = record {
-  book = ap (withClock c) (A .book);
-  noted = record { long = A .noted .long; early = A .noted .early; apart = A .noted .apart };
-  seven = A .seven;
-  fits = λ s l h. let F = A .fits s l h in record { member = F .member; within = F .within; ascends = F .ascends };
-}
-step-alike (held c) a t A = record {
-  book = ap (withHolders c) (A .book);
-  noted = record { long = A .noted .long; early = A .noted .early; apart = A .noted .apart };
-  seven = A .seven;
-  fits = λ s l h. let F = A .fits s l h in record { member = F .member; within = F .within; ascends = F .ascends };
-}
-step-alike (numbered c) a t A = record {
-  book = ap (withResources c) (A .book);
-  noted = record { long = A .noted .long; early = A .noted .early; apart = A .noted .apart };
-  seven = A .seven;
-  fits = λ s l h. let F = A .fits s l h in record { member = F .member; within = F .within; ascends = F .ascends };
-}
-step-alike (renewed T S R) a t A = fresh-alike T S R
+    one : (v : Event) (e : Entries) → Alike a (beside a e) → Alike (step lists v a) (step entries v (beside a e))
+    one (on p d) e B = go (known p) refl
+      where
+        go : (x : Bool) → known p ≡ x → Alike (cond x (act lists p d a) a) (cond x (act entries p d (beside a e)) (beside a e))
+        go true h = act-alike p (known-true p h) a e B d
+        go false h = B
+    one (clocked c) e B = edit-alike a e (withClock c (a .book)) B (B .noted .long) (λ z Z. refl) (λ z Z n. refl)
+    one (held h) e B = edit-alike a e (withHolders h (a .book)) B (B .noted .long) (λ z Z. refl) (λ z Z n. refl)
+    one (numbered r) e B = edit-alike a e (withResources r (a .book)) B (B .noted .long) (λ z Z. refl) (λ z Z n. refl)
+    one (renewed T S R) e B = fresh-alike T S R
 
 pub play-alike : (es : List Event) (a : State lists) (t : State entries) → Alike a t → Alike (play lists es a) (play entries es t)
 play-alike [] a t A = A

@@ -84,7 +84,7 @@ module _ (p : ℕ) (P : Known p) where
   pub act-order : (d : Deed) (a : State lists) → InOrder a → InOrder (act lists p d a)
   act-order d a O =
       let t : State entries = record { book = a .book; kept = notes (a .book) (a .kept) } in
-      let A : Alike (act lists p d a) (act entries p d t) = act-alike p P d a t (chained-alike a (O .long) (O .seven) (chains a O)) in
+      let A : Alike (act lists p d a) (act entries p d t) = act-alike p P a (t .kept) (chained-alike a (O .long) (O .seven) (chains a O)) d in
       let C : Chains (act lists p d a .book) (act lists p d a .kept) = alike-chained (act lists p d a) (act entries p d t) A in
       record {
         long = A .noted .long;
