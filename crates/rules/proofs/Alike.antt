@@ -1,14 +1,14 @@
 -- The two keepers keep the same chains: shown for fresh tables, for each step once, and so for every request and every run.
 -- A rule sees a state only through its view, and states that are alike have one view; so nothing is said here of any single rule.
 -- Assumes nothing.
-use Prim.Native.Nat.{ℕ, zero, suc, _-_, _≤_, _<_}
+use Prim.Native.Nat.{ℕ, suc, _≤_, _<_}
 use native.Mathlib.Omega.{arith}
 use native.Mathlib.Decide.{ℕ-discrete}
 use mathlib.Core.Path.{_≡_, refl, sym, ap, _∙_, subst}
 use mathlib.Core.Logic.{_≢_}
 use mathlib.Core.Bool.{Bool, true, false, cond}
 use mathlib.Core.List.{List, [], _∷_}
-use lib.ListN.{length, getD, set, length-set, replicate, length-replicate}
+use lib.ListN.{length, getD, set, length-set, length-replicate, getD-replicate}
 use lib.Seq.{getD-set-same, getD-set-other}
 use lib.Dec.{eqb}
 use borrow.Author.Tests.{eq-eqb, ne-eqb, eqb-true, eqb-false}
@@ -18,14 +18,14 @@ use Rattle.lists.proofs.Tests.{upTo-true}
 use Rattle.records.specs.declared.Program.{Program}
 use Rattle.records.specs.declared.Why.{Why}
 use Rattle.records.specs.declared.Why.the-variants.{Nothing}
-use Rattle.records.specs.Records.{Known, known, missing, unused, inState, withPriority, withTimer, newcomer}
+use Rattle.records.specs.Records.{Known, known, unused, inState, withPriority, withTimer, newcomer}
 use Rattle.rules.specs.Book.{Book, at, stateOf, prioOf, whyOf, put, withClock, withHolders, withResources, freshBook}
 use Rattle.rules.specs.Requests.{Request}
 use Rattle.rules.specs.Plans.{Deed, becomes, wakes, priced, loaded, unloaded, timed, Event, on, clocked, held, numbered, renewed, numberOf, valuesOf, eventsOf}
 use Rattle.rules.specs.Rules.{plan}
 use Rattle.rules.specs.Keeper.{lists, Entries, entries, sorted, State, leave, enter, amend, act, step, play, view, asks, after, fresh}
 use Rattle.rules.specs.Replay.{Fits}
-use Rattle.rules.proofs.Places.{known-true, at-same, at-other}
+use Rattle.rules.proofs.Places.{known-true, at-same, at-other, fresh-at}
 use Rattle.rules.proofs.Deeds.{Turned, turned-each, turned-put}
 use Rattle.rules.proofs.Fits.{Noted, fits-unique, fits-edit, fits-remove, fits-insert, sorted-fits}
 use Rattle.rules.proofs.Statements.{runs, answers}
@@ -205,34 +205,24 @@ module _ (p : ℕ) (P : Known p) where
     act-alike (timed d i) = amend-alike a e (withTimer d i (at (a .book) p)) A refl (λ k. refl)
 
 -- fresh tables
-idle-all : (n i : ℕ) → getD (replicate n unused) i missing .state ≡ 0
-idle-all zero i = refl
-idle-all (suc n) zero = refl
-idle-all (suc n) (suc i) = idle-all n i
-
-none-all : (n s : ℕ) → getD (replicate {A = List ℕ} n []) s [] ≡ []
-none-all zero s = refl
-none-all (suc n) zero = refl
-none-all (suc n) (suc s) = none-all n s
-
 pub fresh-alike : (T S R : ℕ) → Alike (fresh lists T S R) (fresh entries T S R)
 fresh-alike T S R = record {
   book = refl;
   noted = record {
     long = length-replicate 32 unused;
     early = λ z. omega arith;
-    apart = λ y z Y Z h k e. absurd (h (dormant y));
+    apart = λ y z Y Z h k e. absurd (h (dormant y Y));
   };
   seven = length-replicate {A = List ℕ} 7 [];
-  fits = λ s l h. subst (λ (c : List ℕ). Fits (freshBook T S R) (λ z. 0) s c) (sym (none-all 7 s)) (record {
-    member = λ z Z. sym (same-ne (stateOf (freshBook T S R) z) s (λ e. omega (arith, sym e ∙ dormant z)));
+  fits = λ s l h. subst (λ (c : List ℕ). Fits (freshBook T S R) (λ z. 0) s c) (sym (getD-replicate {A = List ℕ} 7 s [] [] h)) (record {
+    member = λ z Z. sym (same-ne (stateOf (freshBook T S R) z) s (λ e. omega (arith, sym e ∙ dormant z Z)));
     within = λ z k. absurd (omega arith);
     ascends = tt;
   });
 }
   where
-    dormant : (z : ℕ) → stateOf (freshBook T S R) z ≡ 0
-    dormant z = idle-all 32 (z - 1)
+    dormant : (z : ℕ) → Known z → stateOf (freshBook T S R) z ≡ 0
+    dormant z Z = ap (λ (r : Program). r .state) (fresh-at z Z)
 
 pub step-alike : (v : Event) (a : State lists) (t : State entries) → Alike a t → Alike (step lists v a) (step entries v t)
 unfolding step

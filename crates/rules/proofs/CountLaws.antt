@@ -4,16 +4,17 @@
 -- Assumes nothing.
 use Prim.Native.Nat.{ℕ, suc, _+_, _≤_}
 use native.Mathlib.Omega.{arith}
-use native.Mathlib.Decide.{ℕ-discrete}
+use native.Mathlib.Decide.{ℕ-discrete, decLe}
 use mathlib.Core.Path.{_≡_, refl, sym, ap, _∙_}
 use mathlib.Core.Logic.{_≢_}
 use mathlib.Core.Bool.{Bool, true, false, cond, _&&_, _||_}
 use mathlib.Core.List.{List, [], _∷_, map}
 use lib.ListN.{length}
 use lib.Dec.{eqb}
-use borrow.Author.Tests.{eqb-true, eqb-false, eq-eqb, le-ltb}
+use borrow.Author.Tests.{eqb-false, eq-eqb, ne-eqb}
 use Rattle.lists.specs.Lists.{hit, count, keep, remove, join}
 use Rattle.lists.proofs.Laws.{same-refl, same-ne, same-le, same-eq, count-remove, count-remove-le, count-keep, keep-in, keep-le}
+use Rattle.lists.proofs.Tests.{clash}
 use Rattle.records.specs.declared.Resource.{Resource}
 use Rattle.records.specs.declared.Why.the-variants.{Nothing}
 use Rattle.records.specs.Records.{Known, known, all}
@@ -24,9 +25,11 @@ use Rattle.rules.specs.Rules.{clears, endsIn, ends, dueAt, ticked, call,
 use Rattle.rules.specs.Keeper.{lists, State, step, play, view, scheduled, asks}
 use Rattle.rules.specs.Sound.{Sound}
 use Rattle.rules.specs.Counts.{awoken, roused}
-use Rattle.rules.proofs.Places.{known-true, known-is, all-one, all-in}
-use Rattle.rules.proofs.Deeds.{step-turned}
-use Rattle.rules.proofs.Rising.{Rise, clocks, numbers, wake-rises, tick-rises, rise-in, rise-out, state-here, state-there}
+use Rattle.rules.proofs.Places.{known-true, known-is, all-one, all-once, all-in}
+use Rattle.rules.proofs.Finding.{head-in}
+use Rattle.rules.proofs.Ordering.{general-alone}
+use Rattle.rules.proofs.Deeds.{turned-each, step-turned}
+use Rattle.rules.proofs.Rising.{Rise, none, clocks, numbers, wake-rises, tick-rises, rise-in, rise-out}
 use Rattle.rules.proofs.IfDone.{IfDone, if-need, if-either, if-called, if-allocated}
 use Rattle.rules.proofs.Settling.{settle}
 use Rattle.rules.proofs.Freed.{off-frees, own-frees, global-frees, each-frees}
@@ -73,34 +76,28 @@ keep-keep f g (q ∷ qs) = go (f q) (keep-keep f g qs)
     go true ih = ap (λ (l : List ℕ). cond (g q) (q ∷ l) l) ih
     go false ih = ih
 
--- PROGRAMS: the two tests
-waited-true : (s r : ℕ) → s ≡ 3 → r ≡ 1 → ((eqb s 3 || eqb s 5) && eqb r 1) ≡ true
-waited-true s r e f = rw (eq-eqb s 3 e, eq-eqb r 1 f)
-
-waited-false : (s r : ℕ) → (r ≡ 1 → s ≡ 1) → ((eqb s 3 || eqb s 5) && eqb r 1) ≡ false
-waited-false s r f = go (eqb s 3) (eqb s 5) (eqb r 1) refl refl refl
+-- PROGRAMS: those who rise, each once and having passed a test that none in state 1 passes, are those who passed it and are in state 1 after
+risen : (t : State lists) → length (t .book .programs) ≡ 32 → (es : List Event) (c : List ℕ) → Rise es c → (f : ℕ → Bool)
+    → ((x : ℕ) → 1 ≤ count x c → Known x × (count x c ≤ 1) × (f x ≡ true)) → ((x : ℕ) → Known x → f x ≡ true → stateOf (t .book) x ≢ 1)
+    → length c ≡ length (keep (λ x. f x && eqb (stateOf (play lists es t .book) x) 1) all)
+risen t L es c r f g n = tally (λ x. f x && eqb (after x) 1) c (λ x h. g x h .0) (λ x X. go x X (f x) refl (decLe 1 (count x c)))
   where
-    go : (x y z : Bool) → eqb s 3 ≡ x → eqb s 5 ≡ y → eqb r 1 ≡ z → ((x || y) && z) ≡ false
-    go true y true h k l = absurd (omega (arith, eqb-true s 3 h, f (eqb-true r 1 l)))
-    go true y false h k l = refl
-    go false true true h k l = absurd (omega (arith, eqb-true s 5 k, f (eqb-true r 1 l)))
-    go false true false h k l = refl
-    go false false z h k l = refl
+    after : ℕ → ℕ
+    after x = stateOf (play lists es t .book) x
 
-slept-true : (s r : ℕ) → eqb s 0 ≡ true → r ≡ 1 → (eqb s 0 && eqb r 1) ≡ true
-slept-true s r e f = rw (e, eq-eqb r 1 f)
+    go : (x : ℕ) → Known x → (b : Bool) → f x ≡ b → Dec (1 ≤ count x c) → count x c ≡ hit (b && eqb (after x) 1)
+    go x X true e (yes h) = omega (arith, g x h .1, ap hit (eq-eqb (after x) 1 (rise-in lists x X r t L h)))
+    go x X false e (yes h) = clash (g x h .2) e
+    go x X true e (no h) =
+        omega (arith, h, ap hit (ne-eqb (after x) 1 (λ k. n x X e (sym (rise-out lists x X r t L (omega (arith, h))) ∙ k))))
+    go x X false e (no h) = omega (arith, h)
 
-slept-false : (s r : ℕ) → (s ≡ 0 → r ≢ 1) → (eqb s 0 && eqb r 1) ≡ false
-slept-false s r f = go (eqb s 0) (eqb r 1) refl refl
-  where
-    go : (x z : Bool) → eqb s 0 ≡ x → eqb r 1 ≡ z → (x && z) ≡ false
-    go true true h l = absurd (f (eqb-true s 0 h) (eqb-true r 1 l))
-    go true false h l = refl
-    go false z h l = refl
+-- who waits is not in state 1, nor who sleeps
+waits-not-1 : (s : ℕ) → (eqb s 3 || eqb s 5) ≡ true → s ≢ 1
+waits-not-1 s e i = clash e (rw i)
 
-head-in : (c : List ℕ) → 1 ≤ head c → 1 ≤ count (head c) c
-head-in [] h = h
-head-in (p ∷ ps) h = omega (arith, same-refl p)
+sleeps-not-1 : (s : ℕ) → eqb s 0 ≡ true → s ≢ 1
+sleeps-not-1 s e i = clash e (rw i)
 
 module _ (a : State lists) (S : Sound a) where
   abbrev v : View
@@ -108,9 +105,8 @@ module _ (a : State lists) (S : Sound a) where
 
   -- those woken where no track was freed are of chain 3, once
   woken-few : (R : Release) → R .tracks ≡ 0 → (x : ℕ) → count x (woken v R) ≤ count x (v .chain 3)
-  unfolding woken
   woken-few R e x =
-      rw (le-ltb 0 (R .tracks) (omega arith))
+      rw (general-alone v R (omega arith))
       (omega (arith, keep-le (λ q. awaits R (whyOf (v .book) q)) x (remove (R .ended) (v .chain 3)), count-remove-le x (R .ended) (v .chain 3)))
 
   woken-known : (R : Release) → R .tracks ≡ 0 → (x : ℕ) → 1 ≤ count x (woken v R) → Known x
@@ -120,18 +116,12 @@ module _ (a : State lists) (S : Sound a) where
   woken-awoken : (R : Release) → R .tracks ≡ 0 → (t : State lists) (es : List Event) → Rise es (woken v R) → length (t .book .programs) ≡ 32
       → ((x : ℕ) → Known x → stateOf (t .book) x ≡ 1 → stateOf (a .book) x ≡ 1) → length (woken v R) ≡ awoken (a .book) (play lists es t .book)
   unfolding awoken
-  woken-awoken R e t es r L f = tally (λ x. test x) (woken v R) (woken-known R e) (λ x X. go x X (ℕ-discrete (count x (woken v R)) 0))
-    where
-      test : ℕ → Bool
-      test x = (eqb (stateOf (a .book) x) 3 || eqb (stateOf (a .book) x) 5) && eqb (stateOf (play lists es t .book) x) 1
-
-      go : (x : ℕ) → Known x → Dec (count x (woken v R) ≡ 0) → count x (woken v R) ≡ hit (test x)
-      go x X (yes n) = n ∙ sym (ap hit (waited-false (stateOf (a .book) x) (stateOf (play lists es t .book) x) (λ k. f x X (sym (rise-out lists x X r t L n) ∙ k))))
-      go x X (no n) =
-          let m = S .chains .member 3 x (omega arith) (omega arith) X in
-          let one : count x (woken v R) ≡ 1 = omega (arith, n, woken-few R e x, same-le (stateOf (a .book) x) 3) in
-          one ∙ sym (ap hit (waited-true (stateOf (a .book) x) (stateOf (play lists es t .book) x)
-          (same-eq (stateOf (a .book) x) 3 (omega (arith, woken-few R e x))) (rise-in lists x X r t L (omega arith))))
+  woken-awoken R e t es r L f = risen t L es (woken v R) r (λ x. eqb (stateOf (a .book) x) 3 || eqb (stateOf (a .book) x) 5)
+      (λ x h.
+      let X = woken-known R e x h in
+      let m = S .chains .member 3 x (omega arith) (omega arith) X in
+      (X, omega (arith, woken-few R e x, same-le (stateOf (a .book) x) 3), rw (eq-eqb (stateOf (a .book) x) 3 (same-eq (stateOf (a .book) x) 3 (omega (arith, woken-few R e x))))))
+      (λ x X w k. waits-not-1 (stateOf (a .book) x) w (f x X k))
 
   abbrev Wakes : Plan → Type 0
   Wakes x = valuesOf x ≡ awoken (a .book) (play lists (eventsOf v x) a .book) ∷ []
@@ -140,8 +130,7 @@ module _ (a : State lists) (S : Sound a) where
   none-awoken : 0 ≡ awoken (a .book) (a .book)
   unfolding awoken
   none-awoken =
-      tally (λ x. (eqb (stateOf (a .book) x) 3 || eqb (stateOf (a .book) x) 5) && eqb (stateOf (a .book) x) 1) []
-      (λ x h. absurd (omega arith)) (λ x X. sym (ap hit (waited-false (stateOf (a .book) x) (stateOf (a .book) x) (λ e. e))))
+      risen a (S .shape .programs) [] [] none (λ x. eqb (stateOf (a .book) x) 3 || eqb (stateOf (a .book) x) 5) (λ x h. absurd (omega arith)) (λ x X. waits-not-1 (stateOf (a .book) x))
 
   -- numbers are altered, and the woken wake
   numbers-wake : (m : List Resource) (R : Release) → R .tracks ≡ 0 → Wakes (releasing (length (woken v R) ∷ []) (numbered m ∷ []) R)
@@ -158,13 +147,9 @@ module _ (a : State lists) (S : Sound a) where
         so = λ z. ap (λ (n : ℕ). n ∷ [])
             (woken-awoken (ends v c 0) refl (step lists (on c (becomes 0 Nothing)) a) (settle v c (ends v c 0))
             (numbers (wake-rises (woken v (ends v c 0)) (woken-known (ends v c 0) refl)))
-            (step-turned lists c C (becomes 0 Nothing) a (S .shape .programs) .long) (λ x X k. before c C x X k (ℕ-discrete x c)));
+            (step-turned lists c C (becomes 0 Nothing) a (S .shape .programs) .long) (turned-each (step-turned lists c C (becomes 0 Nothing) a (S .shape .programs))
+            (λ x r. r .state ≡ 1 → stateOf (a .book) x ≡ 1) (λ k. absurd (omega arith)) (λ x X n k. k)));
       })
-    where
-      before : (c : ℕ) → Known c → (x : ℕ) → Known x → stateOf (step lists (on c (becomes 0 Nothing)) a .book) x ≡ 1 → Dec (x ≡ c) → stateOf (a .book) x ≡ 1
-      before c C x X k (yes e) =
-          absurd (omega (arith, ap (stateOf (step lists (on c (becomes 0 Nothing)) a .book)) e, state-here lists c C (becomes 0 Nothing) a (S .shape .programs)))
-      before c C x X k (no n) = sym (state-there lists c C (becomes 0 Nothing) a (S .shape .programs) x X n) ∙ k
 
   clearing-wakes : (r : ℕ) → IfDone Wakes (asks lists a (running (CLEAR r)))
   unfolding plan call clears
@@ -193,38 +178,18 @@ module _ (a : State lists) (S : Sound a) where
   abbrev risers : List ℕ
   risers = keep sleeps (keep (dueAt b) all)
 
-  abbrev roused-test : ℕ → Bool
-  roused-test x = eqb (stateOf b x) 0 && eqb (stateOf (play lists ticking a .book) x) 1
-
-  risers-rise : Rise ticking risers
-  risers-rise = clocks (tick-rises b (keep (dueAt b) all) due-known)
-
-  riser-once : (x : ℕ) → Known x → count x risers ≡ hit (roused-test x)
-  riser-once x X = go (ℕ-discrete (count x risers) 0)
-    where
-      s : ℕ
-      s = stateOf (play lists ticking a .book) x
-
-      once : count x risers ≤ 1
-      once = omega (arith, keep-le sleeps x (keep (dueAt b) all), keep-le (dueAt b) x all, all-one x X)
-
-      go : Dec (count x risers ≡ 0) → count x risers ≡ hit (roused-test x)
-      go (yes n) =
-          let stays : s ≡ stateOf b x = rise-out lists x X risers-rise a (S .shape .programs) n in
-          n ∙ sym (ap hit (slept-false (stateOf b x) s (λ z k. omega (arith, stays))))
-      go (no n) =
-          let h : 1 ≤ count x risers = omega (arith, n) in
-          let one : count x risers ≡ 1 = omega (arith, once) in
-          one ∙ sym (ap hit (slept-true (stateOf b x) s (keep-in sleeps x (keep (dueAt b) all) h .0) (rise-in lists x X risers-rise a (S .shape .programs) h)))
-
-  risers-roused : length (keep (λ p. dueAt b p && sleeps p) all) ≡ length (keep roused-test all)
-  risers-roused =
-      ap length (sym (keep-keep (dueAt b) sleeps all))
-      ∙ tally roused-test risers (λ x h. due-known x (keep-in sleeps x (keep (dueAt b) all) h .1)) riser-once
+  riser-once : (x : ℕ) → count x risers ≤ 1
+  riser-once x = omega (arith, keep-le sleeps x (keep (dueAt b) all), keep-le (dueAt b) x all, all-once x)
 
   tick-roused : length (keep (λ p. dueAt b p && sleeps p) all) ≡ roused b (play lists ticking a .book)
   unfolding roused
-  tick-roused = risers-roused
+  tick-roused =
+      ap length (sym (keep-keep (dueAt b) sleeps all))
+      ∙ risen a (S .shape .programs) ticking risers (clocks (tick-rises b (keep (dueAt b) all) due-known)) sleeps
+      (λ x h.
+      let k = keep-in sleeps x (keep (dueAt b) all) h in
+      (due-known x (k .1), riser-once x, k .0))
+      (λ x X. sleeps-not-1 (stateOf b x))
 
   ticking-rouses : IfDone (λ x. valuesOf x ≡ roused b (play lists (eventsOf v x) a .book) ∷ []) (asks lists a TICK)
   unfolding plan

@@ -119,6 +119,14 @@ pub record Fine (e : Slack) (a : State lists) : Type 0 where
   pub now : a .book .clock ≡ e .clock
   pub time : e .clock ≤ ceiling
 
+-- whose record is another than the unused one is used
+pub used-if : (e : Slack) (a : State lists) → Fine e a → (p : ℕ) → Known p → (at (a .book) p ≡ unused → ⊥) → at (a .book) p .used ≡ true
+used-if e a F p P n = go (at (a .book) p .used) refl
+  where
+    go : (b : Bool) → at (a .book) p .used ≡ b → b ≡ true
+    go true i = refl
+    go false i = absurd (n (F .right p P .empty i))
+
 -- records and chains stay; what is said of each record's timer, of sons, tracks, numbers and the clock is said anew
 pub fine-anew : (e f : Slack) (a : State lists) (c : ℕ) (hs : List ℕ) (rs : List Resource) → Fine e a
     → ((p : ℕ) → Known p → Right (f .low) (f .high) (a .book .tracks) (a .book .numbers) (at (a .book) p))

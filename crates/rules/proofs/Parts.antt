@@ -1,29 +1,30 @@
 -- Every plan, once over all rules: its events are about the caller, the program named, those due or those woken, and a refusal has a number from the list.
 -- What is asked of an event, P, and of fresh tables, F, is left open; so the frame, the programs' numbers and the refusals each cite this one walk.
 -- Assumes nothing.
-use Prim.Native.Nat.{ℕ, zero, suc, _≤_}
+use Prim.Native.Nat.{ℕ, _≤_}
 use native.Mathlib.Omega.{arith}
 use mathlib.Core.Path.{_≡_, refl}
 use mathlib.Core.Bool.{Bool, true, false, cond}
 use mathlib.Core.List.{List, [], _∷_, _++_, map}
 use mathlib.Core.Option.{Option, none, some}
-use lib.Dec.{ltb, eqb}
+use lib.Dec.{eqb}
 use borrow.Author.Tests.{ltb-true}
-use Rattle.lists.specs.Lists.{count, keep, upTo, join, remove}
-use Rattle.lists.proofs.Laws.{same-refl, keep-in, count-remove-le, count-append}
+use Rattle.lists.specs.Lists.{count, keep, upTo, join}
+use Rattle.lists.proofs.Laws.{same-refl, keep-in, count-remove-le}
 use Rattle.records.specs.declared.Program.{Program}
 use Rattle.records.specs.declared.Resource.{Resource}
 use Rattle.records.specs.declared.Why.{Why}
 use Rattle.records.specs.declared.Why.the-variants.{Nothing}
 use Rattle.records.specs.Records.{Known, all, find, lowestUnused}
 use Rattle.records.specs.Numbers.{numberAt}
-use Rattle.rules.specs.Book.{at, whyOf}
+use Rattle.rules.specs.Book.{at}
 use Rattle.rules.specs.Requests.{Order, RU, SS, GO, PR, OF, Call, EXEC4, EXEC15, EXEC5, EXEC16, EXEC5ALL, EXEC6, EXEC7, EXEC11, EXEC9, EXEC10, EXEC12, ALLOC, LOCK, CLEAR, FREE, Request, FRESH, LOAD, operator, TICK, running}
-use Rattle.rules.specs.Plans.{Deed, becomes, wakes, timed, unloaded, Event, on, clocked, held, numbered, renewed, Plan, refused, done, releasing, waiting, nothing, releaseOf, View, eventsOf, need, either, found, Release, awaits, woken, wake}
+use Rattle.rules.specs.Plans.{Deed, becomes, wakes, timed, unloaded, Event, on, clocked, held, numbered, renewed, Plan, refused, done, releasing, waiting, nothing, releaseOf, View, eventsOf, need, either, found, Release, woken, wake}
 use Rattle.rules.specs.Rules.{named, inside, waits, dismissed, order, dueAt, ticked, takes, gives, allocated, call, head, asCaller, plan}
 use Rattle.rules.specs.Frame.{Party, calls, takes-name, ordered, son, started, due, Woken, tracks-freed, reason-gone}
 use Rattle.rules.specs.Frame as party
 use Rattle.rules.proofs.Places.{all-in}
+use Rattle.rules.proofs.Ordering.{woken-from}
 
 -- what each event does is of a kind: P of a deed of a program, F of fresh tables
 abbrev pub Upon : (ℕ → Deed → Type 0) → Type 0 → List Event → Type 0
@@ -65,20 +66,9 @@ pub record About (v : View) (q : Request) (P : ℕ → Deed → Type 0) (F : Typ
 
 -- those that a request wakes waited, and their reason is gone
 pub woken-waits : (v : View) (R : Release) (x : ℕ) → 1 ≤ count x (woken v R) → Woken v R x
-unfolding woken
-woken-waits v R x h = go (ltb 0 (R .tracks)) refl (count x rest) refl h
-  where
-    rest : List ℕ
-    rest = keep (λ q. awaits R (whyOf (v .book) q)) (remove (R .ended) (v .chain 3))
-
-    go : (b : Bool) → ltb 0 (R .tracks) ≡ b → (n : ℕ) → count x rest ≡ n → 1 ≤ count x (cond b (remove (R .ended) (v .chain 5)) [] ++ rest) → Woken v R x
-    go b e (suc n) i k =
-        let r = keep-in (λ q. awaits R (whyOf (v .book) q)) x (remove (R .ended) (v .chain 3)) (omega arith) in
-        reason-gone (r .0) (omega (arith, r .1, count-remove-le x (R .ended) (v .chain 3)))
-    go true e zero i k =
-        tracks-freed (ltb-true 0 (R .tracks) e)
-        (omega (arith, count-append x (remove (R .ended) (v .chain 5)) rest, count-remove-le x (R .ended) (v .chain 5)))
-    go false e zero i k = absurd (omega arith)
+woken-waits v R x h =
+    woken-from v R x (Woken v R x) h (λ t k. tracks-freed t (omega (arith, count-remove-le x (R .ended) (v .chain 5))))
+    (λ w k. reason-gone w (omega (arith, count-remove-le x (R .ended) (v .chain 3))))
 
 upon-append : (P : ℕ → Deed → Type 0) (F : Type 0) (es fs : List Event) → Upon P F es → Upon P F fs → Upon P F (es ++ fs)
 upon-append P F [] fs u w = w

@@ -1,31 +1,25 @@
 -- Laws of the programs' numbers and of the records at them: a record that is put stands at its place and leaves the others.
 -- Assumes nothing.
-use Prim.Native.Nat.{ℕ, zero, suc, _-_, _≤_, _<_}
+use Prim.Native.Nat.{ℕ, _-_, _≤_}
 use native.Mathlib.Omega.{arith}
-use mathlib.Core.Path.{_≡_, refl, _∙_}
+use mathlib.Core.Path.{_≡_, _∙_}
 use mathlib.Core.Logic.{_≢_}
-use mathlib.Core.Bool.{Bool, true, false, _&&_}
-use lib.ListN.{length, getD, length-set, replicate}
+use mathlib.Core.Bool.{true}
+use lib.ListN.{length, length-set, replicate, getD-replicate}
 use lib.Seq.{getD-set-same, getD-set-other}
-use lib.Dec.{leb}
-use borrow.Author.Tests.{leb-true, le-leb}
 use Rattle.lists.specs.Lists.{count}
 use Rattle.lists.proofs.Laws.{count-from, from-in, from-once}
+use Rattle.lists.proofs.Tests.{upTo-true, upTo-is}
 use Rattle.records.specs.declared.Program.{Program}
-use Rattle.records.specs.Records.{Known, known, all, missing, unused}
+use Rattle.records.specs.Records.{Known, known, all, recordAt, missing, unused}
 use Rattle.rules.specs.Book.{Book, at, put}
 
 -- the test and the fact
 pub known-true : (p : ℕ) → known p ≡ true → Known p
-known-true p = go (leb 1 p) (leb p 32) refl refl
-  where
-    go : (x y : Bool) → leb 1 p ≡ x → leb p 32 ≡ y → (x && y) ≡ true → Known p
-    go true true h k e = (leb-true 1 p h, leb-true p 32 k)
-    go true false h k e = let o : _≡_ {A = ℕ} 0 1 = cc in omega arith
-    go false y h k e = let o : _≡_ {A = ℕ} 0 1 = cc in omega arith
+known-true p = upTo-true 1 32 p
 
 pub known-is : (p : ℕ) → Known p → known p ≡ true
-known-is p P = rw (le-leb 1 p (P .0), le-leb p 32 (P .1))
+known-is p P = upTo-is 1 32 p (P .0) (P .1)
 
 -- each of the programs' numbers stands once among them all
 pub all-one : (z : ℕ) → Known z → count z all ≡ 1
@@ -51,8 +45,6 @@ at-other b p P r z Z n = getD-set-other (b .programs) (p - 1) (z - 1) r missing 
 pub put-long : (b : Book) (p : ℕ) (r : Program) → length (b .programs) ≡ 32 → length (put p r b .programs) ≡ 32
 put-long b p r L = length-set (b .programs) (p - 1) r ∙ L
 
--- fresh records are unused
-pub unused-all : (n i : ℕ) → i < n → getD (replicate n unused) i missing ≡ unused
-unused-all zero i h = absurd (omega arith)
-unused-all (suc n) zero h = refl
-unused-all (suc n) (suc i) h = unused-all n i (omega arith)
+-- a fresh record is unused
+pub fresh-at : (p : ℕ) → Known p → recordAt (replicate 32 unused) p ≡ unused
+fresh-at p P = getD-replicate 32 (p - 1) unused missing (omega (arith, P .0, P .1))

@@ -24,10 +24,10 @@ use Rattle.rules.proofs.Deeds.{made, turned-each, step-turned}
 
 -- a deed of p
 module _ (K : Keeper) (p : ℕ) (P : Known p) (d : Deed) (t : State K) (L : length (t .book .programs) ≡ 32) where
-  pub state-here : stateOf (step K (on p d) t .book) p ≡ made d (at (t .book) p) .state
+  state-here : stateOf (step K (on p d) t .book) p ≡ made d (at (t .book) p) .state
   state-here = ap (λ r. r .state) (step-turned K p P d t L .here)
 
-  pub state-there : (x : ℕ) → Known x → x ≢ p → stateOf (step K (on p d) t .book) x ≡ stateOf (t .book) x
+  state-there : (x : ℕ) → Known x → x ≢ p → stateOf (step K (on p d) t .book) x ≡ stateOf (t .book) x
   state-there x X n = ap (λ r. r .state) (step-turned K p P d t L .rest x X n)
 
   state-stays : ((r : Program) → made d r .state ≡ r .state) → (x : ℕ) → Known x → stateOf (step K (on p d) t .book) x ≡ stateOf (t .book) x

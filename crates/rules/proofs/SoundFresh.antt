@@ -1,6 +1,6 @@
 -- Fresh tables are sound. Every record is unused, every chain empty, every number free, and the tracks from S up are nobody's.
 -- Assumes nothing.
-use Prim.Native.Nat.{ℕ, zero, suc, _+_, _-_, _≤_, _<_}
+use Prim.Native.Nat.{ℕ, suc, _+_, _-_, _≤_, _<_}
 use native.Mathlib.Omega.{arith}
 use native.Mathlib.Decide.{decLe}
 use mathlib.Core.Path.{_≡_, refl, sym, ap, _∙_, subst}
@@ -15,13 +15,13 @@ use Rattle.lists.proofs.Laws.{same-ne}
 use Rattle.lists.proofs.Tests.{clash, both, upTo-true}
 use Rattle.clock.specs.Clock.{farthest}
 use Rattle.records.specs.declared.Program.{Program}
-use Rattle.records.specs.Records.{Known, recordAt, unused}
+use Rattle.records.specs.Records.{unused}
 use Rattle.records.specs.Numbers.{free}
 use Rattle.tracks.specs.Tracks.{nobody, system}
 use Rattle.rules.specs.Rules.{sizes}
 use Rattle.rules.specs.Keeper.{lists, fresh}
 use Rattle.rules.specs.Sound.{Sound}
-use Rattle.rules.proofs.Places.{unused-all}
+use Rattle.rules.proofs.Places.{fresh-at}
 use Rattle.rules.proofs.Chaining.{Chain, Ordered}
 use Rattle.rules.proofs.Fine.{exact, Right, Uses, Holds, Tracked, Owned, Sized, Fine, fine-sound}
 use Rattle.rules.proofs.Making.{nothing-childless, right-unused}
@@ -38,17 +38,9 @@ sized T S R e =
       few = leb-true R 16 (h .1);
     }
 
-blank : (p : ℕ) → Known p → recordAt (replicate 32 unused) p ≡ unused
-blank p P = unused-all 32 (p - 1) (omega (arith, P .0, P .1))
-
-no-chain : (n s : ℕ) → _≡_ {A = List ℕ} (getD (replicate n []) s []) []
-no-chain zero s = refl
-no-chain (suc n) zero = refl
-no-chain (suc n) (suc s) = no-chain n s
-
 fresh-chain : (s : ℕ) → 1 ≤ s → Chain (replicate 32 unused) s []
 fresh-chain s l = record {
-  member = λ p P. sym (ap (λ (r : Program). same (r .state) s) (blank p P) ∙ same-ne 0 s (λ e. omega arith));
+  member = λ p P. sym (ap (λ (r : Program). same (r .state) s) (fresh-at p P) ∙ same-ne 0 s (λ e. omega arith));
   within = λ p h. absurd (omega arith);
   rising = tt;
 }
@@ -58,7 +50,7 @@ fresh-order = record {
   long = length-replicate 32 unused;
   seven = refl;
   dormant = refl;
-  chain = λ s l m. subst (Chain (replicate 32 unused) s) (sym (no-chain 7 s)) (fresh-chain s l);
+  chain = λ s l m. subst (Chain (replicate 32 unused) s) (sym (getD-replicate {A = List ℕ} 7 s [] [] m)) (fresh-chain s l);
 }
 
 fresh-tracks : (U : ℕ → Type 0) (T S : ℕ) → S ≤ T → Tracked U T S (replicate S system ++ replicate (T - S) nobody)
@@ -82,10 +74,10 @@ fresh-tracks U T S l = record {
 pub fresh-fine : (T S R : ℕ) → sizes T S R ≡ true → Fine (exact 0) (fresh lists T S R)
 fresh-fine T S R e = record {
   order = fresh-order;
-  right = λ p P. subst (Right 0 (0 + farthest) T R) (sym (blank p P)) (right-unused 0 (0 + farthest) T R);
-  distinct = λ p q P Q u v w. clash u (ap (λ (r : Program). r .used) (blank p P));
-  sons = λ p k P w. absurd (nothing-childless k (ap (λ (r : Program). r .why) (sym (blank p P)) ∙ w));
-  once = λ p q k P Q v w. absurd (nothing-childless k (ap (λ (r : Program). r .why) (sym (blank p P)) ∙ v));
+  right = λ p P. subst (Right 0 (0 + farthest) T R) (sym (fresh-at p P)) (right-unused 0 (0 + farthest) T R);
+  distinct = λ p q P Q u v w. clash u (ap (λ (r : Program). r .used) (fresh-at p P));
+  sons = λ p k P w. absurd (nothing-childless k (ap (λ (r : Program). r .why) (sym (fresh-at p P)) ∙ w));
+  once = λ p q k P Q v w. absurd (nothing-childless k (ap (λ (r : Program). r .why) (sym (fresh-at p P)) ∙ v));
   tracked = fresh-tracks (Uses 0 (replicate 32 unused)) T S (sized T S R e .first);
   numbered = record {
     long = length-replicate R free;

@@ -22,7 +22,7 @@ use Rattle.rules.specs.Rules.{dueAt, ticked}
 use Rattle.rules.specs.Keeper.{lists, State, step, play}
 use Rattle.rules.proofs.Places.{all-one, all-once, all-in}
 use Rattle.rules.proofs.Deeds.{Turned, step-turned}
-use Rattle.rules.proofs.Fine.{Slack, exact, Timer, right-timed, Fine, fine-anew}
+use Rattle.rules.proofs.Fine.{Slack, exact, Timer, right-timed, Fine, used-if, fine-anew}
 use Rattle.rules.proofs.Apt.{fine-on}
 use Rattle.rules.proofs.Making.{apt-scheduled, apt-timed}
 
@@ -102,14 +102,6 @@ module _ (c : ℕ) (b : Book) where
       go true e i = omega arith
       go false e i = eqb-false (at b p .interval) 0 e (omega arith)
 
-  -- a program with a timer is used
-  timer-used : (e : Slack) (t : State lists) → Fine e t → (p : ℕ) → Known p → at (t .book) p .due ≢ 0 → at (t .book) p .used ≡ true
-  timer-used e t F p P n = go (at (t .book) p .used) refl
-    where
-      go : (x : Bool) → at (t .book) p .used ≡ x → x ≡ true
-      go true i = refl
-      go false i = absurd (n (ap (λ (r : Program). r .due) (F .right p P .empty i)))
-
   tick-all : (l : List ℕ) (t : State lists) → Midway c b l t → Midway c b [] (play lists (join (map (λ p. ticked p (at b p)) l)) t)
   unfolding next
   tick-all [] t M = M
@@ -125,7 +117,7 @@ module _ (c : ℕ) (b : Book) where
       s = M .still p (omega (arith, same-refl p))
 
       used : at (t .book) p .used ≡ true
-      used = timer-used (ticking c) t (M .fine) p P (λ i. omega (arith, i, d, ap (λ (r : Program). r .due) s))
+      used = used-if (ticking c) t (M .fine) p P (λ i. omega (arith, d, ap (λ (r : Program). r .due) (sym s ∙ i)))
 
       t₁ : State lists
       t₁ = step lists (on p (timed (next p) (at b p .interval))) t

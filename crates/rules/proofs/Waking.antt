@@ -6,23 +6,24 @@ use native.Mathlib.Omega.{arith}
 use native.Mathlib.Decide.{ℕ-discrete, decLe}
 use mathlib.Core.Path.{_≡_, refl, ap, _∙_, subst}
 use mathlib.Core.Logic.{_≢_}
-use mathlib.Core.Bool.{Bool, true, false, cond}
-use mathlib.Core.List.{List, [], _∷_, _++_}
+use mathlib.Core.Bool.{Bool, true, cond}
+use mathlib.Core.List.{List, [], _∷_}
 use lib.ListN.{length, getD}
 use lib.Dec.{ltb}
 use borrow.Author.Tests.{eqb-true, eq-eqb, lt-ltb}
 use Rattle.lists.specs.Lists.{same, count, keep, remove}
-use Rattle.lists.proofs.Laws.{same-refl, same-ne, same-le, count-remove, count-remove-le, count-keep, keep-in, remove-absent, count-append}
+use Rattle.lists.proofs.Laws.{same-refl, same-ne, same-le, count-remove, count-remove-le, count-keep, remove-absent, count-append}
 use Rattle.records.specs.declared.Program.{Program}
 use Rattle.records.specs.declared.Why.{Why}
 use Rattle.records.specs.declared.Why.the-variants.{Nothing, Son}
 use Rattle.records.specs.Records.{Known, recordAt}
 use Rattle.rules.specs.Book.{at, stateOf, whyOf}
-use Rattle.rules.specs.Plans.{wakes, on, View, Release, awaits, woken, wake}
+use Rattle.rules.specs.Plans.{wakes, on, Release, awaits, woken, wake}
 use Rattle.rules.specs.Keeper.{lists, State, step, play, view}
 use Rattle.rules.proofs.Deeds.{made, Turned, turned-each, step-turned}
+use Rattle.rules.proofs.Ordering.{woken-from}
 use Rattle.rules.proofs.Chaining.{chain-state}
-use Rattle.rules.proofs.Fine.{Slack, alone, Fine}
+use Rattle.rules.proofs.Fine.{Slack, alone, Fine, used-if}
 use Rattle.rules.proofs.Apt.{fine-on}
 use Rattle.rules.proofs.Making.{apt-woken}
 
@@ -82,36 +83,9 @@ count-gone p c l = go (decLe 1 (count p c))
     go (yes h) = omega (arith, count-remove p p c h, same-refl p)
     go (no h) = omega (arith, h, count-remove-le p p c)
 
--- who is woken stood in chain 5 or chain 3, and the one that ended has left it
-woken-from : (v : View) (R : Release) (x : ℕ) (A : Type 0) → 1 ≤ count x (woken v R) → (1 ≤ count x (remove (R .ended) (v .chain 5)) → A)
-    → (1 ≤ count x (remove (R .ended) (v .chain 3)) → A) → A
-unfolding woken
-woken-from v R x A h f g = go (ltb 0 (R .tracks)) h
-  where
-    f₃ : ℕ → Bool
-    f₃ q = awaits R (whyOf (v .book) q)
-
-    c₃ : List ℕ
-    c₃ = remove (R .ended) (v .chain 3)
-
-    general : 1 ≤ count x (keep f₃ c₃) → A
-    general k = g (keep-in f₃ x c₃ k .1)
-
-    go : (b : Bool) → 1 ≤ count x (cond b (remove (R .ended) (v .chain 5)) [] ++ keep f₃ c₃) → A
-    go true k = pick (decLe 1 (count x (remove (R .ended) (v .chain 5))))
-      where
-        pick : Dec (1 ≤ count x (remove (R .ended) (v .chain 5))) → A
-        pick (yes l) = f l
-        pick (no l) = general (omega (arith, l, count-append x (remove (R .ended) (v .chain 5)) (keep f₃ c₃)))
-    go false k = general k
-
 -- an awake program is used
 pub awake-used : (e : Slack) (a : State lists) → Fine e a → (p : ℕ) → Known p → stateOf (a .book) p ≢ 0 → at (a .book) p .used ≡ true
-awake-used e a F p P n = go (at (a .book) p .used) refl
-  where
-    go : (b : Bool) → at (a .book) p .used ≡ b → b ≡ true
-    go true e = refl
-    go false i = absurd (n (ap (λ (r : Program). r .state) (F .right p P .empty i)))
+awake-used e a F p P n = used-if e a F p P (λ i. n (ap (λ (r : Program). r .state) i))
 
 module _ (e : Slack) (a : State lists) (F : Fine e a) where
   -- who stands in the chain of a state is a used program in it
@@ -128,22 +102,19 @@ module _ (e : Slack) (a : State lists) (F : Fine e a) where
     pub woken-callable : (x : ℕ) → 1 ≤ count x (woken (view lists a) R) → Callable (a .book .programs) x
     woken-callable x h =
         woken-from (view lists a) R x (Callable (a .book .programs) x) h
-        (λ k. chained 5 (omega arith) (omega arith) x (omega (arith, count-remove-le x (R .ended) (getD (a .kept) 5 []))) .0)
-        (λ k. chained 3 (omega arith) (omega arith) x (omega (arith, count-remove-le x (R .ended) (getD (a .kept) 3 []))) .0)
+        (λ t k. chained 5 (omega arith) (omega arith) x (omega (arith, count-remove-le x (R .ended) (getD (a .kept) 5 []))) .0)
+        (λ w k. chained 3 (omega arith) (omega arith) x (omega (arith, count-remove-le x (R .ended) (getD (a .kept) 3 []))) .0)
 
     pub woken-other : Known (R .ended) → (x : ℕ) → 1 ≤ count x (woken (view lists a) R) → x ≢ R .ended
     woken-other E x h i =
-        woken-from (view lists a) R x ⊥ h
-        (λ k. omega (
+        woken-from (view lists a) R x ⊥ h (λ t. gone 5 (omega arith) (omega arith)) (λ w. gone 3 (omega arith) (omega arith))
+      where
+        gone : (s : ℕ) → 1 ≤ s → s < 7 → 1 ≤ count x (remove (R .ended) (getD (a .kept) s [])) → ⊥
+        gone s l m k = omega (
           arith,
-          subst (λ (y : ℕ). 1 ≤ count y (remove (R .ended) (getD (a .kept) 5 []))) i k,
-          count-gone (R .ended) (getD (a .kept) 5 []) (once-in 5 (omega arith) (omega arith) (R .ended) E),
-        ))
-        (λ k. omega (
-          arith,
-          subst (λ (y : ℕ). 1 ≤ count y (remove (R .ended) (getD (a .kept) 3 []))) i k,
-          count-gone (R .ended) (getD (a .kept) 3 []) (once-in 3 (omega arith) (omega arith) (R .ended) E),
-        ))
+          subst (λ (y : ℕ). 1 ≤ count y (remove (R .ended) (getD (a .kept) s []))) i k,
+          count-gone (R .ended) (getD (a .kept) s []) (once-in s l m (R .ended) E),
+        )
 
     -- who awaited the one that ended is woken
     pub son-woken : Known (R .ended) → (z : ℕ) → Known z → z ≢ R .ended → whyOf (a .book) z ≡ Son (R .ended) → 1 ≤ count z (woken (view lists a) R)
