@@ -30,7 +30,7 @@ use Rattle.rules.proofs.Finding.{head-in}
 use Rattle.rules.proofs.Ordering.{general-alone}
 use Rattle.rules.proofs.Deeds.{turned-each, step-turned}
 use Rattle.rules.proofs.Rising.{Rise, none, clocks, numbers, wake-rises, tick-rises, rise-in, rise-out}
-use Rattle.rules.proofs.IfDone.{IfDone, if-need, if-either, if-called, if-allocated}
+use Rattle.rules.proofs.Walk.{IfDone, not-done, by-need, by-either, by-caller, by-allocated}
 use Rattle.rules.proofs.Settling.{settle}
 use Rattle.rules.proofs.Freed.{off-frees, own-frees, global-frees, each-frees}
 use Rattle.rules.proofs.Statements.{Counts}
@@ -140,7 +140,7 @@ module _ (a : State lists) (S : Sound a) where
 
   ending-wakes : IfDone Wakes (asks lists a (running EXEC6))
   unfolding plan call endsIn
-  ending-wakes = if-called _ _ _ (λ h.
+  ending-wakes = by-caller not-done _ _ (λ h.
       let c = head (scheduled lists a) in
       let C = S .chains .within 1 c (omega arith) (omega arith) (head-in (scheduled lists a) h) in
       record {
@@ -153,13 +153,13 @@ module _ (a : State lists) (S : Sound a) where
 
   clearing-wakes : (r : ℕ) → IfDone Wakes (asks lists a (running (CLEAR r)))
   unfolding plan call clears
-  clearing-wakes r = if-called _ _ _ (λ h. if-allocated _ _ _ _ (if-either _ _ _ _
-      (record { so = λ z. ap (λ (n : ℕ). n ∷ []) none-awoken })
-      (if-need _ _ _ _ _ (omega arith) (λ e. record { so = λ z. numbers-wake _ (clears r false) refl }))))
+  clearing-wakes r = by-caller not-done _ _ (λ h. by-allocated not-done _ _ _ (λ i k l. by-either not-done _ _ _
+      (λ e. record { so = λ z. ap (λ (n : ℕ). n ∷ []) none-awoken })
+      (by-need not-done _ _ _ _ refl (λ e. record { so = λ z. numbers-wake _ (clears r false) refl }))))
 
   freeing-wakes : (r : ℕ) → IfDone Wakes (asks lists a (running (FREE r)))
   unfolding plan call clears
-  freeing-wakes r = if-called _ _ _ (λ h. if-allocated _ _ _ _ (if-need _ _ _ _ _ (omega arith) (λ e. record { so = λ z. numbers-wake _ (clears r true) refl })))
+  freeing-wakes r = by-caller not-done _ _ (λ h. by-allocated not-done _ _ _ (λ i k l. by-need not-done _ _ _ _ refl (λ e. record { so = λ z. numbers-wake _ (clears r true) refl })))
 
   -- a tick
   abbrev b : Book
@@ -193,7 +193,7 @@ module _ (a : State lists) (S : Sound a) where
 
   ticking-rouses : IfDone (λ x. valuesOf x ≡ roused b (play lists (eventsOf v x) a .book) ∷ []) (asks lists a TICK)
   unfolding plan
-  ticking-rouses = if-need _ _ _ _ _ (omega arith) (λ e. record { so = λ z. ap (λ (n : ℕ). n ∷ []) tick-roused })
+  ticking-rouses = by-need not-done _ _ _ _ refl (λ e. record { so = λ z. ap (λ (n : ℕ). n ∷ []) tick-roused })
 
   -- THE COUNTS, of any sound state
   pub counts : Counts a

@@ -21,7 +21,7 @@ use Rattle.rules.specs.Counts.{freeTracks, Freed}
 use Rattle.lists.proofs.Tests.{both}
 use Rattle.rules.proofs.Deeds.{act-put}
 use Rattle.rules.proofs.Settling.{settle, off-events}
-use Rattle.rules.proofs.IfDone.{IfDone, if-need, if-named, if-called}
+use Rattle.rules.proofs.Walk.{IfDone, not-done, by-need, by-named, by-caller}
 
 -- events after which the holders are as before
 abbrev Quiet : List Event → Type 0
@@ -67,7 +67,7 @@ module _ (K : Keeper) where
 
     gives-frees : (h n s : ℕ) → h ≢ nobody → IfDone Frees (gives (view K t) h n s)
     unfolding gives
-    gives-frees h n s w = if-need _ _ _ _ _ (omega arith) (λ e. if-need _ _ _ _ _ (omega arith) (λ r. record {
+    gives-frees h n s w = by-need not-done _ _ _ _ refl (λ e. by-need not-done _ _ _ _ refl (λ r. record {
       so = λ z.
           freed-by t [] (filled s n nobody (t .book .holders)) (wake (woken (view K t) (frees n))) n (quiet-wake (woken (view K t) (frees n)))
           (count-freed s n h (t .book .holders) w (run-true h n s (t .book .holders) (leb-true 1 n (both (leb 1 n) (leb (s + n) (t .book .tracks)) e .0)) r));
@@ -75,7 +75,7 @@ module _ (K : Keeper) where
 
     pub off-frees : (k : ℕ) (nm : List ℕ) → IfDone Frees (asks K t (operator (OF k) nm))
     unfolding plan order
-    off-frees k nm = if-need _ _ _ _ _ (omega arith) (λ e. if-named _ _ _ _ (λ h.
+    off-frees k nm = by-need not-done _ _ _ _ refl (λ e. by-named not-done _ _ _ (λ h.
         let p = find (t .book .programs) nm in
         let n = count p (t .book .holders) in
         record {
@@ -87,15 +87,15 @@ module _ (K : Keeper) where
 
     pub own-frees : (n s : ℕ) → IfDone Frees (asks K t (running (EXEC5 n s)))
     unfolding plan call
-    own-frees n s = if-called _ _ _ (λ h. gives-frees (head (scheduled K t)) n s (λ e. omega arith))
+    own-frees n s = by-caller not-done _ _ (λ h. gives-frees (head (scheduled K t)) n s (λ e. omega arith))
 
     pub global-frees : (n s : ℕ) → IfDone Frees (asks K t (running (EXEC16 n s)))
     unfolding plan call
-    global-frees n s = if-called _ _ _ (λ h. gives-frees everybody n s (λ e. omega arith))
+    global-frees n s = by-caller not-done _ _ (λ h. gives-frees everybody n s (λ e. omega arith))
 
     pub each-frees : IfDone Frees (asks K t (running EXEC5ALL))
     unfolding plan call
-    each-frees = if-called _ _ _ (λ h.
+    each-frees = by-caller not-done _ _ (λ h.
         let c = head (scheduled K t) in
         let n = count c (t .book .holders) in
         record {

@@ -6,6 +6,7 @@ pub mod Sorting
 pub mod Fits
 pub mod Alike
 pub mod Notes
+pub mod Walk
 pub mod Parts
 pub mod Refusals
 pub mod Demand
@@ -14,7 +15,6 @@ pub mod Guard
 pub mod Ordering
 pub mod Paths
 pub mod OneAnswer
-pub mod IfDone
 pub mod Claims
 pub mod Freed
 pub mod Rising

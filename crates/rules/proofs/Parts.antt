@@ -6,24 +6,22 @@ use native.Mathlib.Omega.{arith}
 use mathlib.Core.Path.{_≡_, refl}
 use mathlib.Core.Bool.{Bool, true, false, cond}
 use mathlib.Core.List.{List, [], _∷_, _++_, map}
-use mathlib.Core.Option.{Option, none, some}
 use lib.Dec.{eqb}
 use borrow.Author.Tests.{ltb-true}
 use Rattle.lists.specs.Lists.{count, keep, upTo, join}
 use Rattle.lists.proofs.Laws.{same-refl, keep-in, count-remove-le}
 use Rattle.records.specs.declared.Program.{Program}
-use Rattle.records.specs.declared.Resource.{Resource}
 use Rattle.records.specs.declared.Why.{Why}
 use Rattle.records.specs.declared.Why.the-variants.{Nothing}
 use Rattle.records.specs.Records.{Known, all, find, lowestUnused}
-use Rattle.records.specs.Numbers.{numberAt}
 use Rattle.rules.specs.Book.{at}
 use Rattle.rules.specs.Requests.{Order, RU, SS, GO, PR, OF, Call, EXEC4, EXEC15, EXEC5, EXEC16, EXEC5ALL, EXEC6, EXEC7, EXEC11, EXEC9, EXEC10, EXEC12, ALLOC, LOCK, CLEAR, FREE, Request, FRESH, LOAD, operator, TICK, running}
-use Rattle.rules.specs.Plans.{Deed, becomes, wakes, timed, unloaded, Event, on, clocked, held, numbered, renewed, Plan, refused, done, releasing, waiting, nothing, releaseOf, View, eventsOf, need, either, found, Release, woken, wake}
-use Rattle.rules.specs.Rules.{named, inside, waits, dismissed, order, dueAt, ticked, takes, gives, allocated, call, head, asCaller, plan}
+use Rattle.rules.specs.Plans.{Deed, becomes, wakes, timed, unloaded, Event, on, clocked, held, numbered, renewed, Plan, refused, done, releasing, waiting, nothing, releaseOf, View, eventsOf, Release, woken, wake}
+use Rattle.rules.specs.Rules.{waits, dismissed, order, dueAt, ticked, takes, gives, call, head, plan}
 use Rattle.rules.specs.Frame.{Party, calls, takes-name, ordered, son, started, due, Woken, tracks-freed, reason-gone}
 use Rattle.rules.specs.Frame as party
 use Rattle.rules.proofs.Places.{all-in}
+use Rattle.rules.proofs.Walk.{Refuses, by-need, by-either, by-found, by-named, by-inside, by-allocated, by-caller, by-waits}
 use Rattle.rules.proofs.Ordering.{woken-from}
 
 -- what each event does is of a kind: P of a deed of a program, F of fresh tables
@@ -117,54 +115,26 @@ module _ (P : ℕ → Deed → Type 0) (F : Type 0) (v : View) where
     number = tt;
   }
 
-  of-test : (b : Bool) (a n : ℕ) (x : Plan) → upTo 2 11 a ≡ true → (b ≡ true → Of P F v x) → Of P F v (need b a n x)
-  unfolding need
-  of-test true a n x l u = u refl
-  of-test false a n x l u = record { events = tt; number = l }
-
-  of-need : (b : Bool) (a n : ℕ) (x : Plan) → upTo 2 11 a ≡ true → Of P F v x → Of P F v (need b a n x)
-  of-need b a n x l u = of-test b a n x l (λ e. u)
-
-  of-either : (b : Bool) (x y : Plan) → Of P F v x → Of P F v y → Of P F v (either b x y)
-  unfolding either
-  of-either true x y u w = u
-  of-either false x y u w = w
-
-  of-found : (o : Option ℕ) (f : ℕ → Plan) (x : Plan) → ((i : ℕ) → Of P F v (f i)) → Of P F v x → Of P F v (found o f x)
-  unfolding found
-  of-found none f x u w = w
-  of-found (some i) f x u w = u i
-
-  of-named : (nm : List ℕ) (f : ℕ → Plan) → (1 ≤ find (v .book .programs) nm → Of P F v (f (find (v .book .programs) nm))) → Of P F v (named v nm f)
-  unfolding named
-  of-named nm f u = of-need _ _ _ _ refl (of-test _ _ _ _ refl (λ e. u (ltb-true 0 (find (v .book .programs) nm) e)))
-
-  of-inside : (p s : ℕ) (x : Plan) → Of P F v x → Of P F v (inside v p s x)
-  unfolding inside
-  of-inside p s x u = of-need _ _ _ _ refl u
-
-  of-allocated : (r : ℕ) (f : Resource → Plan) → Of P F v (f (numberAt (v .book .resources) r)) → Of P F v (allocated v r f)
-  unfolding allocated
-  of-allocated r f u = of-need _ _ _ _ refl (of-need _ _ _ _ refl u)
+  fails : Refuses (Of P F v)
+  fails = record { listed = λ a n l. record { events = tt; number = l } }
 
   of-waits : (c w s : ℕ) (y : Why) → ((d : Deed) → P c d) → Of P F v (waits c w s y)
-  unfolding waits
-  of-waits c w s y h = of-either _ _ _ (of-waiting _ _ (h _, tt)) (record { events = tt; number = refl })
+  of-waits c w s y h = by-waits fails _ _ _ _ (of-waiting _ _ (h _, tt))
 
   of-takes : (c h n w : ℕ) → ((d : Deed) → P c d) → Of P F v (takes v c h n w)
   unfolding takes
-  of-takes c h n w k = of-need _ _ _ _ refl (of-found _ _ _ (λ i. of-done _ _ tt) (of-waits _ _ _ _ k))
+  of-takes c h n w k = by-need fails _ _ _ _ refl (λ t. by-found fails _ _ _ (λ i e. of-done _ _ tt) (of-waits _ _ _ _ k))
 
   of-gives : (h n start : ℕ) → Of P F v (gives v h n start)
   unfolding gives
-  of-gives h n start = of-need _ _ _ _ refl (of-need _ _ _ _ refl (of-releasing _ _ _ tt))
+  of-gives h n start = by-need fails _ _ _ _ refl (λ t. by-need fails _ _ _ _ refl (λ t. of-releasing _ _ _ tt))
 
   -- the rules
   order-of : (o : Order) (p : ℕ) → ((d : Deed) → P p d) → Of P F v (order v o p)
   unfolding order
-  order-of RU p h = of-inside _ _ _ (of-done _ _ (h _, tt))
-  order-of SS p h = of-inside _ _ _ (of-done _ _ (h _, tt))
-  order-of GO p h = of-inside _ _ _ (of-done _ _ (h _, tt))
+  order-of RU p h = by-inside fails _ _ _ _ (λ s. of-done _ _ (h _, tt))
+  order-of SS p h = by-inside fails _ _ _ _ (λ s. of-done _ _ (h _, tt))
+  order-of GO p h = by-inside fails _ _ _ _ (λ s. of-done _ _ (h _, tt))
   order-of (PR n) p h = of-done _ _ (h _, tt)
   order-of (OF k) p h = of-releasing _ _ _ (upon-append P F (dismissed k p) _ (upon-dismissed k p h) tt)
 
@@ -181,27 +151,27 @@ module _ (P : ℕ → Deed → Type 0) (F : Type 0) (v : View) where
   call-of EXEC6 l f = of-releasing _ _ _ (f caller l (calls _ refl) _, tt)
   call-of EXEC7 l f = of-done _ _ (f caller l (calls _ refl) _, tt)
   call-of EXEC11 l f = of-done _ _ tt
-  call-of (EXEC9 nm) l f = of-named _ _ (λ i. of-inside _ _ _ (of-waiting _ _ (f _ i (son nm refl) _, (f caller l (calls _ refl) _, tt))))
-  call-of (EXEC10 nm) l f = of-named _ _ (λ i. of-inside _ _ _ (of-done _ _ (f _ i (started nm refl) _, tt)))
-  call-of (EXEC12 nm r m o) l f = of-need _ _ _ _ refl (of-named _ _ (λ i. of-done _ _ (f _ i (party.timed nm r m o refl) _, tt)))
-  call-of (ALLOC g w) l f = of-need _ _ _ _ refl (of-either _ _ _ (of-done _ _ tt) (of-waits _ _ _ _ (f caller l (calls _ refl))))
+  call-of (EXEC9 nm) l f = by-named fails _ _ _ (λ i. by-inside fails _ _ _ _ (λ s. of-waiting _ _ (f _ i (son nm refl) _, (f caller l (calls _ refl) _, tt))))
+  call-of (EXEC10 nm) l f = by-named fails _ _ _ (λ i. by-inside fails _ _ _ _ (λ s. of-done _ _ (f _ i (started nm refl) _, tt)))
+  call-of (EXEC12 nm r m o) l f = by-need fails _ _ _ _ refl (λ t. by-named fails _ _ _ (λ i. of-done _ _ (f _ i (party.timed nm r m o refl) _, tt)))
+  call-of (ALLOC g w) l f = by-need fails _ _ _ _ refl (λ t. by-either fails _ _ _ (λ e. of-done _ _ tt) (of-waits _ _ _ _ (f caller l (calls _ refl))))
   call-of (LOCK r w) l f =
-      of-need _ _ _ _ refl (of-allocated _ _ (of-either _ _ _ (of-done _ _ tt) (of-either _ _ _ (of-done _ _ tt) (of-waits _ _ _ _ (f caller l (calls _ refl))))))
-  call-of (CLEAR r) l f = of-allocated _ _ (of-either _ _ _ (of-done _ _ tt) (of-need _ _ _ _ refl (of-releasing _ _ _ tt)))
-  call-of (FREE r) l f = of-allocated _ _ (of-need _ _ _ _ refl (of-releasing _ _ _ tt))
+      by-need fails _ _ _ _ refl (λ t. by-allocated fails _ _ _ (λ h k m. by-either fails _ _ _ (λ e. of-done _ _ tt) (by-either fails _ _ _ (λ e. of-done _ _ tt) (of-waits _ _ _ _ (f caller l (calls _ refl))))))
+  call-of (CLEAR r) l f = by-allocated fails _ _ _ (λ h k m. by-either fails _ _ _ (λ e. of-done _ _ tt) (by-need fails _ _ _ _ refl (λ t. of-releasing _ _ _ tt)))
+  call-of (FREE r) l f = by-allocated fails _ _ _ (λ h k m. by-need fails _ _ _ _ refl (λ t. of-releasing _ _ _ tt))
 
 pub plan-of : (P : ℕ → Deed → Type 0) (F : Type 0) (v : View) (q : Request) → About v q P F → Of P F v (plan v q)
-unfolding plan asCaller
-plan-of P F v (FRESH T S R) A = of-need P F v _ _ _ _ refl (of-done P F v _ _ (A .fresh T S R refl, tt))
+unfolding plan
+plan-of P F v (FRESH T S R) A = by-need (fails P F v) _ _ _ _ refl (λ t. of-done P F v _ _ (A .fresh T S R refl, tt))
 plan-of P F v (LOAD nm n) A =
-    of-need P F v _ _ _ _ refl (of-need P F v _ _ _ _ refl (of-test P F v _ _ _ _ refl
+    by-need (fails P F v) _ _ _ _ refl (λ t. by-need (fails P F v) _ _ _ _ refl (λ t. by-need (fails P F v) _ _ _ _ refl
     (λ e. of-done P F v _ _ (A .party _ (ltb-true 0 (lowestUnused (v .book .programs)) e) (takes-name nm n refl) _, tt))))
 plan-of P F v (operator o nm) A =
-    of-need P F v _ _ _ _ refl (of-named P F v _ _ (λ i. order-of P F v o (find (v .book .programs) nm) (A .party _ i (ordered o nm refl))))
+    by-need (fails P F v) _ _ _ _ refl (λ t. by-named (fails P F v) _ _ _ (λ i. order-of P F v o (find (v .book .programs) nm) (A .party _ i (ordered o nm refl))))
 plan-of P F v TICK A =
-    of-need P F v _ _ _ _ refl (of-done P F v _ _ (upon-each P F v (λ p. ticked p (at (v .book) p)) (keep (dueAt (v .book)) all)
+    by-need (fails P F v) _ _ _ _ refl (λ t. of-done P F v _ _ (upon-each P F v (λ p. ticked p (at (v .book) p)) (keep (dueAt (v .book)) all)
     (λ x h.
     let k = keep-in (dueAt (v .book)) x all h in
     let X : Known x = all-in x (k .1) in
     upon-ticked P F v x (at (v .book) x) (A .party x (X .0) (due X (k .0))))))
-plan-of P F v (running r) A = of-test P F v _ _ _ _ refl (λ e. call-of P F v r (ltb-true 0 (caller P F v) e) (A .party))
+plan-of P F v (running r) A = by-caller (fails P F v) _ _ (λ l. call-of P F v r l (A .party))

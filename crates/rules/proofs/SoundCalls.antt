@@ -35,7 +35,8 @@ use Rattle.rules.proofs.Making.{Childless, nothing-childless, apt-state
 use Rattle.rules.proofs.Passing.{Passes, nobody-passes, tracked-filled, tracked-replaced, owned-free, numbered-with}
 use Rattle.rules.proofs.Waking.{Callable}
 use Rattle.rules.proofs.Ending.{end-fine}
-use Rattle.rules.proofs.Keeping.{Keeps, Caller, strict, InUse, before, keeps-done, keeps-releasing, keeps-waiting, keeps-need, keeps-either, keeps-found, keeps-named, keeps-inside, keeps-allocated, become-fine, keeps-waits, held-wake, numbered-wake}
+use Rattle.rules.proofs.Walk.{by-need, by-either, by-found, by-inside, by-allocated}
+use Rattle.rules.proofs.Keeping.{Keeps, Caller, strict, refusing, InUse, before, keeps-done, keeps-releasing, keeps-waiting, keeps-named, become-fine, keeps-waits, held-wake, numbered-wake}
 
 -- whys other than a son
 tracks-childless : (n : ℕ) → Childless (Tracks n)
@@ -77,10 +78,10 @@ module _ (a : State lists) (S : Sound a) where
   keeps-takes : (p : ℕ) → Caller a p → (h n w : ℕ) → Passes (InUse a) h → Keeps a (takes (view lists a) p h n w)
   unfolding takes step
   keeps-takes p C h n w k =
-      keeps-need a S (upTo 1 (a .book .tracks) n && leb w 1) 3 0 _ λ e.
+      by-need (refusing a S) (upTo 1 (a .book .tracks) n && leb w 1) 3 0 _ refl λ e.
       let N = both (upTo 1 (a .book .tracks) n) (leb w 1) e .0 in
       let l = upTo-true 1 (a .book .tracks) n N in
-      keeps-found a S (lowest n 0 (a .book .holders)) _ _
+      by-found (refusing a S) (lowest n 0 (a .book .holders)) _ _
       (λ i j.
       let R : Runs nobody i n (a .book .holders) = lowest-runs n (a .book .holders) i (l .0) j in
       keeps-done a S (i ∷ []) (held (filled i n h (a .book .holders)) ∷ [])
@@ -92,8 +93,8 @@ module _ (a : State lists) (S : Sound a) where
   keeps-gives : (h n start : ℕ) → h ≢ system → Keeps a (gives (view lists a) h n start)
   unfolding gives
   keeps-gives h n start d =
-      keeps-need a S (leb 1 n && leb (start + n) (a .book .tracks)) 3 0 _ λ e.
-      keeps-need a S (run h n (drop start (a .book .holders))) 9 0 _ λ f.
+      by-need (refusing a S) (leb 1 n && leb (start + n) (a .book .tracks)) 3 0 _ refl λ e.
+      by-need (refusing a S) (run h n (drop start (a .book .holders))) 9 0 _ refl λ f.
       let l = leb-true 1 n (both (leb 1 n) (leb (start + n) (a .book .tracks)) e .0) in
       keeps-releasing a S (n ∷ []) _ _ (held-wake a S (filled start n nobody (a .book .holders)) (frees n)
       (tracked-filled (InUse a) (a .book .tracks) (a .book .system) (a .book .holders) h start n nobody (before a S .tracked)
@@ -200,11 +201,11 @@ module _ (a : State lists) (S : Sound a) where
   keeps-call p C EXEC6 = keeps-releasing a S _ _ _ (end-fine (a .book .clock) a (before a S) (ends (view lists a) p 0) (C .known) (C .used))
   keeps-call p C EXEC7 = keeps-done a S _ _ (become-fine a S p (C .known, C .used) 6 Nothing refl nothing-childless (λ e. omega arith))
   keeps-call p C EXEC11 = keeps-done a S _ _ (before a S)
-  keeps-call p C (EXEC9 nm) = keeps-named a S nm _ λ q Q. keeps-inside a S q 0 _ λ z. keeps-waiting a S 3 _ (father-fine p q C Q z)
+  keeps-call p C (EXEC9 nm) = keeps-named a S nm _ λ q Q. by-inside (refusing a S) _ q 0 _ λ z. keeps-waiting a S 3 _ (father-fine p q C Q z)
   keeps-call p C (EXEC10 nm) =
-      keeps-named a S nm _ λ q Q. keeps-inside a S q 0 _ λ z. keeps-done a S _ _ (become-fine a S q Q 1 Nothing refl nothing-childless (λ e. omega arith))
+      keeps-named a S nm _ λ q Q. by-inside (refusing a S) _ q 0 _ λ z. keeps-done a S _ _ (become-fine a S q Q 1 Nothing refl nothing-childless (λ e. omega arith))
   keeps-call p C (EXEC12 nm res mult off) =
-      keeps-need a S (upTo 1 4 res && leb mult 4095 && upTo 1 4095 off) 3 0 _ λ e. keeps-named a S nm _ λ q Q.
+      by-need (refusing a S) (upTo 1 4 res && leb mult 4095 && upTo 1 4095 off) 3 0 _ refl λ e. keeps-named a S nm _ λ q Q.
       let h = both (upTo 1 4 res && leb mult 4095) (upTo 1 4095 off) e in
       let m = leb-true mult 4095 (both (upTo 1 4 res) (leb mult 4095) (h .0) .1) in
       let o = upTo-true 1 4095 off (h .1) in
@@ -212,27 +213,27 @@ module _ (a : State lists) (S : Sound a) where
   keeps-call p C (ALLOC g w) =
       let f : ℕ → Bool = λ r. eqb (numberAt (a .book .resources) r .owner) 0 in
       let r : ℕ = first f (from 1 (a .book .numbers)) in
-      keeps-need a S (leb w 1) 3 0 _ λ e. keeps-either a S (ltb 0 r) _ _
+      by-need (refusing a S) (leb w 1) 3 0 _ refl λ e. by-either (refusing a S) (ltb 0 r) _ _
       (λ l.
       let h = from-in r 1 (a .book .numbers) (first-in f (from 1 (a .book .numbers)) (ltb-true 0 r l)) in
       keeps-done a S _ _ (fine-numbered (strict a) (withNumber r (cond g globally p) 0 (a .book .resources)) a (before a S)
       (number-fine r (cond g globally p) 0 (h .0) (omega (arith, h .1)) (owned-new p C g))))
       (keeps-waits a S p C w 3 Number refl number-childless (λ v. omega arith))
   keeps-call p C (LOCK r w) =
-      keeps-need a S (leb w 1) 3 0 _ λ e. keeps-allocated a S r _ λ h k l.
+      by-need (refusing a S) (leb w 1) 3 0 _ refl λ e. by-allocated (refusing a S) _ r _ λ h k l.
       let x : Resource = numberAt (a .book .resources) r in
-      keeps-either a S (eqb (x .lock) p) _ _ (λ v. keeps-done a S _ _ (before a S))
-      (keeps-either a S (eqb (x .lock) 0) _ _
+      by-either (refusing a S) (eqb (x .lock) p) _ _ (λ v. keeps-done a S _ _ (before a S))
+      (by-either (refusing a S) (eqb (x .lock) 0) _ _
       (λ v. keeps-done a S _ _ (fine-numbered (strict a) (withNumber r (x .owner) p (a .book .resources)) a (before a S) (number-fine r (x .owner) p h k (owned-locked r h k p C l))))
       (keeps-waits a S p C w 3 (Lock r) (upTo-is 1 (a .book .numbers) r h k) (lock-childless r) (λ v. omega arith)))
   keeps-call p C (CLEAR r) =
-      keeps-allocated a S r _ λ h k l.
+      by-allocated (refusing a S) _ r _ λ h k l.
       let x : Resource = numberAt (a .book .resources) r in
-      keeps-either a S (eqb (x .lock) 0) _ _ (λ v. keeps-done a S _ _ (before a S))
-      (keeps-need a S (eqb (x .lock) p) 9 0 _ λ v.
+      by-either (refusing a S) (eqb (x .lock) 0) _ _ (λ v. keeps-done a S _ _ (before a S))
+      (by-need (refusing a S) (eqb (x .lock) p) 9 0 _ refl λ v.
       keeps-releasing a S _ _ _ (numbered-wake a S (withNumber r (x .owner) 0 (a .book .resources)) (clears r false) (number-fine r (x .owner) 0 h k (owned-cleared r h k))))
   keeps-call p C (FREE r) =
-      keeps-allocated a S r _ λ h k l.
+      by-allocated (refusing a S) _ r _ λ h k l.
       let x : Resource = numberAt (a .book .resources) r in
-      keeps-need a S ((eqb (x .owner) p || eqb (x .owner) globally) && (eqb (x .lock) p || eqb (x .lock) 0)) 9 0 _ λ v.
+      by-need (refusing a S) ((eqb (x .owner) p || eqb (x .owner) globally) && (eqb (x .lock) p || eqb (x .lock) 0)) 9 0 _ refl λ v.
       keeps-releasing a S _ _ _ (numbered-wake a S (withNumber r 0 0 (a .book .resources)) (clears r true) (number-fine r 0 0 h k (owned-free (InUse a))))
