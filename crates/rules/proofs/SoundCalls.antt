@@ -3,7 +3,6 @@
 -- Assumes nothing.
 use Prim.Native.Nat.{ℕ, _+_, _*_, _≤_}
 use native.Mathlib.Omega.{arith}
-use native.Mathlib.Decide.{ℕ-discrete}
 use mathlib.Core.Path.{_≡_, refl, sym, ap, _∙_}
 use mathlib.Core.Logic.{_≢_}
 use mathlib.Core.Bool.{Bool, true, false, cond, _&&_, _||_}
@@ -28,7 +27,7 @@ use Rattle.rules.specs.Plans.{becomes, timed, on, held, numbered}
 use Rattle.rules.specs.Rules.{takes, gives, call, frees, clears, endsIn, ends}
 use Rattle.rules.specs.Keeper.{lists, State, step, play, view}
 use Rattle.rules.specs.Sound.{Sound}
-use Rattle.rules.proofs.Deeds.{Turned, step-turned}
+use Rattle.rules.proofs.Deeds.{Turned, turned-each, step-turned}
 use Rattle.rules.proofs.Fine.{Sonny, Tracked, Owned, Numbered, Fine}
 use Rattle.rules.proofs.Apt.{tracked-map, fine-on, fine-held, fine-numbered}
 use Rattle.rules.proofs.Making.{Childless, nothing-childless, apt-state, apt-timed}
@@ -138,12 +137,9 @@ module _ (a : State lists) (S : Sound a) where
       })
 
       only : (k w : ℕ) → q ≡ k → Known w → whyOf (b .book) w ≡ Son k → ⊥
-      only k w e W i = go (ℕ-discrete w q)
-        where
-          go : Dec (w ≡ q) → ⊥
-          go (yes j) = nothing-childless k (ap (λ (r : Program). r .why) (sym (T .here)) ∙ ap (whyOf (b .book)) (sym j) ∙ i)
-          go (no n) =
-              F .sons w q W (ap (λ (r : Program). r .why) (sym (T .rest w W n)) ∙ i ∙ ap Son (sym e)) .awake (λ j. omega (arith, j, Q .0 .0)) z
+      only k w e W =
+          turned-each T (λ w r. r .why ≡ Son k → ⊥) (nothing-childless k)
+          (λ w W n i. F .sons w q W (i ∙ ap Son (sym e)) .awake (λ j. omega (arith, j, Q .0 .0)) z) w W
 
   -- EXEC 12
   timer-fine : (q : ℕ) → Callable (a .book .programs) q → (res mult off : ℕ) → mult ≤ 4095 → 1 ≤ off → off ≤ 4095
