@@ -60,7 +60,7 @@ module _ {P : Plan → Type 0} (N : Refuses P) where
 
   pub by-waits : (c w s : ℕ) (y : Why) → P (waiting s (on c (becomes s y) ∷ [])) → P (waits c w s y)
   unfolding waits
-  by-waits c w s y h = by-either _ _ _ (λ e. h) (N .listed 8 0 refl)
+  by-waits c w s y h = by-either _ _ _ (λ e. h) (N .listed _ _ refl)
 
 -- what is said of a plan that is done
 pub record IfDone (P : Plan → Type 0) (x : Plan) : Type 0 where
