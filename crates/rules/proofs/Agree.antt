@@ -1,6 +1,6 @@
 -- Each test of soundness says what its clause says, both ways: a test of every program, track or number is taken apart into the clause's words "for every".
 -- Assumes nothing.
-use Prim.Native.Nat.{ℕ, zero, suc, _+_, _-_, _≤_, _<_}
+use Prim.Native.Nat.{ℕ, _+_, _-_, _≤_, _<_}
 use native.Mathlib.Omega.{arith}
 use mathlib.Core.Path.{_≡_, refl, sym, ap, _∙_, subst}
 use mathlib.Core.Logic.{_≢_}
@@ -10,7 +10,7 @@ use lib.ListN.{getD}
 use lib.Dec.{leb, ltb, eqb}
 use borrow.Author.Tests.{eq-eqb, ne-eqb, eqb-true, eqb-false, leb-true, le-leb, ltb-true, lt-ltb}
 use Rattle.lists.specs.Lists.{alike}
-use Rattle.lists.proofs.Tests.{false-true, both, and, unless, implies, otherwise, or, along-in, along-is, alike-true, alike-refl}
+use Rattle.lists.proofs.Tests.{false-true, clash, both, and, unless, implies, otherwise, or, along-in, along-is, alike-true, alike-refl}
 use Rattle.clock.specs.Clock.{farthest}
 use Rattle.records.specs.declared.Program.{Program}
 use Rattle.records.specs.declared.Resource.{Resource}
@@ -48,17 +48,10 @@ number-is b f h =
     along-is free (λ r x. f x) 1 (b .numbers) (b .resources)
     (λ k l. ap (λ (x : ℕ). f (getD (b .resources) x free)) (omega arith) ∙ h (k + 1) (omega arith, omega arith))
 
--- a test that fails
-pub not-is : (a : Bool) → a ≡ false → not a ≡ true
-not-is true e = false-true (sym e)
-not-is false e = refl
-
+-- a test is passed or failed
 pub yes-or-no : (a : Bool) {A : Type 0} → (a ≡ true → A) → (a ≡ false → A) → A
 yes-or-no true f g = f refl
 yes-or-no false f g = g refl
-
-pub true-false : {A : Type 0} (a : Bool) → a ≡ true → a ≡ false → A
-true-false a h k = false-true (sym k ∙ h)
 
 -- names
 distinctly : ℕ → Program → ℕ → Program → Bool
@@ -70,7 +63,7 @@ distinct-true b p q e u n = yes-or-no (eqb p q) (eqb-true p q) (λ w.
     let z : not (at b q .used) ≡ false = ap not u in
     let k : alike (at b p .name) (at b q .name) ≡ true = subst (λ (x : List ℕ). alike (at b p .name) x ≡ true) n (alike-refl (at b p .name)) in
     let m : not (alike (at b p .name) (at b q .name)) ≡ true = otherwise (eqb p q || not (at b q .used)) (not (alike (at b p .name) (at b q .name))) e (rw (w, z)) in
-    true-false (not (alike (at b p .name) (at b q .name))) m (ap not k))
+    clash m (ap not k))
 
 distinct-is : (b : Book) (p q : ℕ) → (at b q .used ≡ true → at b p .name ≡ at b q .name → p ≡ q) → distinctly p (at b p) q (at b q) ≡ true
 unfolding distinctly
@@ -78,7 +71,7 @@ distinct-is b p q h =
     or (eqb p q || not (at b q .used)) (not (alike (at b p .name) (at b q .name)))
     (λ e. yes-or-no (alike (at b p .name) (at b q .name))
     (λ k. go (eqb p q) (at b q .used) refl refl e k)
-    (not-is (alike (at b p .name) (at b q .name))))
+    (λ k. ap not k))
   where
     go : (x y : Bool) → eqb p q ≡ x → at b q .used ≡ y → (x || not y) ≡ false → alike (at b p .name) (at b q .name) ≡ true
         → not (alike (at b p .name) (at b q .name)) ≡ true
@@ -132,9 +125,6 @@ zeros-true r e u =
     let e6 = eqb-true (r .interval) 0 (b5 .1) in
     λ i. record { used = u i; name = e1 i; priority = e2 i; state = e3 i; why = e4 i; due = e5 i; interval = e6 i }
 
-zeros-is : (r : Program) → r ≡ unused → zeros r ≡ true
-zeros-is r e = rw e
-
 tidy : Program → Bool
 tidy r = (r .used || zeros r) && (not (eqb (r .due) 0) || eqb (r .interval) 0)
 
@@ -153,7 +143,7 @@ unfolding testZeros tidy
 zeros-test b Z =
     program-is b (λ p r. tidy r) (λ p P.
     and
-    (or (at b p .used) (zeros (at b p)) (λ u. zeros-is (at b p) (Z .empty p P u)))
+    (or (at b p .used) (zeros (at b p)) (λ u. ap zeros (Z .empty p P u)))
     (implies (eqb (at b p .due) 0) (eqb (at b p .interval) 0) (λ z. eq-eqb (at b p .interval) 0 (Z .timeless p P (eqb-true (at b p .due) 0 z)))))
 
 -- whys
@@ -164,12 +154,24 @@ waits-well : Book → ℕ → Program → Bool
 unfolding awaits-one
 waits-well b p r = suits b p (r .state) (r .why) && (eqb (sonOf (r .why)) 0 || programs b (awaits-one p r))
 
+-- what suits of a son
+pub record Suited (b : Book) (p s k : ℕ) : Type 0 where
+  pub general : eqb s 3 ≡ true
+  pub known : known k ≡ true
+  pub used : at b k .used ≡ true
+  pub awake : not (eqb (stateOf b k) 0) ≡ true
+  pub other : not (eqb k p) ≡ true
+
+pub suited : (b : Book) (p s k : ℕ) → suits b p s (Son k) ≡ true → Suited b p s k
+suited b p s k e =
+    let h₄ = both (eqb s 3 && known k && at b k .used && not (eqb (stateOf b k) 0)) (not (eqb k p)) e in
+    let h₃ = both (eqb s 3 && known k && at b k .used) (not (eqb (stateOf b k) 0)) (h₄ .0) in
+    let h₂ = both (eqb s 3 && known k) (at b k .used) (h₃ .0) in
+    let h₁ = both (eqb s 3) (known k) (h₂ .0) in
+    record { general = h₁ .0; known = h₁ .1; used = h₂ .1; awake = h₃ .1; other = h₄ .1 }
+
 pub son-known : (b : Book) (p s k : ℕ) → suits b p s (Son k) ≡ true → Known k
-son-known b p s k e =
-    let b3 = both (eqb s 3 && known k && at b k .used && not (eqb (stateOf b k) 0)) (not (eqb k p)) e in
-    let b2 = both (eqb s 3 && known k && at b k .used) (not (eqb (stateOf b k) 0)) (b3 .0) in
-    let b1 = both (eqb s 3 && known k) (at b k .used) (b2 .0) in
-    known-true k ((both (eqb s 3) (known k) (b1 .0)) .1)
+son-known b p s k e = known-true k (suited b p s k e .known)
 
 -- who has a son number has that son
 son-why : (w : Why) (k : ℕ) → 1 ≤ k → sonOf w ≡ k → w ≡ Son k
@@ -191,7 +193,7 @@ whys-clause b e = record {
       let t : awaits-one p (at b p) q (at b q) ≡ true =
       program-in b (awaits-one p (at b p)) (otherwise (eqb (sonOf (whyOf b p)) 0) (programs b (awaits-one p (at b p))) ((here p P) .1) n) q Q in
       yes-or-no (eqb p q) (eqb-true p q) (λ w.
-      true-false (not (eqb (sonOf (whyOf b p)) (sonOf (whyOf b q)))) (otherwise (eqb p q) (not (eqb (sonOf (whyOf b p)) (sonOf (whyOf b q)))) t w)
+      clash (otherwise (eqb p q) (not (eqb (sonOf (whyOf b p)) (sonOf (whyOf b q)))) t w)
       (ap not (eq-eqb (sonOf (whyOf b p)) (sonOf (whyOf b q)) (sp ∙ sym sq))));
 }
   where
@@ -199,20 +201,16 @@ whys-clause b e = record {
     here p P =
         both (suits b p (stateOf b p) (whyOf b p)) (eqb (sonOf (whyOf b p)) 0 || programs b (awaits-one p (at b p))) (program-in b (waits-well b) e p P)
 
-positive : (n : ℕ) → (n ≡ 0 → ⊥) → 1 ≤ n
-positive zero h = absurd (h refl)
-positive (suc n) h = omega arith
-
 pub whys-test : (b : Book) → Whys b → testWhys b ≡ true
 unfolding testWhys waits-well awaits-one
 whys-test b W =
     program-is b (waits-well b) (λ p P.
     and (W .fitting p P)
     (or (eqb (sonOf (whyOf b p)) 0) (programs b (awaits-one p (at b p))) (λ n.
-    let l : 1 ≤ sonOf (whyOf b p) = positive (sonOf (whyOf b p)) (eqb-false (sonOf (whyOf b p)) 0 n) in
+    let l : 1 ≤ sonOf (whyOf b p) = omega (arith, eqb-false (sonOf (whyOf b p)) 0 n) in
     program-is b (awaits-one p (at b p)) (λ q Q.
     or (eqb p q) (not (eqb (sonOf (whyOf b p)) (sonOf (whyOf b q)))) (λ w.
-    not-is (eqb (sonOf (whyOf b p)) (sonOf (whyOf b q))) (ne-eqb (sonOf (whyOf b p)) (sonOf (whyOf b q)) (λ s.
+    ap not (ne-eqb (sonOf (whyOf b p)) (sonOf (whyOf b q)) (λ s.
     eqb-false p q w
     (W .once p q (sonOf (whyOf b p)) P Q (son-why (whyOf b p) (sonOf (whyOf b p)) l refl) (son-why (whyOf b q) (sonOf (whyOf b p)) l (sym s))))))))))
 

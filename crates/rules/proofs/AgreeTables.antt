@@ -10,7 +10,7 @@ use lib.Dec.{leb, ltb, eqb}
 use borrow.Author.Tests.{eq-eqb, ne-eqb, eqb-true, leb-true, le-leb, ltb-true, lt-ltb}
 use Rattle.lists.specs.Lists.{same, count, every, from, upTo, Ascending}
 use Rattle.lists.proofs.Laws.{count-from, from-in}
-use Rattle.lists.proofs.Tests.{false-true, both, and, unless, implies, every-in, every-is, upTo-true, upTo-is}
+use Rattle.lists.proofs.Tests.{false-true, clash, both, and, unless, implies, every-in, every-is, upTo-true, upTo-is}
 use Rattle.clock.specs.Clock.{ceiling}
 use Rattle.records.specs.declared.Program.{Program}
 use Rattle.records.specs.Records.{Known, known}
@@ -20,7 +20,7 @@ use Rattle.rules.specs.Book.{Book, at, stateOf, prioOf, holderOf}
 use Rattle.rules.specs.Sound.{Ours, Chains, System, Users, Unlocked, Limits}
 use Rattle.rules.specs.Test.{programs, tracks, numbers, rising, used, testChains, testSystem, testUsers, testUnlocked, testLimits}
 use Rattle.rules.proofs.Places.{known-true, known-is}
-use Rattle.rules.proofs.Agree.{program-in, program-is, track-in, track-is, number-in, number-is, yes-or-no, true-false}
+use Rattle.rules.proofs.Agree.{program-in, program-is, track-in, track-is, number-in, number-is, yes-or-no}
 
 -- chains
 rising-true : (pr : ℕ → ℕ) (c : List ℕ) → rising pr c ≡ true → Ascending (λ p q. pr p ≤ pr q) c
@@ -98,7 +98,7 @@ system-test b S =
     one : (i : ℕ) → i < b .tracks → ltb i (b .system) ≡ eqb (holderOf b i) system
     one i h = yes-or-no (ltb i (b .system))
         (λ k. k ∙ sym (eq-eqb (holderOf b i) system (S .below i h (ltb-true i (b .system) k))))
-        (λ k. k ∙ sym (ne-eqb (holderOf b i) system (λ w. true-false (ltb i (b .system)) (lt-ltb i (b .system) (S .just i h w)) k)))
+        (λ k. k ∙ sym (ne-eqb (holderOf b i) system (λ w. clash (lt-ltb i (b .system) (S .just i h w)) k)))
 
 -- holders, owners and lockers
 used-true : (b : Book) (p : ℕ) → used b p ≡ true → Known p → at b p .used ≡ true

@@ -4,7 +4,7 @@
 -- Assumes nothing.
 use Prim.Native.Nat.{ℕ, suc, _+_, _≤_}
 use native.Mathlib.Omega.{arith}
-use native.Mathlib.Decide.{ℕ-discrete, decLe}
+use native.Mathlib.Decide.{decLe}
 use mathlib.Core.Path.{_≡_, refl, sym, ap, _∙_}
 use mathlib.Core.Logic.{_≢_}
 use mathlib.Core.Bool.{Bool, true, false, cond, _&&_, _||_}
@@ -17,7 +17,7 @@ use Rattle.lists.proofs.Laws.{same-refl, same-ne, same-le, same-eq, count-remov
 use Rattle.lists.proofs.Tests.{clash}
 use Rattle.records.specs.declared.Resource.{Resource}
 use Rattle.records.specs.declared.Why.the-variants.{Nothing}
-use Rattle.records.specs.Records.{Known, known, all}
+use Rattle.records.specs.Records.{Known, all}
 use Rattle.rules.specs.Book.{Book, at, stateOf, whyOf}
 use Rattle.rules.specs.Requests.{EXEC6, CLEAR, FREE, TICK, running}
 use Rattle.rules.specs.Plans.{becomes, Event, on, clocked, numbered, Plan, releasing, View, valuesOf, eventsOf, Release, awaits, woken, wake}
@@ -25,7 +25,7 @@ use Rattle.rules.specs.Rules.{clears, endsIn, ends, dueAt, ticked, call,
 use Rattle.rules.specs.Keeper.{lists, State, step, play, view, scheduled, asks}
 use Rattle.rules.specs.Sound.{Sound}
 use Rattle.rules.specs.Counts.{awoken, roused}
-use Rattle.rules.proofs.Places.{known-true, known-is, all-one, all-once, all-in}
+use Rattle.rules.proofs.Places.{known-or, none-other, all-one, all-once, all-in}
 use Rattle.rules.proofs.Finding.{head-in}
 use Rattle.rules.proofs.Ordering.{general-alone}
 use Rattle.rules.proofs.Deeds.{turned-each, step-turned}
@@ -52,20 +52,12 @@ same-length (x ∷ xs) d e =
     omega (arith, remove-length x d h, same-length xs (remove x d) (λ z. omega (arith, e z, count-remove z x d h)))
 
 tally : (f : ℕ → Bool) (c : List ℕ) → ((x : ℕ) → 1 ≤ count x c → Known x) → ((x : ℕ) → Known x → count x c ≡ hit (f x)) → length c ≡ length (keep f all)
-tally f c within once = same-length c (keep f all) (λ x. go x (known x) (f x) refl refl)
+tally f c within once = same-length c (keep f all) (λ x. go x (known-or x) (f x) refl)
   where
-    go : (x : ℕ) (k b : Bool) → known x ≡ k → f x ≡ b → count x c ≡ count x (keep f all)
-    go x true true e t = omega (arith, once x (known-true x e), ap hit t, count-keep f x all, ap (λ (y : Bool). cond y (count x all) 0) t, all-one x (known-true x e))
-    go x true false e t = omega (arith, once x (known-true x e), ap hit t, count-keep f x all, ap (λ (y : Bool). cond y (count x all) 0) t)
-    go x false b e t = here (ℕ-discrete (count x c) 0) (ℕ-discrete (count x (keep f all)) 0)
-      where
-        not-known : Known x → ⊥
-        not-known X = let k : known x ≡ true = known-is x X in let z : _≡_ {A = ℕ} 0 1 = cc in omega arith
-
-        here : Dec (count x c ≡ 0) → Dec (count x (keep f all) ≡ 0) → count x c ≡ count x (keep f all)
-        here (yes m) (yes n) = omega arith
-        here (no m) d = absurd (not-known (within x (omega (arith, m))))
-        here (yes m) (no n) = absurd (not-known (all-in x (omega (arith, n, keep-le f x all))))
+    go : (x : ℕ) → Dec (Known x) → (b : Bool) → f x ≡ b → count x c ≡ count x (keep f all)
+    go x (yes X) true t = omega (arith, once x X, ap hit t, count-keep f x all, ap (λ (y : Bool). cond y (count x all) 0) t, all-one x X)
+    go x (yes X) false t = omega (arith, once x X, ap hit t, count-keep f x all, ap (λ (y : Bool). cond y (count x all) 0) t)
+    go x (no n) b t = none-other c x (within x) n ∙ sym (none-other (keep f all) x (λ h. all-in x (keep-in f x all h .1)) n)
 
 keep-keep : (f g : ℕ → Bool) (c : List ℕ) → keep g (keep f c) ≡ keep (λ p. f p && g p) c
 keep-keep f g [] = refl

@@ -6,13 +6,12 @@ use Prim.Native.Nat.{ℕ, _+_, _≤_, _<_}
 use native.Mathlib.Omega.{arith}
 use mathlib.Core.Path.{_≡_, refl, subst}
 use mathlib.Core.Logic.{_≢_}
-use mathlib.Core.Bool.{Bool, true, false, not, _&&_, _||_}
+use mathlib.Core.Bool.{Bool, true, false, _&&_, _||_}
 use mathlib.Core.List.{List}
 use lib.ListN.{length, getD}
 use lib.Dec.{eqb}
 use borrow.Author.Tests.{not-true, eqb-false, ne-eqb}
 use Rattle.lists.specs.Lists.{upTo}
-use Rattle.lists.proofs.Tests.{both}
 use Rattle.clock.specs.Clock.{ceiling, farthest}
 use Rattle.records.specs.declared.Program.{Program}
 use Rattle.records.specs.declared.Resource.{Resource}
@@ -25,6 +24,7 @@ use Rattle.tracks.specs.Tracks.{nobody, system}
 use Rattle.rules.specs.Book.{Book, at, stateOf, whyOf, altered}
 use Rattle.rules.specs.Keeper.{lists, State}
 use Rattle.rules.specs.Sound.{suits, Sound}
+use Rattle.rules.proofs.Agree.{suited}
 use Rattle.rules.proofs.Places.{known-true, known-is}
 use Rattle.rules.proofs.Chaining.{Ordered}
 
@@ -147,21 +147,6 @@ fine-anew e f a c hs rs F right sons tracked numbered now time = record {
 }
 
 -- what is said of whys in two parts
-record Suited (b : Book) (p s k : ℕ) : Type 0 where
-  general : eqb s 3 ≡ true
-  known : known k ≡ true
-  used : at b k .used ≡ true
-  awake : not (eqb (stateOf b k) 0) ≡ true
-  other : not (eqb k p) ≡ true
-
-suited : (b : Book) (p s k : ℕ) → suits b p s (Son k) ≡ true → Suited b p s k
-suited b p s k e =
-    let h₄ = both (eqb s 3 && known k && at b k .used && not (eqb (stateOf b k) 0)) (not (eqb k p)) e in
-    let h₃ = both (eqb s 3 && known k && at b k .used) (not (eqb (stateOf b k) 0)) (h₄ .0) in
-    let h₂ = both (eqb s 3 && known k) (at b k .used) (h₃ .0) in
-    let h₁ = both (eqb s 3) (known k) (h₂ .0) in
-    record { general = h₁ .0; known = h₁ .1; used = h₂ .1; awake = h₃ .1; other = h₄ .1 }
-
 suits-alone : (b : Book) (p s : ℕ) (w : Why) → suits b p s w ≡ true → alone (b .tracks) (b .numbers) s w ≡ true
 suits-alone b p s Nothing e = e
 suits-alone b p s (Tracks n) e = e

@@ -1,9 +1,9 @@
 -- What a chain is (Fits): there is one list of that kind at most, an entering and a leaving program keep it, and `sorted` is it.
 -- The replay keeps no chain, so this is where its notes give one: programs in chains have entries that differ, hence the order is strict and the list unique.
 -- Assumes nothing.
-use Prim.Native.Nat.{ℕ, zero, suc, _+_, _≤_, _<_}
+use Prim.Native.Nat.{ℕ, _+_, _≤_, _<_}
 use native.Mathlib.Omega.{arith}
-use native.Mathlib.Decide.{ℕ-discrete, decLe}
+use native.Mathlib.Decide.{ℕ-discrete}
 use mathlib.Core.Path.{_≡_, refl, sym, ap, _∙_}
 use mathlib.Core.Logic.{_≢_}
 use mathlib.Core.Bool.{Bool, true, false, cond}
@@ -17,7 +17,7 @@ use Rattle.records.specs.Records.{Known, all}
 use Rattle.rules.specs.Book.{Book, stateOf, prioOf}
 use Rattle.rules.specs.Keeper.{Entries, earlier, sort, sorted}
 use Rattle.rules.specs.Replay.{Before, Fits}
-use Rattle.rules.proofs.Places.{all-one, all-once, all-in}
+use Rattle.rules.proofs.Places.{known-or, none-other, all-one, all-once, all-in}
 use Rattle.rules.proofs.Sorting.{before-asym, insert-ascending, count-sort, sort-ascending}
 
 -- 32 records, and entries that tell programs in chains apart
@@ -31,16 +31,11 @@ pub fits-state : (b : Book) (en : ℕ → ℕ) (s : ℕ) (c : List ℕ) → Fits
 fits-state b en s c F z h = same-eq (stateOf b z) s (omega (arith, F .member z (F .within z h)))
 
 pub fits-unique : (b : Book) (en : ℕ → ℕ) (s : ℕ) (c d : List ℕ) → Fits b en s c → Fits b en s d → c ≡ d
-fits-unique b en s c d F G = ascending-unique (Before (prioOf b) en) (before-asym (prioOf b) en) c d (F .ascends) (G .ascends) (λ z. go z (decLe 1 z) (decLe z 32))
+fits-unique b en s c d F G = ascending-unique (Before (prioOf b) en) (before-asym (prioOf b) en) c d (F .ascends) (G .ascends) (λ z. go z (known-or z))
   where
-    none : (c : List ℕ) → Fits b en s c → (z : ℕ) → (Known z → ⊥) → (n : ℕ) → count z c ≡ n → count z c ≡ 0
-    none c F z h zero e = e
-    none c F z h (suc n) e = absurd (h (F .within z (omega arith)))
-
-    go : (z : ℕ) → Dec (1 ≤ z) → Dec (z ≤ 32) → count z c ≡ count z d
-    go z (yes h) (yes k) = F .member z (h, k) ∙ sym (G .member z (h, k))
-    go z (no h) d′ = none c F z (λ k. h (k .0)) (count z c) refl ∙ sym (none d G z (λ k. h (k .0)) (count z d) refl)
-    go z (yes h) (no k) = none c F z (λ l. k (l .1)) (count z c) refl ∙ sym (none d G z (λ l. k (l .1)) (count z d) refl)
+    go : (z : ℕ) → Dec (Known z) → count z c ≡ count z d
+    go z (yes h) = F .member z h ∙ sym (G .member z h)
+    go z (no h) = none-other c z (F .within z) h ∙ sym (none-other d z (G .within z) h)
 
 module _ (b b′ : Book) (en en′ : ℕ → ℕ) (s : ℕ) (c : List ℕ) (F : Fits b en s c) where
   -- a change that does not concern the chain

@@ -19,7 +19,7 @@ use Rattle.rules.specs.Plans.{Deed, wakes as waking, Event, on, clocked,
 use Rattle.rules.specs.Keeper.{Keeper, State, act, step, play, view, asks, after}
 use Rattle.rules.specs.Frame.{Party, Concerned, party, anew, woken, Stirred, stays, wakes}
 use Rattle.rules.proofs.Places.{known-true, at-other}
-use Rattle.rules.proofs.Deeds.{made, act-put}
+use Rattle.rules.proofs.Deeds.{made, act-put, step-put}
 use Rattle.rules.proofs.Parts.{Upon, upon-map, By, as-party, as-woken, plan-of}
 
 stirred-on : (r s u : Program) → Stirred r s → Stirred s u → Stirred r u
@@ -38,19 +38,25 @@ module _ (K : Keeper) (x : ℕ) (X : Known x) where
       go true h = ap (λ (u : State K). at (u .book) x) (act-put K p d t) ∙ at-other (t .book) p (known-true p h) (made d (at (t .book) p)) x X n
       go false h = refl
 
-  play-frame : (P : ℕ → Type 0) → (P x → ⊥) → (es : List Event) → Upon (λ p d. P p) ⊥ es → (t : State K) → at (play K es t .book) x ≡ at (t .book) x
+  -- what each event leaves of the record, all of them leave
+  play-along : (Q : Program → Program → Type 0) → ((r : Program) → Q r r) → ((r s u : Program) → Q r s → Q s u → Q r u) → (U : ℕ → Deed → Type 0)
+      → ((p : ℕ) (d : Deed) (t : State K) → U p d → Q (at (t .book) x) (at (step K (on p d) t .book) x))
+      → (es : List Event) → Upon U ⊥ es → (t : State K) → Q (at (t .book) x) (at (play K es t .book) x)
   unfolding step
-  play-frame P n [] u t = refl
-  play-frame P n (on p d ∷ es) u t = play-frame P n es (u .1) (step K (on p d) t) ∙ on-frame p d t (λ e. n (subst P (sym e) (u .0)))
-  play-frame P n (clocked c ∷ es) u t = play-frame P n es u (step K (clocked c) t)
-  play-frame P n (held h ∷ es) u t = play-frame P n es u (step K (held h) t)
-  play-frame P n (numbered r ∷ es) u t = play-frame P n es u (step K (numbered r) t)
-  play-frame P n (renewed T S R ∷ es) u t = absurd (u .0)
+  play-along Q i j U f [] u t = i (at (t .book) x)
+  play-along Q i j U f (on p d ∷ es) u t = j _ _ _ (f p d t (u .0)) (play-along Q i j U f es (u .1) (step K (on p d) t))
+  play-along Q i j U f (clocked c ∷ es) u t = play-along Q i j U f es u (step K (clocked c) t)
+  play-along Q i j U f (held h ∷ es) u t = play-along Q i j U f es u (step K (held h) t)
+  play-along Q i j U f (numbered r ∷ es) u t = play-along Q i j U f es u (step K (numbered r) t)
+  play-along Q i j U f (renewed T S R ∷ es) u t = absurd (u .0)
+
+  play-frame : (P : ℕ → Type 0) → (P x → ⊥) → (es : List Event) → Upon (λ p d. P p) ⊥ es → (t : State K) → at (play K es t .book) x ≡ at (t .book) x
+  play-frame P n = play-along (λ r s. s ≡ r) (λ r. refl) (λ r s u e f. f ∙ e) (λ p d. P p) (λ p d t h. on-frame p d t (λ e. n (subst P (sym e) h)))
 
   -- a waking, also where the records are too few
-  act-stirred : (t : State K) → Stirred (at (t .book) x) (at (act K x waking t .book) x)
-  act-stirred t =
-      subst (λ (u : State K). Stirred (at (t .book) x) (at (u .book) x)) (sym (act-put K x waking t)) (go (decLe (length (t .book .programs)) (x - 1)))
+  woken-stirred : (t : State K) → Stirred (at (t .book) x) (at (step K (on x waking) t .book) x)
+  woken-stirred t =
+      subst (λ (u : State K). Stirred (at (t .book) x) (at (u .book) x)) (sym (step-put K x X waking t)) (go (decLe (length (t .book .programs)) (x - 1)))
     where
       r : Program
       r = made waking (at (t .book) x)
@@ -60,29 +66,14 @@ module _ (K : Keeper) (x : ℕ) (X : Known x) where
       go (no h) = wakes (getD-set-same (t .book .programs) (x - 1) r missing (omega (arith, h)))
 
   on-stirred : (p : ℕ) (d : Deed) (t : State K) → (p ≡ x → d ≡ waking) → Stirred (at (t .book) x) (at (step K (on p d) t .book) x)
-  unfolding step
-  on-stirred p d t h = go (ℕ-discrete x p)
+  on-stirred p d t h = go (ℕ-discrete p x)
     where
-      woken-up : (c : Bool) → Stirred (at (t .book) x) (at (cond c (act K x waking t) t .book) x)
-      woken-up true = act-stirred t
-      woken-up false = stays refl
-
-      go : Dec (x ≡ p) → Stirred (at (t .book) x) (at (step K (on p d) t .book) x)
-      go (no n) = stays (on-frame p d t n)
-      go (yes e) =
-          subst (λ (y : ℕ). Stirred (at (t .book) x) (at (step K (on y d) t .book) x)) e
-          (subst (λ (f : Deed). Stirred (at (t .book) x) (at (step K (on x f) t .book) x)) (sym (h (sym e))) (woken-up (known x)))
+      go : Dec (p ≡ x) → Stirred (at (t .book) x) (at (step K (on p d) t .book) x)
+      go (no n) = stays (on-frame p d t (λ e. n (sym e)))
+      go (yes e) = rw (e, h e) (woken-stirred t)
 
   play-stirred : (es : List Event) → Upon (λ p d. p ≡ x → d ≡ waking) ⊥ es → (t : State K) → Stirred (at (t .book) x) (at (play K es t .book) x)
-  unfolding step
-  play-stirred [] u t = stays refl
-  play-stirred (on p d ∷ es) u t =
-      let s : State K = step K (on p d) t in
-      stirred-on (at (t .book) x) (at (s .book) x) (at (play K es s .book) x) (on-stirred p d t (u .0)) (play-stirred es (u .1) s)
-  play-stirred (clocked c ∷ es) u t = play-stirred es u (step K (clocked c) t)
-  play-stirred (held h ∷ es) u t = play-stirred es u (step K (held h) t)
-  play-stirred (numbered r ∷ es) u t = play-stirred es u (step K (numbered r) t)
-  play-stirred (renewed T S R ∷ es) u t = absurd (u .0)
+  play-stirred = play-along Stirred (λ r. stays refl) stirred-on (λ p d. p ≡ x → d ≡ waking) on-stirred
 
 -- a list that has a first is not empty
 some-happen : (e : Event) (es : List Event) → (e ∷ es) ≢ []

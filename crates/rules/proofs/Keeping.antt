@@ -6,12 +6,12 @@ use native.Mathlib.Omega.{arith}
 use mathlib.Core.Path.{_≡_}
 use mathlib.Core.Logic.{_≢_}
 use mathlib.Core.Bool.{true}
-use mathlib.Core.List.{List, _∷_, _++_}
+use mathlib.Core.List.{List, _∷_}
 use Rattle.records.specs.declared.Resource.{Resource}
 use Rattle.records.specs.declared.Why.{Why}
 use Rattle.records.specs.Records.{Known, find}
 use Rattle.rules.specs.Book.{at, stateOf}
-use Rattle.rules.specs.Plans.{becomes, Event, on, held, numbered, Plan, done, releasing, waiting, eventsOf, Release, woken, wake}
+use Rattle.rules.specs.Plans.{becomes, on, held, numbered, Plan, waiting, eventsOf, Release, woken, wake}
 use Rattle.rules.specs.Rules.{named, waits, head, asCaller}
 use Rattle.rules.specs.Keeper.{lists, State, step, play, view, scheduled}
 use Rattle.rules.specs.Sound.{Sound}
@@ -44,14 +44,8 @@ module _ (a : State lists) (S : Sound a) where
   pub before : Fine (strict a) a
   before = sound-fine a S
 
-  pub keeps-done : (vs : List ℕ) (es : List Event) → Fine (strict a) (play lists es a) → Keeps a (done vs es)
-  keeps-done vs es F = record { sound = fine-sound (a .book .clock) (play lists es a) F }
-
-  pub keeps-releasing : (vs : List ℕ) (es : List Event) (R : Release) → Fine (strict a) (play lists (es ++ wake (woken (view lists a) R)) a) → Keeps a (releasing vs es R)
-  keeps-releasing vs es R F = record { sound = fine-sound (a .book .clock) (play lists (es ++ wake (woken (view lists a) R)) a) F }
-
-  pub keeps-waiting : (s : ℕ) (es : List Event) → Fine (strict a) (play lists es a) → Keeps a (waiting s es)
-  keeps-waiting s es F = record { sound = fine-sound (a .book .clock) (play lists es a) F }
+  pub keeps : (x : Plan) → Fine (strict a) (play lists (eventsOf (view lists a) x) a) → Keeps a x
+  keeps x F = record { sound = fine-sound (a .book .clock) (play lists (eventsOf (view lists a) x) a) F }
 
   -- where nothing happens
   pub refusing : Refuses (Keeps a)
@@ -74,7 +68,7 @@ module _ (a : State lists) (S : Sound a) where
 
   pub keeps-waits : (p : ℕ) → Caller a p → (w s : ℕ) (y : Why) → alone (a .book .tracks) (a .book .numbers) s y ≡ true → Childless y → s ≢ 0
       → Keeps a (waits p w s y)
-  keeps-waits p C w s y h f n = by-waits refusing p w s y (keeps-waiting s _ (become-fine p (C .known, C .used) s y h f n))
+  keeps-waits p C w s y h f n = by-waits refusing p w s y (keeps (waiting s _) (become-fine p (C .known, C .used) s y h f n))
 
   -- tracks or a number pass to others, and programs wake
   pub held-wake : (xs : List ℕ) (R : Release) → Tracked (InUse a) (a .book .tracks) (a .book .system) xs

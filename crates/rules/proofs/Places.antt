@@ -2,9 +2,11 @@
 -- Assumes nothing.
 use Prim.Native.Nat.{ℕ, _-_, _≤_}
 use native.Mathlib.Omega.{arith}
+use native.Mathlib.Decide.{decLe}
 use mathlib.Core.Path.{_≡_, _∙_}
 use mathlib.Core.Logic.{_≢_}
 use mathlib.Core.Bool.{true}
+use mathlib.Core.List.{List}
 use lib.ListN.{length, length-set, replicate, getD-replicate}
 use lib.Seq.{getD-set-same, getD-set-other}
 use Rattle.lists.specs.Lists.{count}
@@ -20,6 +22,22 @@ known-true p = upTo-true 1 32 p
 
 pub known-is : (p : ℕ) → Known p → known p ≡ true
 known-is p P = upTo-is 1 32 p (P .0) (P .1)
+
+pub known-or : (p : ℕ) → Dec (Known p)
+known-or p = go (decLe 1 p) (decLe p 32)
+  where
+    go : Dec (1 ≤ p) → Dec (p ≤ 32) → Dec (Known p)
+    go (yes h) (yes k) = yes (h, k)
+    go (no h) d = no (λ K. h (K .0))
+    go (yes h) (no k) = no (λ K. k (K .1))
+
+-- a list of programs' numbers holds no other
+pub none-other : (c : List ℕ) (z : ℕ) → (1 ≤ count z c → Known z) → (Known z → ⊥) → count z c ≡ 0
+none-other c z f n = go (decLe 1 (count z c))
+  where
+    go : Dec (1 ≤ count z c) → count z c ≡ 0
+    go (yes h) = absurd (n (f h))
+    go (no h) = omega (arith, h)
 
 -- each of the programs' numbers stands once among them all
 pub all-one : (z : ℕ) → Known z → count z all ≡ 1

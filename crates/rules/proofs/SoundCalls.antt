@@ -23,7 +23,7 @@ use Rattle.tracks.specs.Tracks.{nobody, everybody, system, run, lowest, filled,
 use Rattle.tracks.proofs.Holders.{Runs, runs-drop, lowest-runs}
 use Rattle.rules.specs.Book.{at, stateOf, whyOf}
 use Rattle.rules.specs.Requests.{Call, EXEC4, EXEC15, EXEC5, EXEC16, EXEC5ALL, EXEC6, EXEC7, EXEC11, EXEC9, EXEC10, EXEC12, ALLOC, LOCK, CLEAR, FREE}
-use Rattle.rules.specs.Plans.{becomes, timed, on, held, numbered}
+use Rattle.rules.specs.Plans.{becomes, timed, on, numbered}
 use Rattle.rules.specs.Rules.{takes, gives, call, frees, clears, endsIn, ends}
 use Rattle.rules.specs.Keeper.{lists, State, step, play, view}
 use Rattle.rules.specs.Sound.{Sound}
@@ -35,7 +35,7 @@ use Rattle.rules.proofs.Passing.{Passes, nobody-passes, tracked-filled,
 use Rattle.rules.proofs.Waking.{Callable}
 use Rattle.rules.proofs.Ending.{end-fine}
 use Rattle.rules.proofs.Walk.{by-need, by-either, by-found, by-inside, by-allocated}
-use Rattle.rules.proofs.Keeping.{Keeps, Caller, strict, refusing, InUse, before, keeps-done, keeps-releasing, keeps-waiting, keeps-named, become-fine, keeps-waits, held-wake, numbered-wake}
+use Rattle.rules.proofs.Keeping.{Keeps, Caller, strict, refusing, InUse, before, keeps, keeps-named, become-fine, keeps-waits, held-wake, numbered-wake}
 
 -- whys other than a son
 tracks-childless : (n : ℕ) → Childless (Tracks n)
@@ -48,23 +48,20 @@ number-childless : Childless Number
 number-childless k e = let o : _≡_ {A = ℕ} 0 1 = cc in omega arith
 
 -- units
-unit-far : (m n : ℕ) → m ≤ 4095 → m * unit n ≤ farthest
-unit-far m n l = go (eqb n 1) (eqb n 2) (eqb n 3)
+unit-each : (Q : ℕ → Type 0) → Q 1 → Q 100 → Q 6_000 → Q 360_000 → (n : ℕ) → Q (unit n)
+unit-each Q h k l m n = go (eqb n 1) (eqb n 2) (eqb n 3)
   where
-    go : (x y z : Bool) → m * cond x 1 (cond y 100 (cond z 6_000 360_000)) ≤ farthest
-    go true y z = omega arith
-    go false true z = omega arith
-    go false false true = omega arith
-    go false false false = omega arith
+    go : (x y z : Bool) → Q (cond x 1 (cond y 100 (cond z 6_000 360_000)))
+    go true y z = h
+    go false true z = k
+    go false false true = l
+    go false false false = m
+
+unit-far : (m n : ℕ) → m ≤ 4095 → m * unit n ≤ farthest
+unit-far m n l = unit-each (λ u. m * u ≤ farthest) (omega arith) (omega arith) (omega arith) (omega arith) n
 
 unit-some : (m n : ℕ) → 1 ≤ m → 1 ≤ m * unit n
-unit-some m n l = go (eqb n 1) (eqb n 2) (eqb n 3)
-  where
-    go : (x y z : Bool) → 1 ≤ m * cond x 1 (cond y 100 (cond z 6_000 360_000))
-    go true y z = omega arith
-    go false true z = omega arith
-    go false false true = omega arith
-    go false false false = omega arith
+unit-some m n l = unit-each (λ u. 1 ≤ m * u) (omega arith) (omega arith) (omega arith) (omega arith) n
 
 module _ (a : State lists) (S : Sound a) where
   passes : (p : ℕ) → Caller a p → Passes (InUse a) p
@@ -83,7 +80,7 @@ module _ (a : State lists) (S : Sound a) where
       by-found (refusing a S) (lowest n 0 (a .book .holders)) _ _
       (λ i j.
       let R : Runs nobody i n (a .book .holders) = lowest-runs n (a .book .holders) i (l .0) j in
-      keeps-done a S (i ∷ []) (held (filled i n h (a .book .holders)) ∷ [])
+      keeps a S _
       (fine-held (strict a) (filled i n h (a .book .holders)) a (before a S)
       (tracked-filled (InUse a) (a .book .tracks) (a .book .system) (a .book .holders) nobody i n h (before a S .tracked) R (λ v. omega arith) k)))
       (keeps-waits a S p C w 5 (Tracks n) N (tracks-childless n) (λ v. omega arith))
@@ -95,7 +92,7 @@ module _ (a : State lists) (S : Sound a) where
       by-need (refusing a S) (leb 1 n && leb (start + n) (a .book .tracks)) 3 0 _ refl λ e.
       by-need (refusing a S) (run h n (drop start (a .book .holders))) 9 0 _ refl λ f.
       let l = leb-true 1 n (both (leb 1 n) (leb (start + n) (a .book .tracks)) e .0) in
-      keeps-releasing a S (n ∷ []) _ _ (held-wake a S (filled start n nobody (a .book .holders)) (frees n)
+      keeps a S _ (held-wake a S (filled start n nobody (a .book .holders)) (frees n)
       (tracked-filled (InUse a) (a .book .tracks) (a .book .system) (a .book .holders) h start n nobody (before a S .tracked)
       (runs-drop h start n (a .book .holders) l f) d (nobody-passes (InUse a))))
 
@@ -193,43 +190,43 @@ module _ (a : State lists) (S : Sound a) where
   keeps-call p C (EXEC15 n w) = keeps-takes p C everybody n w all-passes
   keeps-call p C (EXEC5 n start) = keeps-gives p n start (λ e. omega (arith, e, C .known .1))
   keeps-call p C (EXEC16 n start) = keeps-gives everybody n start (λ e. omega arith)
-  keeps-call p C EXEC5ALL = keeps-releasing a S _ _ _ (held-wake a S (replaced p nobody (a .book .holders)) (frees (count p (a .book .holders))) (all-given p C))
-  keeps-call p C EXEC6 = keeps-releasing a S _ _ _ (end-fine (a .book .clock) a (before a S) (ends (view lists a) p 0) (C .known) (C .used))
-  keeps-call p C EXEC7 = keeps-done a S _ _ (become-fine a S p (C .known, C .used) 6 Nothing refl nothing-childless (λ e. omega arith))
-  keeps-call p C EXEC11 = keeps-done a S _ _ (before a S)
-  keeps-call p C (EXEC9 nm) = keeps-named a S nm _ λ q Q. by-inside (refusing a S) _ q 0 _ λ z. keeps-waiting a S 3 _ (father-fine p q C Q z)
+  keeps-call p C EXEC5ALL = keeps a S _ (held-wake a S (replaced p nobody (a .book .holders)) (frees (count p (a .book .holders))) (all-given p C))
+  keeps-call p C EXEC6 = keeps a S _ (end-fine (a .book .clock) a (before a S) (ends (view lists a) p 0) (C .known) (C .used))
+  keeps-call p C EXEC7 = keeps a S _ (become-fine a S p (C .known, C .used) 6 Nothing refl nothing-childless (λ e. omega arith))
+  keeps-call p C EXEC11 = keeps a S _ (before a S)
+  keeps-call p C (EXEC9 nm) = keeps-named a S nm _ λ q Q. by-inside (refusing a S) _ q 0 _ λ z. keeps a S _ (father-fine p q C Q z)
   keeps-call p C (EXEC10 nm) =
-      keeps-named a S nm _ λ q Q. by-inside (refusing a S) _ q 0 _ λ z. keeps-done a S _ _ (become-fine a S q Q 1 Nothing refl nothing-childless (λ e. omega arith))
+      keeps-named a S nm _ λ q Q. by-inside (refusing a S) _ q 0 _ λ z. keeps a S _ (become-fine a S q Q 1 Nothing refl nothing-childless (λ e. omega arith))
   keeps-call p C (EXEC12 nm res mult off) =
       by-need (refusing a S) (upTo 1 4 res && leb mult 4095 && upTo 1 4095 off) 3 0 _ refl λ e. keeps-named a S nm _ λ q Q.
       let h = both (upTo 1 4 res && leb mult 4095) (upTo 1 4095 off) e in
       let m = leb-true mult 4095 (both (upTo 1 4 res) (leb mult 4095) (h .0) .1) in
       let o = upTo-true 1 4095 off (h .1) in
-      keeps-done a S _ _ (timer-fine q Q res mult off m (o .0) (o .1))
+      keeps a S _ (timer-fine q Q res mult off m (o .0) (o .1))
   keeps-call p C (ALLOC g w) =
       let f : ℕ → Bool = λ r. eqb (numberAt (a .book .resources) r .owner) 0 in
       let r : ℕ = first f (from 1 (a .book .numbers)) in
       by-need (refusing a S) (leb w 1) 3 0 _ refl λ e. by-either (refusing a S) (ltb 0 r) _ _
       (λ l.
       let h = from-in r 1 (a .book .numbers) (first-in f (from 1 (a .book .numbers)) (ltb-true 0 r l)) in
-      keeps-done a S _ _ (fine-numbered (strict a) (withNumber r (cond g globally p) 0 (a .book .resources)) a (before a S)
+      keeps a S _ (fine-numbered (strict a) (withNumber r (cond g globally p) 0 (a .book .resources)) a (before a S)
       (number-fine r (cond g globally p) 0 (h .0) (omega (arith, h .1)) (owned-new p C g))))
       (keeps-waits a S p C w 3 Number refl number-childless (λ v. omega arith))
   keeps-call p C (LOCK r w) =
       by-need (refusing a S) (leb w 1) 3 0 _ refl λ e. by-allocated (refusing a S) _ r _ λ h k l.
       let x : Resource = numberAt (a .book .resources) r in
-      by-either (refusing a S) (eqb (x .lock) p) _ _ (λ v. keeps-done a S _ _ (before a S))
+      by-either (refusing a S) (eqb (x .lock) p) _ _ (λ v. keeps a S _ (before a S))
       (by-either (refusing a S) (eqb (x .lock) 0) _ _
-      (λ v. keeps-done a S _ _ (fine-numbered (strict a) (withNumber r (x .owner) p (a .book .resources)) a (before a S) (number-fine r (x .owner) p h k (owned-locked r h k p C l))))
+      (λ v. keeps a S _ (fine-numbered (strict a) (withNumber r (x .owner) p (a .book .resources)) a (before a S) (number-fine r (x .owner) p h k (owned-locked r h k p C l))))
       (keeps-waits a S p C w 3 (Lock r) (upTo-is 1 (a .book .numbers) r h k) (lock-childless r) (λ v. omega arith)))
   keeps-call p C (CLEAR r) =
       by-allocated (refusing a S) _ r _ λ h k l.
       let x : Resource = numberAt (a .book .resources) r in
-      by-either (refusing a S) (eqb (x .lock) 0) _ _ (λ v. keeps-done a S _ _ (before a S))
+      by-either (refusing a S) (eqb (x .lock) 0) _ _ (λ v. keeps a S _ (before a S))
       (by-need (refusing a S) (eqb (x .lock) p) 9 0 _ refl λ v.
-      keeps-releasing a S _ _ _ (numbered-wake a S (withNumber r (x .owner) 0 (a .book .resources)) (clears r false) (number-fine r (x .owner) 0 h k (owned-cleared r h k))))
+      keeps a S _ (numbered-wake a S (withNumber r (x .owner) 0 (a .book .resources)) (clears r false) (number-fine r (x .owner) 0 h k (owned-cleared r h k))))
   keeps-call p C (FREE r) =
       by-allocated (refusing a S) _ r _ λ h k l.
       let x : Resource = numberAt (a .book .resources) r in
       by-need (refusing a S) ((eqb (x .owner) p || eqb (x .owner) globally) && (eqb (x .lock) p || eqb (x .lock) 0)) 9 0 _ refl λ v.
-      keeps-releasing a S _ _ _ (numbered-wake a S (withNumber r 0 0 (a .book .resources)) (clears r true) (number-fine r 0 0 h k (owned-free (InUse a))))
+      keeps a S _ (numbered-wake a S (withNumber r 0 0 (a .book .resources)) (clears r true) (number-fine r 0 0 h k (owned-free (InUse a))))

@@ -131,9 +131,6 @@ module _ (c : ℕ) (b : Book) where
           (apt-timed (ticking c) t (M .fine) p P used (next p) (at b p .interval)
           (next-timer p d (omega (arith, M .fine .right p P .timer .steps, ap (λ (r : Program). r .interval) s))))
 
-      used₁ : at (t₁ .book) p .used ≡ true
-      used₁ = ap (λ (r : Program). r .used) (T₁ .here) ∙ used
-
       t₂ : State lists
       t₂ = step lists (on p (becomes 1 Nothing)) t₁
 
@@ -141,7 +138,7 @@ module _ (c : ℕ) (b : Book) where
       T₂ = step-turned lists p P (becomes 1 Nothing) t₁ (T₁ .long)
 
       F₂ : Fine (ticking c) t₂
-      F₂ = fine-on (ticking c) p P (becomes 1 Nothing) t₁ F₁ (apt-scheduled (ticking c) t₁ F₁ p P used₁)
+      F₂ = fine-on (ticking c) p P (becomes 1 Nothing) t₁ F₁ (apt-scheduled (ticking c) t₁ F₁ p P (ap (λ (r : Program). r .used) (T₁ .here) ∙ used))
 
       here₁ : at (t₁ .book) p .due ≢ c + 1
       here₁ i = next-moved p d (ap (λ (r : Program). r .due) (sym (T₁ .here)) ∙ i)
