@@ -108,7 +108,7 @@ module _ (K : Keeper) where
   play [] t = t
   play (e ∷ es) t = play es (step e t)
 
-  -- what a rule sees; the scheduled chain
+  -- what a rule sees, the chains being those of states 1 to 6: keepers need not agree on others; and the scheduled chain
   abbrev pub view : State → View
   view t = record { book = t .book; chain = λ s. cond (upTo 1 6 s) (K .order (t .book) (t .kept) s) [] }
 
