@@ -26,7 +26,7 @@ use Rattle.tracks.proofs.Fits.{Holds, replaced-holds}
 use Rattle.rules.specs.Book.{Book}
 use Rattle.rules.specs.Plans.{Deed, becomes, wakes, priced, loaded, unloaded, timed, Event, on, held, numbered, wake, woken, fromDisc, fromGeneral}
 use Rattle.rules.specs.Rules.{ends, dismissed, endsIn}
-use Rattle.rules.proofs.Settling.{settle}
+use Rattle.rules.proofs.shared.Settling.{settle}
 use Rattle.rules.specs.Plans as rules
 use Rattle.rules.specs.Keeper.{lists, State, act, step, play, view}
 use Rattle.chains.specs.declared.Listing.{Listing}

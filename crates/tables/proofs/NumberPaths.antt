@@ -27,7 +27,7 @@ use Rattle.rules.specs.Plans.{Plan, done, waiting, on, becomes, numbered, need,
 use Rattle.rules.specs.Rules.{allocated, number, waits, clears}
 use Rattle.rules.specs.Plans as rules
 use Rattle.rules.specs.Keeper.{lists, view}
-use Rattle.rules.proofs.Paths.{need-met, need-failed, either-so, either-not, waits-so, waits-told, allocated-not-ours, allocated-free, allocated-is}
+use Rattle.rules.proofs.shared.Paths.{need-met, need-failed, either-so, either-not, waits-so, waits-told, allocated-not-ours, allocated-free, allocated-is}
 use Rattle.chains.specs.Links.{read}
 use Rattle.chains.specs.Inner.{Lists}
 use Rattle.ledger.specs.declared.Release.{Release}

@@ -22,10 +22,10 @@ use Rattle.rules.specs.Book.{at, stateOf}
 use Rattle.rules.specs.Requests.{Order, RU, SS, GO, PR, OF, Request, LOAD, operator}
 use Rattle.rules.specs.Plans.{Event, held, Plan, refused, done, on, becomes, priced, loaded, need, releasing, numberOf, valuesOf, eventsOf, woken, wake, unloaded, timed}
 use Rattle.rules.specs.Rules.{allowed, order, plan, dismissed, ends, quit}
-use Rattle.rules.proofs.Settling.{settle, off-events}
+use Rattle.rules.proofs.shared.Settling.{settle, off-events}
 use Rattle.rules.specs.Keeper.{lists, view}
-use Rattle.rules.proofs.Finding.{find-bears, unused-known}
-use Rattle.rules.proofs.Paths.{need-met, need-failed, named-illegal, named-missing, named-found, inside-met, inside-failed}
+use Rattle.rules.proofs.shared.Finding.{find-bears, unused-known}
+use Rattle.rules.proofs.shared.Paths.{need-met, need-failed, named-illegal, named-missing, named-found, inside-met, inside-failed}
 use Rattle.tables.specs.declared.Tables.{Tables}
 use Rattle.tables.specs.declared.Outcome.{Outcome}
 use Rattle.tables.specs.Tables.{plain}

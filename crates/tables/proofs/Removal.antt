@@ -23,15 +23,15 @@ use Rattle.rules.specs.Rules.{plan, order, endsIn, ends, quit}
 use Rattle.rules.specs.Keeper.{lists, State, step, play, view, asks, after}
 use Rattle.rules.specs.Frame.{Party, ordered, Stirred, stays, wakes}
 use Rattle.rules.specs.Sound as rules
-use Rattle.rules.proofs.Paths.{need-met, named-found}
-use Rattle.rules.proofs.Finding.{Bears, find-bears}
-use Rattle.rules.proofs.Deeds.{Turned, step-turned}
-use Rattle.rules.proofs.Fine.{sound-fine}
-use Rattle.rules.proofs.Keeping.{strict, before}
-use Rattle.rules.proofs.Waking.{woke, woken-callable, woken-other, son-woken}
-use Rattle.rules.proofs.Rising.{wake-rises, rise-in}
-use Rattle.rules.proofs.FrameLaws.{stirred}
-use Rattle.rules.proofs.SoundRuns.{sound-after}
+use Rattle.rules.proofs.shared.Paths.{need-met, named-found}
+use Rattle.rules.proofs.shared.Finding.{Bears, find-bears}
+use Rattle.rules.proofs.shared.Deeds.{Turned, step-turned}
+use Rattle.rules.proofs.soundness.Fine.{sound-fine}
+use Rattle.rules.proofs.soundness.Keeping.{strict, before}
+use Rattle.rules.proofs.soundness.Waking.{woke, woken-callable, woken-other, son-woken}
+use Rattle.rules.proofs.counts.Rising.{wake-rises, rise-in}
+use Rattle.rules.proofs.frame.FrameLaws.{stirred}
+use Rattle.rules.proofs.soundness.SoundRuns.{sound-after}
 use Rattle.tables.specs.declared.Tables.{Tables}
 use Rattle.tables.specs.Tables.{plain, Arrays}
 use Rattle.tables.specs.Sound.{sound}

@@ -24,8 +24,8 @@ use Rattle.rules.specs.Answers.{number, values}
 use Rattle.rules.specs.Plans.{Plan, refused, done, waiting, on, becomes, timed, need, numberOf, valuesOf, eventsOf}
 use Rattle.rules.specs.Rules.{named, inside}
 use Rattle.rules.specs.Keeper.{lists, view, play}
-use Rattle.rules.proofs.Paths.{named-illegal, named-missing, named-found, inside-met, inside-failed, need-met, need-failed}
-use Rattle.rules.proofs.Finding.{find-bears}
+use Rattle.rules.proofs.shared.Paths.{named-illegal, named-missing, named-found, inside-met, inside-failed, need-met, need-failed}
+use Rattle.rules.proofs.shared.Finding.{find-bears}
 use Rattle.tables.specs.declared.Tables.{Tables}
 use Rattle.tables.specs.Tables.{plain}
 use Rattle.tables.specs.Calls.{Result, told, planned}

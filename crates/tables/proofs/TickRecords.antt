@@ -24,9 +24,9 @@ use Rattle.rules.specs.Plans.{Deed, Event, Plan, becomes, timed, on, clocked, d
 use Rattle.rules.specs.Rules.{plan, dueAt, ticked as strokes}
 use Rattle.rules.specs.Keeper.{lists, State, step, play, view, asks, after}
 use Rattle.rules.specs.Sound as rules
-use Rattle.rules.proofs.Paths.{need-met}
-use Rattle.rules.proofs.Places.{all-one, all-once, all-in}
-use Rattle.rules.proofs.Deeds.{made, Turned, step-put, step-turned}
+use Rattle.rules.proofs.shared.Paths.{need-met}
+use Rattle.rules.proofs.shared.Places.{all-one, all-once, all-in}
+use Rattle.rules.proofs.shared.Deeds.{made, Turned, step-put, step-turned}
 use Rattle.tables.specs.declared.Tables.{Tables}
 use Rattle.tables.specs.Tables.{plain, Arrays}
 use Rattle.tables.specs.Sound.{sound}

@@ -31,9 +31,9 @@ use Rattle.rules.specs.Book.{whyOf}
 use Rattle.rules.specs.Requests.{EXEC5ALL, EXEC6, EXEC7}
 use Rattle.rules.specs.Plans.{Plan, Event, View, refused, done, waiting, on, becomes, held, awaits, fromDisc, woken, wake, releasing, numberOf, valuesOf, eventsOf}
 use Rattle.rules.specs.Rules.{waits, frees, ends, takes, gives, call, quit}
-use Rattle.rules.proofs.Settling.{settle}
+use Rattle.rules.proofs.shared.Settling.{settle}
 use Rattle.rules.specs.Keeper.{lists, view}
-use Rattle.rules.proofs.Paths.{need-met, need-failed, found-at, found-none, waits-so, waits-told}
+use Rattle.rules.proofs.shared.Paths.{need-met, need-failed, found-at, found-none, waits-so, waits-told}
 use Rattle.chains.specs.declared.Listing.{Listing}
 use Rattle.chains.specs.Inner.{Lists}
 use Rattle.tables.specs.declared.Tables.{Tables}

@@ -22,9 +22,9 @@ use Rattle.rules.specs.Book.{at, stateOf, prioOf, whyOf, put}
 use Rattle.rules.specs.Plans.{Deed, becomes, priced, loaded, unloaded, timed, on}
 use Rattle.rules.specs.Keeper.{lists, entries, State, leave, enter, amend, act, step}
 use Rattle.rules.specs.Replay.{Accounts}
-use Rattle.rules.proofs.Places.{known-is, put-long}
-use Rattle.rules.proofs.Alike.{Alike, state-same, state-other, amend-alike, leave-alike, enter-alike, left-state}
-use Rattle.rules.proofs.Notes.{alike-accounts, accounts-alike}
+use Rattle.rules.proofs.shared.Places.{known-is, put-long}
+use Rattle.rules.proofs.keepers.Alike.{Alike, state-same, state-other, amend-alike, leave-alike, enter-alike, left-state}
+use Rattle.rules.proofs.keepers.Notes.{alike-accounts, accounts-alike}
 use Rattle.chains.specs.Links.{read, total}
 use Rattle.chains.specs.Inner.{Laid, entered, left, prioIn, CanEnter, CanLeave}
 use Rattle.chains.proofs.Totals.{total-some}

@@ -12,7 +12,7 @@ use Rattle.lists.proofs.Laws.{same-refl}
 use Rattle.records.specs.declared.Why.the-variants.{Nothing}
 use Rattle.rules.specs.Plans.{becomes, on, wake}
 use Rattle.rules.specs.Keeper.{lists, State, play}
-use Rattle.rules.proofs.Deeds.{wakes-becomes}
+use Rattle.rules.proofs.shared.Deeds.{wakes-becomes}
 use Rattle.tables.specs.declared.Tables.{Tables}
 use Rattle.tables.specs.Tables.{plain}
 use Rattle.tables.specs.Inner.{Orderly, Played, CanBecome, CanWake}

@@ -7,7 +7,7 @@ ghost use Rattle.records.specs.declared.Why.the-variants.{Nothing};
 ghost use Rattle.tracks.specs.Tracks.{nobody, replaced};
 ghost use Rattle.rules.specs.Plans.{on, becomes, held, numbered, wake, woken, fromDisc, fromGeneral};
 ghost use Rattle.rules.specs.Rules.{ends, dismissed};
-ghost use Rattle.rules.proofs.Settling.{settle};
+ghost use Rattle.rules.proofs.shared.Settling.{settle};
 ghost use Rattle.rules.specs.Keeper.{lists, view};
 ghost use Rattle.chains.specs.Inner.{Lists};
 ghost use Rattle.ledger.specs.Inner.{Releases};
