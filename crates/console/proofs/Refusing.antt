@@ -11,7 +11,7 @@ use lib.Dec.{leb}
 use Rattle.rules.specs.Requests.{Request}
 use Rattle.rules.specs.Keeper.{lists}
 use Rattle.rules.specs.Engine.{beside, writtenIn, pagedIn}
-use Rattle.rules.proofs.Refusals.{answered}
+use Rattle.rules.proofs.refusals.Refusals.{answered}
 use Rattle.tables.specs.declared.Tables.{Tables}
 use Rattle.tables.specs.Tables.{plain}
 use Rattle.tables.specs.Sound.{sound}

@@ -21,8 +21,8 @@ use Rattle.rules.specs.Book.{stateOf, prioOf}
 use Rattle.rules.specs.Requests.{LOAD, PR, OF}
 use Rattle.rules.specs.Plans.{Plan, View, refused, done, releasing, waiting, on, becomes, loaded, priced, timed, held}
 use Rattle.rules.specs.Rules.{named, plan, order, dismissed, quit, ends}
-use Rattle.rules.proofs.Finding.{find-bears, unused-known}
-use Rattle.rules.proofs.Paths.{need-met, need-failed, named-illegal, named-missing, named-found, inside-met, inside-failed}
+use Rattle.rules.proofs.shared.Finding.{find-bears, unused-known}
+use Rattle.rules.proofs.shared.Paths.{need-met, need-failed, named-illegal, named-missing, named-found, inside-met, inside-failed}
 use Rattle.decisions.specs.declared.naming.Task.{Task}
 use Rattle.decisions.specs.declared.naming.Named.{Named}
 use Rattle.decisions.specs.declared.naming.Named.the-variants.{Is, Missing, Illegal}
@@ -116,12 +116,12 @@ module _ (res mult off u : ℕ) (U : u ≡ unit res) (A : timerAllowed res mult 
       omega (arith, mul-le-mul-right u m, U, unit-most res)
 
 -- LOAD
-module _ (v : View) (s : List ℕ) (nm : List ℕ) (n : ℕ) (b : Bool) (B : b ≡ legal nm) where
-  pub load-illegal : not b ≡ true → plan v s (LOAD nm n) ≡ refused 3 0
+module _ (v : View) (nm : List ℕ) (n : ℕ) (b : Bool) (B : b ≡ legal nm) where
+  pub load-illegal : not b ≡ true → plan v (LOAD nm n) ≡ refused 3 0
   unfolding plan
   load-illegal e = need-failed 3 0 _ (ap (λ (x : Bool). x && leb n 32767) (sym B ∙ not-true b e))
 
-  pub load-high : 32767 < n → plan v s (LOAD nm n) ≡ refused 3 0
+  pub load-high : 32767 < n → plan v (LOAD nm n) ≡ refused 3 0
   unfolding plan
   load-high h = need-failed 3 0 _ (fails _ λ e. omega (arith, leb-true n 32767 (both (legal nm) (leb n 32767) e .1), h))
 
@@ -132,7 +132,7 @@ module _ (v : View) (s : List ℕ) (nm : List ℕ) (n : ℕ) (b : Bool) (B : b �
     bearer : find (v .book .programs) nm ≡ find ps nm
     bearer = ap (λ (xs : List Program). find xs nm) O
 
-    pub load-used : find ps nm ≢ 0 → plan v s (LOAD nm n) ≡ refused 6 0
+    pub load-used : find ps nm ≢ 0 → plan v (LOAD nm n) ≡ refused 6 0
     unfolding plan
     load-used e = need-met 3 0 _ passed ∙ need-failed 6 0 _ (ne-eqb (find (v .book .programs) nm) 0 (λ z. e (sym bearer ∙ z)))
 
@@ -140,7 +140,7 @@ module _ (v : View) (s : List ℕ) (nm : List ℕ) (n : ℕ) (b : Bool) (B : b �
       unused : lowestUnused (v .book .programs) ≡ p
       unused = ap lowestUnused O ∙ sym P
 
-      pub load-full : p ≡ 0 → plan v s (LOAD nm n) ≡ refused 7 0
+      pub load-full : p ≡ 0 → plan v (LOAD nm n) ≡ refused 7 0
       unfolding plan
       load-full z =
           need-met 3 0 _ passed
@@ -150,7 +150,7 @@ module _ (v : View) (s : List ℕ) (nm : List ℕ) (n : ℕ) (b : Bool) (B : b �
       pub load-known : p ≢ 0 → Known p
       load-known z = subst Known (sym P) (unused-known ps (omega (arith, P, z)))
 
-      pub load-done : p ≢ 0 → plan v s (LOAD nm n) ≡ done (p ∷ []) (on p (loaded nm n) ∷ [])
+      pub load-done : p ≢ 0 → plan v (LOAD nm n) ≡ done (p ∷ []) (on p (loaded nm n) ∷ [])
       unfolding plan
       load-done z =
           need-met 3 0 _ passed

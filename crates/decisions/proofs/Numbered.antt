@@ -19,7 +19,7 @@ use Rattle.records.specs.Numbers.{globally, resources, numberAt}
 use Rattle.rules.specs.Plans.{Plan, View, refused, done, releasing, woken, need, either}
 use Rattle.rules.specs.Requests.{ALLOC}
 use Rattle.rules.specs.Rules.{waits, clears, call, number, allocated}
-use Rattle.rules.proofs.Paths.{need-met, need-failed, either-so, either-not, allocated-not-ours, allocated-free, allocated-is}
+use Rattle.rules.proofs.shared.Paths.{need-met, need-failed, either-so, either-not, allocated-not-ours, allocated-free, allocated-is}
 use Rattle.decisions.specs.declared.numbering.Wanted.{Wanted}
 use Rattle.decisions.specs.declared.numbering.Wanted.the-variants as wants
 use Rattle.decisions.specs.Inner.{OfNumbers, wanted, waitingOf, ofNumber, mayFree}

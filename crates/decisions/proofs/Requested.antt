@@ -19,7 +19,7 @@ use Rattle.rules.specs.Requests.{Call, FRESH, TICK, operator, running}
 use Rattle.rules.specs.Coded.{theOrder}
 use Rattle.rules.specs.Plans.{View, refused, done, renewed, clocked, need}
 use Rattle.rules.specs.Rules.{sizes, head, plan, call, order, dueAt, ticked}
-use Rattle.rules.proofs.Paths.{need-met, need-failed, caller-none, caller-is}
+use Rattle.rules.proofs.shared.Paths.{need-met, need-failed, caller-none, caller-is}
 use Rattle.decisions.specs.Inner.{Sizes, Fits, taskOf, going, asking}
 
 pub sizes-true : (T S R : ℕ) → sizes T S R ≡ true → Sizes T S R
@@ -29,33 +29,33 @@ sizes-true T S R e =
     let u = upTo-true 1 256 T (d .0) in
     record { least = u .0; most = u .1; part = leb-true S T (d .1); few = leb-true R 16 (b .1) }
 
-module _ (v : View) (s : List ℕ) where
-  pub renewing : (T S R : ℕ) → sizes T S R ≡ true → plan v s (FRESH T S R) ≡ done (0 ∷ []) (renewed T S R ∷ [])
+module _ (v : View) where
+  pub renewing : (T S R : ℕ) → sizes T S R ≡ true → plan v (FRESH T S R) ≡ done (0 ∷ []) (renewed T S R ∷ [])
   unfolding plan
   renewing T S R e = need-met 3 0 _ e
 
-  pub renewing-not : (T S R : ℕ) → sizes T S R ≡ false → plan v s (FRESH T S R) ≡ refused 3 0
+  pub renewing-not : (T S R : ℕ) → sizes T S R ≡ false → plan v (FRESH T S R) ≡ refused 3 0
   unfolding plan
   renewing-not T S R e = need-failed 3 0 _ e
 
-  pub ticking : v .book .clock < ceiling → plan v s TICK
+  pub ticking : v .book .clock < ceiling → plan v TICK
       ≡ done (length (keep (λ p. dueAt (v .book) p && eqb (stateOf (v .book) p) 0) all) ∷ [])
       (clocked (v .book .clock + 1) ∷ join (map (λ p. ticked p (at (v .book) p)) (keep (dueAt (v .book)) all)))
   unfolding plan
   ticking h = need-met 11 0 _ (lt-ltb (v .book .clock) ceiling h)
 
-  pub ticking-not : ceiling ≤ v .book .clock → plan v s TICK ≡ refused 11 0
+  pub ticking-not : ceiling ≤ v .book .clock → plan v TICK ≡ refused 11 0
   unfolding plan
   ticking-not h = need-failed 11 0 _ (le-ltb (v .book .clock) ceiling h)
 
-  module _ (q : Call) (c : ℕ) (C : head s ≡ c) where
-    pub no-caller : c ≡ 0 → plan v s (running q) ≡ refused 2 0
+  module _ (q : Call) (c : ℕ) (C : head (v .chain 1) ≡ c) where
+    pub no-caller : c ≡ 0 → plan v (running q) ≡ refused 2 0
     unfolding plan
-    no-caller e = caller-none s (λ p. call v p q) (C ∙ e)
+    no-caller e = caller-none v (λ p. call v p q) (C ∙ e)
 
-    pub by-caller : 1 ≤ c → plan v s (running q) ≡ call v c q
+    pub by-caller : 1 ≤ c → plan v (running q) ≡ call v c q
     unfolding plan
-    by-caller h = caller-is s (λ p. call v p q) c C h
+    by-caller h = caller-is v (λ p. call v p q) c C h
 
 -- an order is a task of the program that it names
 pub order-fits : (o : Order) → Fits 0 (taskOf o)
@@ -65,10 +65,10 @@ order-fits Go = omega arith
 order-fits (Pr n) = tt
 order-fits (Of k) = tt
 
-pub order-asks : (v : View) (s nm : List ℕ) (o : Order) → plan v s (operator (theOrder o) nm) ≡ asking v 0 nm (taskOf o)
+pub order-asks : (v : View) (nm : List ℕ) (o : Order) → plan v (operator (theOrder o) nm) ≡ asking v 0 nm (taskOf o)
 unfolding plan order asking going
-order-asks v s nm Ru = refl
-order-asks v s nm Ss = refl
-order-asks v s nm Go = refl
-order-asks v s nm (Pr n) = refl
-order-asks v s nm (Of k) = refl
+order-asks v nm Ru = refl
+order-asks v nm Ss = refl
+order-asks v nm Go = refl
+order-asks v nm (Pr n) = refl
+order-asks v nm (Of k) = refl

@@ -22,7 +22,7 @@ use Rattle.tracks.proofs.Runs.{lowest-found}
 use Rattle.rules.specs.Plans.{Plan, View, refused, done, held, releasing}
 use Rattle.rules.specs.Rules.{waits, frees, takes, gives, call}
 use Rattle.rules.specs.Requests.{EXEC5ALL}
-use Rattle.rules.proofs.Paths.{need-met, need-failed, found-at, found-none}
+use Rattle.rules.proofs.shared.Paths.{need-met, need-failed, found-at, found-none}
 use Rattle.decisions.specs.Inner.{OfTracks}
 use Rattle.decisions.proofs.Laws.{fails}
 

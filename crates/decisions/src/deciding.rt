@@ -42,7 +42,7 @@ pub fn is_sized(tracks: u64, system: u64, numbers: u64) -> bool
 }
 
 fn renews(tracks: u64, system: u64, numbers: u64) -> Decision
-    ensures { λ r. ⌜ ((v : View) (nm : List ℕ) (s : List ℕ) → Decides v nm (plan v s (FRESH tracks system numbers)) r) ⌝ }
+    ensures { λ r. ⌜ ((v : View) (nm : List ℕ) → Decides v nm (plan v (FRESH tracks system numbers)) r) ⌝ }
 {
     if is_sized(tracks, system, numbers) {
         return Decision {
@@ -55,7 +55,7 @@ fn renews(tracks: u64, system: u64, numbers: u64) -> Decision
 
 // TICK, unless the clock stands at its ceiling.
 fn ticks_on(ticks: u64) -> Decision
-    ensures { λ r. ⌜ ((v : View) (nm : List ℕ) (s : List ℕ) → v .book .clock ≡ ticks → Decides v nm (plan v s TICK) r) ⌝ }
+    ensures { λ r. ⌜ ((v : View) (nm : List ℕ) → v .book .clock ≡ ticks → Decides v nm (plan v TICK) r) ⌝ }
 {
     if Clock::CEILING <= ticks {
         return stay(Answer::AtCeiling);
@@ -122,7 +122,7 @@ fn called(book: Ledger, c: u8, name: [u8; 5], q: Call) -> Decision
 // What a request comes to where c is the caller, or 0: the one place where a call of the running program begins.
 pub fn decide(book: Ledger, c: u8, name: [u8; 5], q: Request) -> Decision
     requires { ⌜ CanDecide book c ⌝ }
-    ensures { λ r. ⌜ ((v : View) (s : List ℕ) → v .book ≡ bookOf book → head s ≡ c → Decides v name (plan v s (theRequest name q)) r) ⌝ }
+    ensures { λ r. ⌜ ((v : View) → v .book ≡ bookOf book → head (v .chain 1) ≡ c → Decides v name (plan v (theRequest name q)) r) ⌝ }
 {
     let programs = book.programs;
     let tracks = book.tracks;

@@ -212,7 +212,7 @@ pub(crate) fn upon(
 
 // LOAD: the lowest unused record takes the program.
 pub(crate) fn loads(programs: [Program; 32], name: [u8; 5], priority: u64) -> Decision
-    ensures { λ r. ⌜ ((v : View) (s : List ℕ) → v .book .programs ≡ programs → Decides v name (plan v s (LOAD name priority)) r) ⌝ }
+    ensures { λ r. ⌜ ((v : View) → v .book .programs ≡ programs → Decides v name (plan v (LOAD name priority)) r) ⌝ }
 {
     if !records::is_legal(name) {
         return stay(Answer::NotAllowed);

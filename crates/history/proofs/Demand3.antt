@@ -21,13 +21,13 @@ use Rattle.rules.specs.Keeper.{lists, Entries, entries, sorted, State, play, vi
 use Rattle.rules.specs.Replay.{Accounts, Fits, First}
 use Rattle.rules.proofs.Statements as rules
 use Rattle.rules.specs.Sound.{Sound}
-use Rattle.rules.proofs.Alike.{Alike, fresh-alike, order-alike, asks-alike, after-alike}
-use Rattle.rules.proofs.Notes.{accounts-alike, alike-accounts}
-use Rattle.rules.proofs.Notes as accounts
-use Rattle.rules.proofs.Demand.{demand, accounted}
-use Rattle.rules.proofs.Refusals.{answered}
-use Rattle.rules.proofs.SoundFresh.{sound-fresh}
-use Rattle.rules.proofs.SoundRuns.{sound-after}
+use Rattle.rules.proofs.keepers.Alike.{Alike, fresh-alike, order-alike, asks-alike, after-alike}
+use Rattle.rules.proofs.keepers.Notes.{accounts-alike, alike-accounts}
+use Rattle.rules.proofs.keepers.Notes as accounts
+use Rattle.rules.proofs.keepers.Demand.{demand, accounted}
+use Rattle.rules.proofs.refusals.Refusals.{answered}
+use Rattle.rules.proofs.soundness.SoundFresh.{sound-fresh}
+use Rattle.rules.proofs.soundness.SoundRuns.{sound-after}
 use Rattle.tables.specs.declared.Tables.{Tables}
 use Rattle.tables.specs.Tables.{plain, lay, Arrays}
 use Rattle.tables.specs.Sound.{sound}

@@ -13,7 +13,7 @@ use Rattle.rules.specs.Rules.{sizes}
 use Rattle.rules.specs.Keeper.{lists, State}
 use Rattle.rules.specs.Engine.{madeBy, pagedIn}
 use Rattle.rules.specs.Frame.{Stirred, stays}
-use Rattle.rules.proofs.FrameLaws as rules
+use Rattle.rules.proofs.frame.FrameLaws as rules
 use Rattle.tables.specs.declared.Tables.{Tables}
 use Rattle.tables.specs.Tables.{plain, freshly, Arrays}
 use Rattle.tables.specs.Sound.{sound}

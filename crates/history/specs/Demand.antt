@@ -14,7 +14,7 @@ use Rattle.rules.specs.Book.{at, stateOf}
 use Rattle.rules.specs.Requests.{Call, Request, FRESH, running}
 use Rattle.rules.specs.Plans.{numberOf, valuesOf}
 use Rattle.rules.specs.Rules.{sizes, call}
-use Rattle.rules.specs.Keeper.{lists, entries, sorted, State, view, scheduled, asks, after, fresh}
+use Rattle.rules.specs.Keeper.{lists, entries, sorted, State, view, asks, after, fresh}
 use Rattle.rules.specs.Engine.{Handed, Engine}
 use Rattle.rules.specs.Replay.{Fits, First}
 use Rattle.rules.specs.Frame.{Party, Concerned}
@@ -77,7 +77,7 @@ pub data Asks (q : Request) : Made → Type 0 where
 -- the call is an accepted FRESH, which takes no tables; or the tables are sound and it concerns program p: its caller, named in it, due at that tick, or woken by it
 pub data Touches (t : Tables) (c : Made) (p : ℕ) : Type 0 where
   anew : (T S R : ℕ) → c ≡ calls.request (FRESH T S R) → sizes T S R ≡ true → Touches t c p
-  concerns : (q : Request) → Asks q c → sound t ≡ true → Concerned (view lists (plain t)) (scheduled lists (plain t)) q p → Touches t c p
+  concerns : (q : Request) → Asks q c → sound t ≡ true → Concerned (view lists (plain t)) q p → Touches t c p
 
 -- p's record before and after
 abbrev pub before : Tables → ℕ → Program
@@ -89,4 +89,4 @@ afterwards t c p = at (plain (step linked t c .tables) .book) p
 -- p has nothing to do with the call but that it may be woken by it: the call is no FRESH, and neither is p its caller, nor named in it, nor due at that tick
 pub record Bystander (t : Tables) (c : Made) (p : ℕ) : Type 0 where
   pub old : (T S R : ℕ) → Asks (FRESH T S R) c → ⊥
-  pub apart : (q : Request) → Asks q c → Party (plain t .book) (scheduled lists (plain t)) p q → ⊥
+  pub apart : (q : Request) → Asks q c → Party (view lists (plain t)) p q → ⊥

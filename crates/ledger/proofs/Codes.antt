@@ -19,7 +19,7 @@ use Rattle.records.specs.declared.Why.the-variants.{Nothing, Tracks, Son, Lock,
 use Rattle.records.specs.Names.{letter, digit, blank, rest, legal}
 use Rattle.records.specs.Records.{missing}
 use Rattle.rules.specs.Test.{sonOf}
-use Rattle.rules.proofs.Agree.{yes-or-no}
+use Rattle.rules.proofs.tests.Agree.{yes-or-no}
 use Rattle.ledger.specs.Inner.{nameCode, nameKey, Apart}
 
 -- letters, digits and blanks are bytes

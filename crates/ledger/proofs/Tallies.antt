@@ -17,7 +17,7 @@ use Rattle.records.specs.Records.{Known, known}
 use Rattle.records.specs.Numbers.{free}
 use Rattle.tracks.specs.Tracks.{nobody, system}
 use Rattle.rules.specs.Book.{at}
-use Rattle.rules.proofs.Places.{known-true, known-is}
+use Rattle.rules.proofs.shared.Places.{known-true, known-is}
 use Rattle.ledger.specs.declared.Ledger.{Ledger}
 use Rattle.ledger.specs.Ledger.{bookOf}
 use Rattle.ledger.specs.Inner.{Tells, user, usedKey, Keyed, strange, Strangers, Serves, Held, Numbered, Places, Counts}

@@ -19,8 +19,8 @@ use Rattle.records.specs.Records.{known, missing, unused}
 use Rattle.rules.specs.Book.{Book, at, stateOf}
 use Rattle.rules.specs.Sound.{suits}
 use Rattle.rules.specs.Test.{nothing, sonOf, zeros}
-use Rattle.rules.proofs.Places.{known-true}
-use Rattle.rules.proofs.Agree.{yes-or-no}
+use Rattle.rules.proofs.shared.Places.{known-true}
+use Rattle.rules.proofs.tests.Agree.{yes-or-no}
 use Rattle.ledger.specs.declared.Ledger.{Ledger}
 use Rattle.ledger.specs.Ledger.{bookOf}
 use Rattle.ledger.specs.Inner.{timed, trim, stateFits, reasonFits, fits, Records, nameKey, sonKey, stateKey, Apart, Roster}

@@ -22,9 +22,9 @@ use Rattle.tracks.specs.Tracks.{nobody, system}
 use Rattle.rules.specs.Book.{Book, at, stateOf, whyOf, holderOf}
 use Rattle.rules.specs.Sound.{Ours, suits, Names, Whys, System, Users, Unlocked, Limits, Dues}
 use Rattle.rules.specs.Test.{sonOf, zeros, testNames, testZeros, testWhys, testSystem, testUsers, testUnlocked, testLimits, testDues}
-use Rattle.rules.proofs.Places.{known-true, known-is}
-use Rattle.rules.proofs.Agree.{program-in, program-is, yes-or-no, names-clause, names-test, whys-clause, whys-test, dues-clause, dues-test, son-known}
-use Rattle.rules.proofs.AgreeTables.{system-clause, system-test, users-clause, users-test, unlocked-clause, unlocked-test, limits-clause, limits-test}
+use Rattle.rules.proofs.shared.Places.{known-true, known-is}
+use Rattle.rules.proofs.tests.Agree.{program-in, program-is, yes-or-no, names-clause, names-test, whys-clause, whys-test, dues-clause, dues-test, son-known}
+use Rattle.rules.proofs.tests.AgreeTables.{system-clause, system-test, users-clause, users-test, unlocked-clause, unlocked-test, limits-clause, limits-test}
 use Rattle.ledger.specs.declared.Ledger.{Ledger}
 use Rattle.ledger.specs.Ledger.{bookOf, Blank, testBlank}
 use Rattle.ledger.specs.Inner.{testBook, sized, trim, Records, nameCode, nameKey, sonKey, Apart, user, Places, Counts}

@@ -15,7 +15,7 @@ use Rattle.text.proofs.Laws.{entry-length}
 use Rattle.records.specs.Records.{known, all}
 use Rattle.rules.specs.Book.{Book, stateOf}
 use Rattle.rules.specs.Sound.{Chains}
-use Rattle.rules.proofs.Places.{known-true, known-is, all-one}
+use Rattle.rules.proofs.shared.Places.{known-true, known-is, all-one}
 use Rattle.page.specs.Page.{chained, chainLines}
 use Rattle.page.proofs.Weights.{weigh, weigh-fewer, weigh-append}
 

@@ -22,7 +22,7 @@ use Rattle.records.specs.Names.{letter, rest, blank, legal, bare}
 use Rattle.records.specs.Records.{Known, known, all, recordAt}
 use Rattle.rules.specs.Book.{Book, at}
 use Rattle.rules.specs.Sound.{suits, Names, Whys, Limits, Dues}
-use Rattle.rules.proofs.Places.{all-in}
+use Rattle.rules.proofs.shared.Places.{all-in}
 use Rattle.page.specs.Page.{orDash, reason, usedIn, recorded, recordLines}
 use Rattle.page.proofs.Widths.{figure-length, orDash-length}
 use Rattle.page.proofs.Weights.{weigh, weigh-fewer, lines-weigh, keep-length}

@@ -5,14 +5,14 @@ use mathlib.Core.Bool.{Bool, cond}
 use mathlib.Core.List.{List, [], _∷_}
 use lib.ListN.{getD, set, replicate}
 use lib.Dec.{leb, eqb}
-use Rattle.lists.specs.Lists.{keep, insertBy, insert, remove}
+use Rattle.lists.specs.Lists.{keep, insertBy, insert, remove, upTo}
 use Rattle.records.specs.declared.Program.{Program}
 use Rattle.records.specs.declared.Why.{Why}
 use Rattle.records.specs.declared.Why.the-variants.{Nothing}
 use Rattle.records.specs.Records.{known, all, unused, newcomer, inState, withPriority, withTimer}
 use Rattle.rules.specs.Book.{Book, at, stateOf, prioOf, whyOf, put, withClock, withHolders, withResources, freshBook}
 use Rattle.rules.specs.Requests.{Request}
-use Rattle.rules.specs.Plans.{Deed, becomes, priced, loaded, unloaded, timed, Event, on, clocked, held, numbered, renewed, Plan, View, eventsOf}
+use Rattle.rules.specs.Plans.{Deed, becomes, wakes, priced, loaded, unloaded, timed, Event, on, clocked, held, numbered, renewed, Plan, View, eventsOf}
 use Rattle.rules.specs.Rules.{plan}
 
 -- What is kept of the order; the chain of a state, lowest first; what entering a chain and leaving it do to what is kept.
@@ -84,6 +84,7 @@ module _ (K : Keeper) where
 
   unfoldable pub act : ℕ → Deed → State → State
   act p (becomes s w) t = enter p s w (leave p t)
+  act p wakes t = enter p 1 Nothing (leave p t)
   act p (priced n) t =
       let u = leave p t in
       enter p (stateOf (t .book) p) (whyOf (t .book) p) (amend p (withPriority n (at (u .book) p)) u)
@@ -107,16 +108,16 @@ module _ (K : Keeper) where
   play [] t = t
   play (e ∷ es) t = play es (step e t)
 
-  -- what a rule sees, and the scheduled chain
+  -- what a rule sees, the chains being those of states 1 to 6: keepers need not agree on others; and the scheduled chain
   abbrev pub view : State → View
-  view t = record { book = t .book; general = K .order (t .book) (t .kept) 3; disc = K .order (t .book) (t .kept) 5 }
+  view t = record { book = t .book; chain = λ s. cond (upTo 1 6 s) (K .order (t .book) (t .kept) s) [] }
 
   abbrev pub scheduled : State → List ℕ
   scheduled t = K .order (t .book) (t .kept) 1
 
   -- a request: what it comes to, and the state after it
   abbrev pub asks : State → Request → Plan
-  asks t q = plan (view t) (scheduled t) q
+  asks t q = plan (view t) q
 
   abbrev pub after : State → Request → State
   after t q = play (eventsOf (view t) (asks t q)) t

@@ -2,7 +2,7 @@
 -- Assumes nothing.
 use Prim.Native.Nat.{ℕ}
 use mathlib.Core.Bool.{Bool, true, false, cond, _&&_}
-use mathlib.Core.List.{List, [], _∷_, _++_}
+use mathlib.Core.List.{List, [], _∷_, _++_, map}
 use mathlib.Core.Option.{Option, none, some}
 use lib.Dec.{ltb, eqb}
 use Rattle.lists.specs.Lists.{keep, remove}
@@ -11,10 +11,11 @@ use Rattle.records.specs.declared.Why.{Why}
 use Rattle.records.specs.declared.Why.the-variants.{Nothing, Tracks, Son, Lock, Number}
 use Rattle.rules.specs.Book.{Book, whyOf}
 
--- What may happen to a program's record: it takes a state for a reason, leaving its chain and entering the new one; it is priced anew, leaving its
--- chain and entering it again; it is loaded; it is made unused; its timer is set, or goes where the due is 0.
+-- What may happen to a program's record: it takes a state for a reason, leaving its chain and entering the new one; its wait is over and it is scheduled; it is
+-- priced anew, leaving its chain and entering it again; it is loaded; it is made unused; its timer is set, or goes where the due is 0.
 pub data Deed : Type 0 where
   becomes : ℕ → Why → Deed
+  wakes : Deed
   priced : ℕ → Deed
   loaded : List ℕ → ℕ → Deed
   unloaded : Deed
@@ -64,11 +65,10 @@ releaseOf (done vs es) = nothing
 releaseOf (releasing vs es R) = R
 releaseOf (waiting s es) = nothing
 
--- what a rule sees besides its caller: the book, and the chains of those who wait, 3 and 5
+-- what a rule sees: the book, and the chain of each state
 pub record View : Type 0 where
   pub book : Book
-  pub general : List ℕ
-  pub disc : List ℕ
+  pub chain : ℕ → List ℕ  -- of a state from 1 to 6, lowest first
 
 -- the reason to wait in chain 3 is gone
 abbrev pub awaits : Release → Why → Bool
@@ -80,11 +80,11 @@ awaits R Number = R .dealt
 
 -- all of chain 5 if a track was freed, in chain order; the one that ended has left its chain
 abbrev pub fromDisc : View → Release → List ℕ
-fromDisc v R = cond (ltb 0 (R .tracks)) (remove (R .ended) (v .disc)) []
+fromDisc v R = cond (ltb 0 (R .tracks)) (remove (R .ended) (v .chain 5)) []
 
 -- chain 3 is walked once: those whose reason is gone
 abbrev pub fromGeneral : View → Release → List ℕ
-fromGeneral v R = keep (λ q. awaits R (whyOf (v .book) q)) (remove (R .ended) (v .general))
+fromGeneral v R = keep (λ q. awaits R (whyOf (v .book) q)) (remove (R .ended) (v .chain 3))
 
 -- chain 5, then chain 3
 unfoldable pub woken : View → Release → List ℕ
@@ -92,8 +92,7 @@ woken v R = fromDisc v R ++ fromGeneral v R
 
 -- the woken enter the scheduled chain one by one
 abbrev pub wake : List ℕ → List Event
-wake [] = []
-wake (q ∷ qs) = on q (becomes 1 Nothing) ∷ wake qs
+wake qs = map (λ q. on q wakes) qs
 
 -- what happens, the waking last
 abbrev pub eventsOf : View → Plan → List Event

@@ -148,24 +148,24 @@ abbrev pub head : List ℕ → ℕ
 head [] = 0
 head (p ∷ ps) = p
 
-unfoldable pub asCaller : List ℕ → (ℕ → Plan) → Plan
-asCaller scheduled f = need (ltb 0 (head scheduled)) 2 0 (f (head scheduled))
+unfoldable pub asCaller : View → (ℕ → Plan) → Plan
+asCaller v f = need (ltb 0 (head (v .chain 1))) 2 0 (f (head (v .chain 1)))
 
 -- T from 1 to 256, S from 0 to T, R from 0 to 16 (OUTLINE, "The tables")
 abbrev pub sizes : ℕ → ℕ → ℕ → Bool
 sizes T S R = upTo 1 256 T && leb S T && leb R 16
 
--- a request, by what a rule sees and the scheduled chain
-unfoldable pub plan : View → List ℕ → Request → Plan
-plan v scheduled (FRESH T S R) = need (sizes T S R) 3 0 (done (0 ∷ []) (renewed T S R ∷ []))
-plan v scheduled (LOAD nm n) =
+-- a request
+unfoldable pub plan : View → Request → Plan
+plan v (FRESH T S R) = need (sizes T S R) 3 0 (done (0 ∷ []) (renewed T S R ∷ []))
+plan v (LOAD nm n) =
     need (legal nm && leb n 32767) 3 0
     (need (eqb (find (v .book .programs) nm) 0) 6 0
     (need (ltb 0 (lowestUnused (v .book .programs))) 7 0
     (done (lowestUnused (v .book .programs) ∷ []) (on (lowestUnused (v .book .programs)) (loaded nm n) ∷ []))))
-plan v scheduled (operator o nm) = need (allowed o) 3 0 (named v nm (order v o))
-plan v scheduled TICK =
+plan v (operator o nm) = need (allowed o) 3 0 (named v nm (order v o))
+plan v TICK =
     need (ltb (v .book .clock) ceiling) 11 0
     (done (length (keep (λ p. dueAt (v .book) p && eqb (stateOf (v .book) p) 0) all) ∷ [])
     (clocked (v .book .clock + 1) ∷ join (map (λ p. ticked p (at (v .book) p)) (keep (dueAt (v .book)) all))))
-plan v scheduled (running c) = asCaller scheduled (λ p. call v p c)
+plan v (running c) = asCaller v (λ p. call v p c)

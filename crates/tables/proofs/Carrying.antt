@@ -22,7 +22,7 @@ use Rattle.rules.specs.Answers as answers
 use Rattle.rules.specs.Plans.{Event, Plan, Release, on, becomes, timed, unloaded, held, numbered, wake, woken, fromDisc, fromGeneral}
 use Rattle.rules.specs.Requests.{Request}
 use Rattle.rules.specs.Rules.{number, quit, dismissed, ends}
-use Rattle.rules.proofs.Settling.{settle, off-events}
+use Rattle.rules.proofs.shared.Settling.{settle, off-events}
 use Rattle.rules.specs.Keeper.{lists, view, step}
 use Rattle.rules.specs.Keeper as keeper
 use Rattle.chains.specs.declared.Listing.{Listing}

@@ -17,7 +17,7 @@ use Rattle.records.specs.declared.Program.{Program}
 use Rattle.records.specs.Records.{Known, recordAt}
 use Rattle.rules.specs.Sound.{Chains}
 use Rattle.rules.specs.Test.{testChains}
-use Rattle.rules.proofs.AgreeTables.{chains-clause, chains-test}
+use Rattle.rules.proofs.tests.AgreeTables.{chains-clause, chains-test}
 use Rattle.chains.specs.Links.{walk, read, Leads, total, Links, testLinks}
 use Rattle.chains.specs.Inner.{prioIn}
 use Rattle.chains.proofs.Reading.{walk-end, getD-read, length-read}

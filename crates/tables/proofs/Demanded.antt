@@ -13,9 +13,9 @@ use Rattle.rules.specs.Keeper.{lists, State, asks, after, view}
 use Rattle.rules.specs.Claims.{Gained}
 use Rattle.rules.specs.Counts.{Freed, awoken, roused}
 use Rattle.rules.specs.Sound as rules
-use Rattle.rules.proofs.SoundRuns.{sound-after}
-use Rattle.rules.proofs.Claims.{exec4-claims, exec15-claims}
-use Rattle.rules.proofs.CountLaws.{counts}
+use Rattle.rules.proofs.soundness.SoundRuns.{sound-after}
+use Rattle.rules.proofs.counts.Claims.{exec4-claims, exec15-claims}
+use Rattle.rules.proofs.counts.CountLaws.{counts}
 use Rattle.tables.specs.declared.Tables.{Tables}
 use Rattle.tables.specs.Tables.{plain, lay, Arrays, callerOf}
 use Rattle.tables.specs.Sound.{sound}

@@ -7,7 +7,7 @@ use native.Mathlib.Omega.{arith}
 use mathlib.Core.Path.{_≡_, refl, sym, ap, _∙_}
 use mathlib.Core.Logic.{_≢_}
 use mathlib.Core.Bool.{Bool, true, false, cond}
-use mathlib.Core.List.{List, [], _∷_, _++_, map}
+use mathlib.Core.List.{List, [], _∷_, _++_, map, map-append}
 use lib.ListN.{length, take}
 use lib.Seq.{length-take-le}
 use lib.Dec.{eqb}
@@ -24,9 +24,9 @@ use Rattle.tracks.specs.Tracks.{nobody, holders, replaced}
 use Rattle.tracks.specs.Tracks as tracks
 use Rattle.tracks.proofs.Fits.{Holds, replaced-holds}
 use Rattle.rules.specs.Book.{Book}
-use Rattle.rules.specs.Plans.{Deed, becomes, priced, loaded, unloaded, timed, Event, on, held, numbered, wake, woken, fromDisc, fromGeneral}
+use Rattle.rules.specs.Plans.{Deed, becomes, wakes, priced, loaded, unloaded, timed, Event, on, held, numbered, wake, woken, fromDisc, fromGeneral}
 use Rattle.rules.specs.Rules.{ends, dismissed, endsIn}
-use Rattle.rules.proofs.Settling.{settle}
+use Rattle.rules.proofs.shared.Settling.{settle}
 use Rattle.rules.specs.Plans as rules
 use Rattle.rules.specs.Keeper.{lists, State, act, step, play, view}
 use Rattle.chains.specs.declared.Listing.{Listing}
@@ -83,6 +83,7 @@ aside a = record {
 act-aside : (p : ℕ) (d : Deed) (a : State lists) → aside (act lists p d a) ≡ aside a
 unfolding act
 act-aside p (becomes s w) a = refl
+act-aside p wakes a = refl
 act-aside p (priced n) a = refl
 act-aside p (loaded nm n) a = refl
 act-aside p unloaded a = refl
@@ -105,8 +106,7 @@ dismissed-aside k p a = go (eqb k 8)
 
 -- lists one after the other wake one after the other
 wake-append : (a b : List ℕ) → wake (a ++ b) ≡ wake a ++ wake b
-wake-append [] b = refl
-wake-append (q ∷ qs) b = ap (λ (es : List Event). on q (becomes 1 Nothing) ∷ es) (wake-append qs b)
+wake-append = map-append (λ q. on q wakes)
 
 -- what an ending sets free, as the view has it
 pub ends-is : (t : Tables) (p n : ℕ) (x : Release) → Releases x (endingOf (t .ledger .numbers) p n) → Releases x (ends (view lists (plain t)) p n)

@@ -2,7 +2,7 @@
 -- Assumes nothing.
 use mathlib.Core.Path.{_≡_, sym, ap, _∙_}
 use Rattle.rules.specs.declared.Answer.{Answer}
-use Rattle.rules.proofs.OneAnswer.{one-answer}
+use Rattle.rules.proofs.shared.OneAnswer.{one-answer}
 use Rattle.tables.specs.declared.Tables.{Tables}
 use Rattle.tables.specs.declared.Outcome.{Outcome}
 use Rattle.tables.specs.Calls.{Result, told}

@@ -19,7 +19,7 @@ use Rattle.tracks.specs.Tracks.{nobody}
 use Rattle.tracks.specs.Inner as tracks
 use Rattle.rules.specs.Book.{Book, stateOf, whyOf}
 use Rattle.rules.specs.Sound.{suits}
-use Rattle.rules.proofs.Notes.{notes, chained-accounts}
+use Rattle.rules.proofs.keepers.Notes.{notes, chained-accounts}
 use Rattle.chains.specs.Links.{read}
 use Rattle.chains.proofs.Reading.{walk-end, getD-read, length-read}
 use Rattle.chains.proofs.Laying.{laid-is, links-laid}

@@ -17,7 +17,7 @@ use Rattle.rules.specs.Requests.{Request}
 use Rattle.rules.specs.Keeper.{lists, State, after, play, view, asks}
 use Rattle.rules.specs.Sound.{Names, Zeros, Chains, Whys, System, Users, Unlocked, Limits, Dues}
 use Rattle.rules.specs.Sound as rules
-use Rattle.rules.proofs.SoundRuns.{sound-after}
+use Rattle.rules.proofs.soundness.SoundRuns.{sound-after}
 use Rattle.chains.specs.Links.{read, total}
 use Rattle.chains.proofs.Reading.{length-read}
 use Rattle.chains.proofs.Laying.{laid-linksOf, read-linksOf, laid-links}

@@ -12,7 +12,7 @@ use Rattle.rules.specs.Plans.{Plan}
 use Rattle.rules.specs.Rules.{head, plan, call, asCaller}
 use Rattle.rules.specs.Keeper.{lists, view, scheduled, asks}
 use Rattle.rules.specs.declared.Answer.the-variants.{NoCaller}
-use Rattle.rules.proofs.Paths.{caller-none, caller-is}
+use Rattle.rules.proofs.shared.Paths.{caller-none, caller-is}
 use Rattle.chains.specs.Links.{read, Leads}
 use Rattle.tables.specs.declared.Tables.{Tables}
 use Rattle.tables.specs.Tables.{plain, Arrays, callerOf}

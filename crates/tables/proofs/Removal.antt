@@ -20,18 +20,18 @@ use Rattle.rules.specs.Book.{at, stateOf, whyOf}
 use Rattle.rules.specs.Requests.{OF, Request, FRESH, operator}
 use Rattle.rules.specs.Plans.{Plan, Release, on, unloaded, held, wake, woken, numberOf, eventsOf}
 use Rattle.rules.specs.Rules.{plan, order, endsIn, ends, quit}
-use Rattle.rules.specs.Keeper.{lists, State, step, play, view, scheduled, asks, after}
+use Rattle.rules.specs.Keeper.{lists, State, step, play, view, asks, after}
 use Rattle.rules.specs.Frame.{Party, ordered, Stirred, stays, wakes}
 use Rattle.rules.specs.Sound as rules
-use Rattle.rules.proofs.Paths.{need-met, named-found}
-use Rattle.rules.proofs.Finding.{Bears, find-bears}
-use Rattle.rules.proofs.Deeds.{Turned, step-turned}
-use Rattle.rules.proofs.Fine.{sound-fine}
-use Rattle.rules.proofs.Keeping.{strict, before}
-use Rattle.rules.proofs.Waking.{woke, woken-callable, woken-other, son-woken}
-use Rattle.rules.proofs.Rising.{wake-rises, rise-in}
-use Rattle.rules.proofs.FrameLaws.{stirred}
-use Rattle.rules.proofs.SoundRuns.{sound-after}
+use Rattle.rules.proofs.shared.Paths.{need-met, named-found}
+use Rattle.rules.proofs.shared.Finding.{Bears, find-bears}
+use Rattle.rules.proofs.shared.Deeds.{Turned, step-turned}
+use Rattle.rules.proofs.soundness.Fine.{sound-fine}
+use Rattle.rules.proofs.soundness.Keeping.{strict, before}
+use Rattle.rules.proofs.soundness.Waking.{woke, woken-callable, woken-other, son-woken}
+use Rattle.rules.proofs.counts.Rising.{wake-rises, rise-in}
+use Rattle.rules.proofs.frame.FrameLaws.{stirred}
+use Rattle.rules.proofs.soundness.SoundRuns.{sound-after}
 use Rattle.tables.specs.declared.Tables.{Tables}
 use Rattle.tables.specs.Tables.{plain, Arrays}
 use Rattle.tables.specs.Sound.{sound}
@@ -115,7 +115,7 @@ module _ (a : State lists) (S : rules.Sound a) (nm : List ℕ) (h : 1 ≤ find (
       other : (T O R : ℕ) → q ≢ FRESH T O R
       other T O R e = let o : _≡_ {A = ℕ} 0 1 = cc in omega arith
 
-      apart : Party (a .book) (scheduled lists a) z q → ⊥
+      apart : Party (view lists a) z q → ⊥
       apart (ordered o m e) = n (sym e)
 
   off-unnamed : find (after lists a q .book .programs) nm ≡ 0

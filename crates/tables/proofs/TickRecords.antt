@@ -24,10 +24,9 @@ use Rattle.rules.specs.Plans.{Deed, Event, Plan, becomes, timed, on, clocked, d
 use Rattle.rules.specs.Rules.{plan, dueAt, ticked as strokes}
 use Rattle.rules.specs.Keeper.{lists, State, step, play, view, asks, after}
 use Rattle.rules.specs.Sound as rules
-use Rattle.rules.proofs.Paths.{need-met}
-use Rattle.rules.proofs.Places.{all-one, all-once, all-in}
-use Rattle.rules.proofs.Deeds.{made, Turned, step-turned}
-use Rattle.rules.proofs.Apt.{step-over}
+use Rattle.rules.proofs.shared.Paths.{need-met}
+use Rattle.rules.proofs.shared.Places.{all-one, all-once, all-in}
+use Rattle.rules.proofs.shared.Deeds.{made, Turned, step-put, step-turned}
 use Rattle.tables.specs.declared.Tables.{Tables}
 use Rattle.tables.specs.Tables.{plain, Arrays}
 use Rattle.tables.specs.Sound.{sound}
@@ -47,7 +46,7 @@ abbrev beside : State lists → ℕ × List ℕ × List Resource
 beside t = (t .book .clock, t .book .holders, t .book .resources)
 
 beside-on : (p : ℕ) → Known p → (d : Deed) (t : State lists) → beside (step lists (on p d) t) ≡ beside t
-beside-on p P d t = ap beside (step-over lists p P d t)
+beside-on p P d t = ap beside (step-put lists p P d t)
 
 -- p's record is now r, and nothing else is altered
 record Struck (p : ℕ) (r : Program) (t u : State lists) : Type 0 where

@@ -23,7 +23,7 @@ use Rattle.rules.specs.Requests.{TICK}
 use Rattle.rules.specs.Plans.{Event, on, becomes, timed, clocked, done}
 use Rattle.rules.specs.Rules.{plan, dueAt, ticked}
 use Rattle.rules.specs.Keeper.{lists, State, step, play}
-use Rattle.rules.proofs.Paths.{need-met, need-failed}
+use Rattle.rules.proofs.shared.Paths.{need-met, need-failed}
 use Rattle.tables.specs.declared.Tables.{Tables}
 use Rattle.tables.specs.declared.Outcome.{Outcome}
 use Rattle.tables.specs.Tables.{plain}

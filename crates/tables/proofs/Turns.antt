@@ -22,9 +22,9 @@ use Rattle.rules.specs.Book.{at, stateOf, prioOf, whyOf, put}
 use Rattle.rules.specs.Plans.{Deed, becomes, priced, loaded, unloaded, timed, on}
 use Rattle.rules.specs.Keeper.{lists, entries, State, leave, enter, amend, act, step}
 use Rattle.rules.specs.Replay.{Accounts}
-use Rattle.rules.proofs.Places.{known-is, put-long}
-use Rattle.rules.proofs.Alike.{Alike, state-same, state-other, amend-alike, leave-alike, enter-alike, left-state}
-use Rattle.rules.proofs.Notes.{alike-accounts, accounts-alike}
+use Rattle.rules.proofs.shared.Places.{known-is, put-long}
+use Rattle.rules.proofs.keepers.Alike.{Alike, state-same, state-other, amend-alike, leave-alike, enter-alike, left-state}
+use Rattle.rules.proofs.keepers.Notes.{alike-accounts, accounts-alike}
 use Rattle.chains.specs.Links.{read, total}
 use Rattle.chains.specs.Inner.{Laid, entered, left, prioIn, CanEnter, CanLeave}
 use Rattle.chains.proofs.Totals.{total-some}
@@ -83,7 +83,7 @@ pub amended-says : (t : Tables) (p : ℕ) (x : Program) → CanAmend t p x → S
 amended-says t p x C =
     let O = C .orderly in
     turn-says t O p (C .known) x (omega (arith, C .state, O .states p (C .known))) (t .links) (read (t .links)) (amend entries p x (replay t O))
-    (O .laid) (O .dormant) (amend-alike p (C .known) (plain t) (replay t O) x (replay-alike t O) (C .state) (C .priority))
+    (O .laid) (O .dormant) (amend-alike p (C .known) (plain t) (O .notes) x (replay-alike t O) (C .state) (C .priority))
 
 -- p leaves
 left-says : (t : Tables) (p : ℕ) → CanTurn t p → (l : List ℕ) → Laid l (leave lists p (plain t) .kept)
@@ -92,7 +92,7 @@ left-says t p C l L =
     let O = C .orderly in
     turn-says t O p (C .known) (inState 0 Nothing (at (plain t .book) p)) (omega arith) l (leave lists p (plain t) .kept) (leave entries p (replay t O)) L
     (cond-dormant (read (t .links)) (stateOf (plain t .book) p) (remove p (getD (read (t .links)) (stateOf (plain t .book) p) [])) (O .dormant))
-    (leave-alike p (C .known) (plain t) (replay t O) (replay-alike t O))
+    (leave-alike p (C .known) (plain t) (O .notes) (replay-alike t O))
 
 module _ (t : Tables) (p s : ℕ) (x : Program) (C : CanTurn t p) (X : x ≡ at (plain t .book) p) (S : s ≡ x .state) where
   now : s ≡ stateOf (plain t .book) p
@@ -149,7 +149,7 @@ entered-says t p s w C l L =
     let x : Program = inState s w (at (plain t .book) p) in
     turn-says t O p (C .known) x (C .state) l (enter lists p s w (plain t) .kept) (enter entries p s w (replay t O)) L
     (cond-dormant (read (t .links)) s (insert (prioOf (put p x (plain t .book))) p (getD (read (t .links)) s [])) (O .dormant))
-    (enter-alike p (C .known) s w (plain t) (replay t O) (replay-alike t O) (C .out))
+    (enter-alike p (C .known) s w (plain t) (O .notes) (replay-alike t O) (C .out))
 
 module _ (t : Tables) (p s : ℕ) (w : Why) (x : Program) (C : CanJoin t p s) (X : x ≡ at (plain t .book) p) (u : Tables) (g : Program)
     (G : g ≡ inState s w x) (U : u ≡ withRecord p g t) where

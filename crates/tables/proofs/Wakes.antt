@@ -12,6 +12,7 @@ use Rattle.lists.proofs.Laws.{same-refl}
 use Rattle.records.specs.declared.Why.the-variants.{Nothing}
 use Rattle.rules.specs.Plans.{becomes, on, wake}
 use Rattle.rules.specs.Keeper.{lists, State, play}
+use Rattle.rules.proofs.shared.Deeds.{wakes-becomes}
 use Rattle.tables.specs.declared.Tables.{Tables}
 use Rattle.tables.specs.Tables.{plain}
 use Rattle.tables.specs.Inner.{Orderly, Played, CanBecome, CanWake}
@@ -64,7 +65,7 @@ module _ (t : Tables) (ids : List ℕ) (len : ℕ) (C : CanWake t ids len) where
         orderly = S .orderly;
         within = omega arith;
         plays =
-            ap (λ (a : State lists). play lists (wake (drop (i + 1) (take len ids))) a) (S .state)
+            ap (λ (a : State lists). play lists (wake (drop (i + 1) (take len ids))) a) (S .state ∙ sym (wakes-becomes lists (getD ids i 0) (plain r)))
             ∙ ap (λ (c : List ℕ). play lists (wake c) (plain r)) (sym left-over)
             ∙ W .plays;
       }

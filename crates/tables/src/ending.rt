@@ -6,7 +6,7 @@ ghost use Rattle.records.specs.declared.Why.the-variants.{Nothing};
 ghost use Rattle.tracks.specs.Tracks.{nobody, replaced};
 ghost use Rattle.rules.specs.Plans.{on, becomes, held, numbered, wake, woken};
 ghost use Rattle.rules.specs.Rules.{ends, dismissed};
-ghost use Rattle.rules.proofs.Settling.{settle};
+ghost use Rattle.rules.proofs.shared.Settling.{settle};
 ghost use Rattle.rules.specs.Keeper.{lists, view};
 ghost use Rattle.tables.specs.Tables.{plain};
 ghost use Rattle.tables.specs.Inner.{Played, CanTurn, CanSettle, CanEnd, Counts};

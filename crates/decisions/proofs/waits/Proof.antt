@@ -2,7 +2,7 @@
 use borrow.Author.Needs.{needs}
 use mathlib.Core.Path.{refl}
 use Rattle.rules.specs.declared.Answer.the-variants.{NoRoom}
-use Rattle.rules.proofs.Paths.{waits-so, waits-told}
+use Rattle.rules.proofs.shared.Paths.{waits-so, waits-told}
 use Rattle.decisions.proofs.Laws.{like, stays}
 use Rattle.decisions.proofs.waits.Statement.{statement}
 use Rattle.decisions.proofs.waits.Tie as tie

@@ -6,7 +6,7 @@ use lib.ListN.{length, length-map}
 use borrow.Author.Tests.{not-true, not-false}
 use Rattle.lists.proofs.Tests.{clash}
 use Rattle.records.proofs.Resource.{the-field}
-use Rattle.rules.proofs.Agree.{yes-or-no}
+use Rattle.rules.proofs.tests.Agree.{yes-or-no}
 use Rattle.ledger.specs.Inner.{sized, usedKey, Keyed, Roster}
 use Rattle.ledger.proofs.Facts.{Sized, sized-true}
 use Rattle.ledger.proofs.Turns.{records-of, roster-of}

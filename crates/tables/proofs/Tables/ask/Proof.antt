@@ -21,7 +21,7 @@ ready i = i .before .tested .ensures .ready (i .if1 .taken)
 
 decided : (d : tie.After-decide) → let s = d .before .before .before .before .before in
     Decides (view lists (plain (s .args .self))) (s .args .name) (keeper.asks lists (plain (s .args .self)) (theRequest (s .args .name) (s .args .q))) (d .decide .result)
-decided d = d .decide .ensures (view lists (plain (d .before .before .before .before .before .args .self))) _ refl (sym (d .before .caller .ensures))
+decided d = d .decide .ensures (view lists (plain (d .before .before .before .before .before .args .self))) refl (sym (d .before .caller .ensures))
 
 caller-requires : tie.Need-caller-requires
 caller-requires c κs = ready (c .before)

@@ -1,0 +1,5 @@
+-- Claims for tracks, and counts as differences.
+pub mod Rising
+pub mod Freed
+pub mod CountLaws
+pub mod Claims

@@ -1,0 +1,3 @@
+-- Whose record a request may alter.
+pub mod FrameLaws
+pub mod Guard

@@ -1,0 +1,2 @@
+-- A refusal leaves the state as it was.
+pub mod Refusals
