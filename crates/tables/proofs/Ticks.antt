@@ -16,7 +16,7 @@ use Rattle.lists.proofs.Tests.{and}
 use Rattle.clock.specs.Clock.{ceiling, farthest}
 use Rattle.records.specs.declared.Program.{Program}
 use Rattle.records.specs.declared.Why.the-variants.{Nothing}
-use Rattle.records.specs.Records.{Known, all}
+use Rattle.records.specs.Records.{Known, all, recordAt}
 use Rattle.rules.specs.declared.Answer.the-variants.{Done, AtCeiling}
 use Rattle.rules.specs.Book.{Book, at, stateOf}
 use Rattle.rules.specs.Requests.{TICK}
@@ -103,79 +103,77 @@ starts-busy r now n = sym (ap hit (second-fails (eqb (r .due) now) (ne-eqb (r .s
 pub starts-now : (r : Program) (now : ℕ) → r .due ≡ now → r .state ≡ 0 → 1 ≡ hit (eqb (r .due) now && eqb (r .state) 0)
 starts-now r now d e = sym (ap hit (and (eq-eqb (r .due) now d) (eq-eqb (r .state) 0 e)))
 
--- p is due, and dormant
--- what a tick does to some programs, one after the other
-abbrev tickedAll : Book → List ℕ → List Event
-tickedAll b c = join (map (λ k. ticked k (at b k)) c)
+-- of records ps, at a tick that makes the clock `now`: who is due, who starts, and what a tick does to some programs, one after the other
+abbrev dueIn : List Program → ℕ → ℕ → Bool
+dueIn ps now p = eqb (recordAt ps p .due) now
 
--- how far a tick has come: the programs below p are done
-pub record Ticking (s t : Tables) (n p : ℕ) : Type 0 where
+abbrev startsIn : List Program → ℕ → ℕ → Bool
+startsIn ps now p = dueIn ps now p && eqb (recordAt ps p .state) 0
+
+abbrev tickedAll : List Program → List ℕ → List Event
+tickedAll ps c = join (map (λ k. ticked k (recordAt ps k)) c)
+
+-- how far a tick has come from tables s: the programs below p are done
+pub record Ticking (ps : List Program) (now : ℕ) (s t : Tables) (n p : ℕ) : Type 0 where
   pub low : 1 ≤ p
   pub high : p ≤ 33
   pub few : n < p
   pub orderly : Orderly t
-  pub left : play lists (tickedAll (plain s .book) (keep (dueAt (plain s .book)) (from p (33 - p)))) (plain t)
-      ≡ play lists (tickedAll (plain s .book) (keep (dueAt (plain s .book)) all)) (step lists (clocked (plain s .book .clock + 1)) (plain s))
-  pub number : n + length (keep (startsNow (plain s .book)) (from p (33 - p))) ≡ length (keep (startsNow (plain s .book)) all)
+  pub left : play lists (tickedAll ps (keep (dueIn ps now) (from p (33 - p)))) (plain t) ≡ play lists (tickedAll ps (keep (dueIn ps now) all)) (plain s)
+  pub number : n + length (keep (startsIn ps now) (from p (33 - p))) ≡ length (keep (startsIn ps now) all)
 
-module _ (s : Tables) where
-  pub ticking-start : (now : ℕ) (t : Tables) → now ≡ plain s .book .clock + 1 → Played s (clocked now ∷ []) t → Ticking s t 0 1
-  ticking-start now t e S = record {
+module _ (ps : List Program) (now : ℕ) (s : Tables) where
+  pub ticking-start : Orderly s → Ticking ps now s s 0 1
+  ticking-start O = record {
     low = omega arith;
     high = omega arith;
     few = omega arith;
-    orderly = S .orderly;
-    left =
-        ap (λ (xs : List ℕ). play lists (tickedAll (plain s .book) (keep (dueAt (plain s .book)) xs)) (plain t)) from-first
-        ∙ ap (play lists (tickedAll (plain s .book) (keep (dueAt (plain s .book)) all))) (S .state ∙ ap (λ (x : ℕ). step lists (clocked x) (plain s)) e);
-    number = zero-plus _ ∙ ap (λ (xs : List ℕ). length (keep (startsNow (plain s .book)) xs)) from-first;
+    orderly = O;
+    left = ap (λ (xs : List ℕ). play lists (tickedAll ps (keep (dueIn ps now) xs)) (plain s)) from-first;
+    number = zero-plus _ ∙ ap (λ (xs : List ℕ). length (keep (startsIn ps now) xs)) from-first;
   }
 
-  module _ (now n p : ℕ) (t : Tables) (r : Program) (N : now ≡ plain s .book .clock + 1) (X : r ≡ at (plain s .book) p) (T : Ticking s t n p) (h : p ≤ 32) where
-    due-here : eqb (r .due) now ≡ dueAt (plain s .book) p
-    unfolding dueAt
-    due-here = ap (λ (x : Program). eqb (x .due) now) X ∙ ap (λ (m : ℕ). eqb (at (plain s .book) p .due) m) N
-
-    pub ticking-step : (k : ℕ) (u : Tables) → k ≡ hit (eqb (r .due) now && eqb (r .state) 0) → Played t (cond (eqb (r .due) now) (ticked p r) []) u
-        → Ticking s u (n + k) (p + 1)
-    ticking-step k u K S =
-        let B = plain s .book in
-        let q = dueAt B p in
-        let ks = keep (dueAt B) (from (p + 1) (33 - (p + 1))) in
-        let ns = keep (startsNow B) (from (p + 1) (33 - (p + 1))) in
-        let k′ : k ≡ hit (startsNow B p) =
-        K ∙ ap (λ (c : Bool). hit (c && eqb (r .state) 0)) due-here ∙ ap (λ (x : Program). hit (q && eqb (x .state) 0)) X in
-        let S′ : plain u ≡ play lists (cond q (ticked p (at B p)) []) (plain t) =
-        S .state
-        ∙ ap (λ (c : Bool). play lists (cond c (ticked p r) []) (plain t)) due-here
-        ∙ ap (λ (x : Program). play lists (cond q (ticked p x) []) (plain t)) X in
-        let c : length (keep (startsNow B) (from p (33 - p))) ≡ hit (startsNow B p) + length ns =
-        ap (λ (xs : List ℕ). length (keep (startsNow B) xs)) (from-step p h) ∙ count-step (startsNow B p) p ns in
-        record {
-          low = omega arith;
-          high = omega arith;
-          few = omega (arith, starts-most (startsNow B p) k k′);
-          orderly = S .orderly;
-          left =
-              ap (play lists (tickedAll B ks)) S′
-              ∙ sym (each-step (λ k. ticked k (at B k)) q p ks (plain t))
-              ∙ sym (ap (λ (xs : List ℕ). play lists (tickedAll B (keep (dueAt B) xs)) (plain t)) (from-step p h))
-              ∙ T .left;
-          number = omega arith;
-        }
-
-  -- all are done
-  pub tick-done : (n p : ℕ) (t : Tables) → Ticking s t n p → 32 < p → Counts s (tickEvents (plain s .book)) (keep (startsNow (plain s .book)) all) t n
-  tick-done n p t T l =
-      let none = from-last p (omega arith) in
-      let B = plain s .book in
+  pub ticking-step : (n p : ℕ) (t : Tables) (r : Program) → r ≡ recordAt ps p → Ticking ps now s t n p → p ≤ 32 → (k : ℕ) (u : Tables)
+      → k ≡ hit (eqb (r .due) now && eqb (r .state) 0) → Played t (cond (eqb (r .due) now) (ticked p r) []) u → Ticking ps now s u (n + k) (p + 1)
+  ticking-step n p t r X T h k u K S =
+      let q = dueIn ps now p in
+      let ks = keep (dueIn ps now) (from (p + 1) (33 - (p + 1))) in
+      let ns = keep (startsIn ps now) (from (p + 1) (33 - (p + 1))) in
+      let k′ : k ≡ hit (startsIn ps now p) = K ∙ ap (λ (x : Program). hit (eqb (x .due) now && eqb (x .state) 0)) X in
+      let S′ : plain u ≡ play lists (cond q (ticked p (recordAt ps p)) []) (plain t) =
+      S .state ∙ ap (λ (x : Program). play lists (cond (eqb (x .due) now) (ticked p x) []) (plain t)) X in
+      let c : length (keep (startsIn ps now) (from p (33 - p))) ≡ hit (startsIn ps now p) + length ns =
+      ap (λ (xs : List ℕ). length (keep (startsIn ps now) xs)) (from-step p h) ∙ count-step (startsIn ps now p) p ns in
       record {
-        played = record {
-          orderly = T .orderly;
-          state = sym (ap (λ (xs : List ℕ). play lists (tickedAll B (keep (dueAt B) xs)) (plain t)) none) ∙ T .left;
-        };
-        number = omega (arith, ap (λ (xs : List ℕ). length (keep (startsNow B) xs)) none);
+        low = omega arith;
+        high = omega arith;
+        few = omega (arith, starts-most (startsIn ps now p) k k′);
+        orderly = S .orderly;
+        left =
+            ap (play lists (tickedAll ps ks)) S′
+            ∙ sym (each-step (λ k. ticked k (recordAt ps k)) q p ks (plain t))
+            ∙ sym (ap (λ (xs : List ℕ). play lists (tickedAll ps (keep (dueIn ps now) xs)) (plain t)) (from-step p h))
+            ∙ T .left;
+        number = omega arith;
       }
+
+-- all are done, and before them the clock
+pub tick-done : (s u t : Tables) (n p : ℕ) → Played s (clocked (plain s .book .clock + 1) ∷ []) u → Ticking (s .ledger .programs) (plain s .book .clock + 1) u t n p → 32 < p
+    → Counts s (tickEvents (plain s .book)) (keep (startsNow (plain s .book)) all) t n
+unfolding dueAt
+tick-done s u t n p S T l =
+    let ps = s .ledger .programs in
+    let now = plain s .book .clock + 1 in
+    let none = from-last p (omega arith) in
+    record {
+      played = record {
+        orderly = T .orderly;
+        state = sym (ap (λ (xs : List ℕ). play lists (tickedAll ps (keep (dueIn ps now) xs)) (plain t)) none)
+            ∙ T .left
+            ∙ ap (play lists (tickedAll ps (keep (dueIn ps now) all))) (S .state);
+      };
+      number = omega (arith, ap (λ (xs : List ℕ). length (keep (startsIn ps now) xs)) none);
+    }
 
 -- a due and its interval are far below the largest number
 near : (c d : ℕ) → c < ceiling → (d ≢ 0 → d ≤ c + farthest) → Dec (d ≡ 0) → d ≤ ceiling + farthest

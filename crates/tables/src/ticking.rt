@@ -14,6 +14,12 @@ use super::Tables;
 use records::Program;
 use records::Why;
 
+fn wide(x: u8) -> usize
+    ensures { λ r. ⌜ r ≡ x ⌝ }
+{
+    x as usize
+}
+
 // The due that follows: none without an interval.
 fn next_due(due: u64, interval: u64) -> u64
     requires { ⌜ due + interval ≤ 18446744073709551615 ⌝ }
@@ -45,13 +51,13 @@ impl Tables {
         ensures { λ r. ⌜ Counts self (tickEvents (plain self .book)) (keep (startsNow (plain self .book)) all) (r .tables) (r .number) ⌝ }
     {
         let book = self.ledger;
-        let ticks = book.clock.ticks;
-        let now = ticks + 1;
+        let programs = book.programs;
+        let now = book.clock.ticks + 1;
         let mut t = self.clocked(now);
         let mut n: u64 = 0;
         let mut p: u8 = 1;
         while p <= 32 {
-            let r = self.record(p);
+            let r = programs[wide(p) - 1];
             if r.due != now {
                 p += 1;
                 continue;
