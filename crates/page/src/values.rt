@@ -1,6 +1,6 @@
 // The values that lines of a page have: a name, a reason, a figure that may be absent, a holder, numbers joined by commas.
 ghost use Prim.Native.Nat.{_+_, _≤_};
-ghost use mathlib.Core.List.{_++_, map};
+ghost use mathlib.Core.List.{[], _∷_, _++_, map};
 ghost use lib.ListN.{length, take};
 ghost use Rattle.records.specs.Names.{bare};
 ghost use Rattle.text.specs.Text.{decimal, between};
@@ -28,13 +28,21 @@ pub(crate) fn put_name(buf: &mut [u8], at: usize, name: [u8; 5]) -> usize
     o
 }
 
-// A word and a number.
-fn put_coded(buf: &mut [u8], at: usize, word: &[u8], n: u64) -> usize
+// A word and a number; a number and a byte.
+pub(crate) fn put_coded(buf: &mut [u8], at: usize, word: &[u8], n: u64) -> usize
     requires { ⌜ at + length (now word ++ decimal n) ≤ length (now buf) ⌝ }
     ensures { λ r. ⌜ Wrote (now (buf .entry)) at (now (word .entry) ++ decimal n) (now (buf .exit)) r ⌝ }
 {
     let a = text::put_bytes(buf, at, word);
     text::put_number(buf, a, n)
+}
+
+pub(crate) fn put_marked(buf: &mut [u8], at: usize, n: u64, mark: u8) -> usize
+    requires { ⌜ at + length (decimal n ++ (mark ∷ [])) ≤ length (now buf) ⌝ }
+    ensures { λ r. ⌜ Wrote (now (buf .entry)) at (decimal n ++ (mark ∷ [])) (now (buf .exit)) r ⌝ }
+{
+    let a = text::put_number(buf, at, n);
+    text::put_byte(buf, a, mark)
 }
 
 pub(crate) fn put_reason(buf: &mut [u8], at: usize, why: Why) -> usize
