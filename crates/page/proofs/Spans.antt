@@ -22,7 +22,7 @@ use Rattle.tracks.specs.Runs.{RunFrom}
 use Rattle.tracks.proofs.RunLaws.{runsFrom, runs-past}
 use Rattle.chains.specs.Links.{walk, read}
 use Rattle.chains.proofs.Reading.{getD-read}
-use Rattle.page.specs.Page.{Line, bytesOf, bytes, chained, usedIn, recorded, recordLines, chainLine, chainLines, heldLine, heldLines, numberLine, numberLines}
+use Rattle.page.specs.Page.{bytesOf, bytes, chained, usedIn, recorded, recordLines, chainLine, chainLines, heldLine, heldLines, numberLine, numberLines}
 use Rattle.page.proofs.Writing.{pieces, pieces-join}
 
 -- USED RECORDS

@@ -8,8 +8,8 @@ use mathlib.Core.Logic.{_≢_}
 use mathlib.Core.Bool.{Bool, true, false, cond, not, _||_}
 use mathlib.Core.List.{List, [], _∷_, _++_, map, append-assoc, append-nil}
 use lib.Dec.{eqb, ltb}
-use lib.ListN.{length, getD, take, drop, set}
-use lib.Seq.{slice, slice-cons, slice-empty, drop-cons}
+use lib.ListN.{length, getD, take, drop, set, drop-of-length-le}
+use lib.Seq.{slice, slice-cons, drop-cons, length-take-le}
 use borrow.Author.Tests.{eq-eqb, ne-eqb}
 use Rattle.lists.specs.Lists.{join}
 use Rattle.text.specs.Text.{text, decimal, between, entry}
@@ -21,6 +21,7 @@ use Rattle.records.specs.Numbers.{globally}
 use Rattle.tracks.specs.declared.held.Run.{Run}
 use Rattle.tracks.specs.Tracks.{nobody, system}
 use Rattle.rules.specs.Keeper.{lists, State}
+use Rattle.page.specs.Inner.{others}
 use Rattle.page.specs.Page.{Line, bytesOf, bytes, line, heldKey, numberKey, party, orDash, heldLine, numberLine, parts, lines, page}
 
 -- what is written, under another name
@@ -32,10 +33,6 @@ left-as e h = rw e at h
 
 pub left-at : {l₀ all l l′ rest : List ℕ} {at₀ at at′ : ℕ} → l′ ≡ l → at′ ≡ at → Left l₀ at₀ all l at rest → Left l₀ at₀ all l′ at′ rest
 left-at e f h = rw (e, f) h
-
--- what is left, written by parts
-pub left-on : {l₀ all l₁ mid l rest : List ℕ} {at₀ at₁ at : ℕ} → Left l₀ at₀ all l₁ at₁ mid → Left l₁ at₁ mid l at rest → Left l₀ at₀ all l at rest
-left-on h k = record { whole = k .whole ∙ h .whole; end = k .end ∙ h .end; same = k .same ∙ h .same }
 
 -- one byte is stored
 pub left-store : {l₀ all l rest : List ℕ} {at₀ at x : ℕ} → Left l₀ at₀ all l at (x ∷ rest) → Left l₀ at₀ all (set l at x) (at + 1) rest
@@ -127,11 +124,7 @@ bare-put nm i h n = bare-cons nm i false h (ne-eqb (getD nm i 0) 32 n)
 pub bare-skip : (nm : List ℕ) (i : ℕ) → i < length nm → getD nm i 0 ≡ 32 → bare (drop i nm) ≡ bare (drop (i + 1) nm)
 bare-skip nm i h e = bare-cons nm i true h (eq-eqb (getD nm i 0) 32 e)
 
--- numbers with a comma before each
-abbrev pub others : List ℕ → List ℕ
-others [] = []
-others (x ∷ xs) = (44 ∷ decimal x) ++ others xs
-
+-- numbers joined by commas: the first, and the others
 joined-cons : (x : ℕ) (xs : List ℕ) → between 44 (map decimal (x ∷ xs)) ≡ decimal x ++ others xs
 joined-cons x [] = sym (append-nil (decimal x))
 joined-cons x (y ∷ ys) = ap (λ (r : List ℕ). decimal x ++ (44 ∷ r)) (joined-cons y ys)
@@ -139,12 +132,15 @@ joined-cons x (y ∷ ys) = ap (λ (r : List ℕ). decimal x ++ (44 ∷ r)) (join
 pub joined-none : (xs : List ℕ) (n : ℕ) → n ≡ 0 → between 44 (map decimal (take n xs)) ≡ []
 joined-none xs n e = rw e refl
 
--- the first n of some, from the first on and from the one at i on
 pub joined-first : (xs : List ℕ) (n : ℕ) → 0 < n → n ≤ length xs → between 44 (map decimal (take n xs)) ≡ decimal (getD xs 0 0) ++ others (slice 1 n xs)
 joined-first xs n h k = ap (λ (r : List ℕ). between 44 (map decimal r)) (slice-cons 0 n xs 0 h k) ∙ joined-cons (getD xs 0 0) (slice 1 n xs)
 
-pub others-cons : (xs : List ℕ) (i n : ℕ) → i < n → n ≤ length xs → others (slice i n xs) ≡ (44 ∷ decimal (getD xs i 0)) ++ others (slice (i + 1) n xs)
-others-cons xs i n h k = rw (add-one i) (ap others (slice-cons i n xs 0 h k))
+-- the others from the one at i on, a piece for each
+abbrev pub othersFrom : List ℕ → ℕ → ℕ → List (List ℕ)
+othersFrom xs n i = map (λ x. 44 ∷ decimal x) (slice i n xs)
 
-pub others-none : (xs : List ℕ) (i n : ℕ) → i ≡ n → others (slice i n xs) ≡ []
-others-none xs i n e = rw e (ap others (slice-empty n xs))
+pub others-here : (xs : List ℕ) (i n : ℕ) → i < n → n ≤ length xs → othersFrom xs n i ≡ (44 ∷ decimal (getD xs i 0)) ∷ othersFrom xs n (i + 1)
+others-here xs i n h k = rw (add-one i) (ap (map (λ x. 44 ∷ decimal x)) (slice-cons i n xs 0 h k))
+
+pub others-past : (xs : List ℕ) (i n : ℕ) → n ≤ i → n ≤ length xs → othersFrom xs n i ≡ []
+others-past xs i n h k = ap (map (λ x. 44 ∷ decimal x)) (drop-of-length-le (take n xs) {i = i} (omega (arith, length-take-le n xs k)))

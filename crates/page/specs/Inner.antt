@@ -1,11 +1,17 @@
--- What inner functions ask; nothing here need be believed for the call.
+-- What inner functions ask and promise; nothing here need be believed for the call.
 -- Assumes nothing.
 use Prim.Native.Nat.{ℕ, _≤_}
-use mathlib.Core.List.{List}
+use mathlib.Core.List.{List, _∷_, map}
 use lib.ListN.{length}
+use Rattle.lists.specs.Lists.{join}
+use Rattle.text.specs.Text.{decimal}
 use Rattle.tables.specs.declared.Tables.{Tables}
 use Rattle.tables.specs.Tables.{plain}
 use Rattle.page.specs.Page.{page}
+
+-- numbers with a comma before each
+abbrev pub others : List ℕ → List ℕ
+others xs = join (map (λ x. 44 ∷ decimal x) xs)
 
 -- tables whose page fits a buffer
 pub record CanPage (t : Tables) (buf : List ℕ) : Type 0 where

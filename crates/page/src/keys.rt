@@ -42,6 +42,8 @@ pub(crate) const CHAIN: [u8; 5] = *b"chain";
 // The states whose chains are shown.
 pub(crate) const CHAINED: [u8; 4] = [1, 3, 5, 6];
 
+pub(crate) const COMMA: [u8; 1] = *b",";
+
 pub(crate) const HELD: [u8; 4] = *b"held";
 
 pub(crate) const GLOBAL: [u8; 6] = *b"global";

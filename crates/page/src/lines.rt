@@ -2,7 +2,7 @@
 ghost use Prim.Native.Nat.{_+_, _≤_};
 ghost use lib.ListN.{length, take};
 ghost use Rattle.records.specs.Names.{bare};
-ghost use Rattle.text.specs.Text.{text, entry};
+ghost use Rattle.text.specs.Text.{entry};
 ghost use Rattle.text.specs.Inner.{Wrote};
 ghost use Rattle.page.specs.Page.{bytesOf, bytes, reason, orDash, headLines, recorded, chainLine, heldLine, numberLine};
 use super::keys;
@@ -35,20 +35,21 @@ pub(crate) fn put_heading(
     text::put_figure(buf, e, &keys::PROGRAMS, programs as u64)
 }
 
-fn put_name_line(buf: &mut [u8], at: usize, name: [u8; 5]) -> usize
-    requires { ⌜ at + length (entry (text "name") (bare name)) ≤ length (now buf) ⌝ }
-    ensures { λ r. ⌜ Wrote (now (buf .entry)) at (entry (text "name") (bare name)) (now (buf .exit)) r ⌝ }
+// Lines of a record, by their key: a name, a reason, a number that may be absent.
+fn put_name_line(buf: &mut [u8], at: usize, key: &[u8], name: [u8; 5]) -> usize
+    requires { ⌜ at + length (entry (now key) (bare name)) ≤ length (now buf) ⌝ }
+    ensures { λ r. ⌜ Wrote (now (buf .entry)) at (entry (now (key .entry)) (bare name)) (now (buf .exit)) r ⌝ }
 {
-    let a = text::put_key(buf, at, &keys::NAME);
+    let a = text::put_key(buf, at, key);
     let b = values::put_name(buf, a, name);
     text::put_byte(buf, b, 10)
 }
 
-fn put_why_line(buf: &mut [u8], at: usize, why: Why) -> usize
-    requires { ⌜ at + length (entry (text "why") (reason why)) ≤ length (now buf) ⌝ }
-    ensures { λ r. ⌜ Wrote (now (buf .entry)) at (entry (text "why") (reason why)) (now (buf .exit)) r ⌝ }
+fn put_why_line(buf: &mut [u8], at: usize, key: &[u8], why: Why) -> usize
+    requires { ⌜ at + length (entry (now key) (reason why)) ≤ length (now buf) ⌝ }
+    ensures { λ r. ⌜ Wrote (now (buf .entry)) at (entry (now (key .entry)) (reason why)) (now (buf .exit)) r ⌝ }
 {
-    let a = text::put_key(buf, at, &keys::WHY);
+    let a = text::put_key(buf, at, key);
     let b = values::put_reason(buf, a, why);
     text::put_byte(buf, b, 10)
 }
@@ -71,10 +72,10 @@ pub(crate) fn put_record(buf: &mut [u8], at: usize, p: u8, program: Program) -> 
     let why = program.why;
     let timer = 0 < program.due;
     let a = text::put_figure(buf, at, &keys::ID, p as u64);
-    let b = put_name_line(buf, a, name);
+    let b = put_name_line(buf, a, &keys::NAME, name);
     let c = text::put_figure(buf, b, &keys::PRIORITY, program.priority as u64);
     let d = text::put_figure(buf, c, &keys::STATE, program.state as u64);
-    let e = put_why_line(buf, d, why);
+    let e = put_why_line(buf, d, &keys::WHY, why);
     let f = put_or_dash_line(buf, e, &keys::DUE, timer, program.due);
     put_or_dash_line(buf, f, &keys::INTERVAL, timer, program.interval)
 }

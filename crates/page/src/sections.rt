@@ -12,12 +12,6 @@ use records::Numbers;
 use records::Program;
 use tracks::Tracks;
 
-fn widen(x: u16) -> usize
-    ensures { λ r. ⌜ r ≡ x ⌝ }
-{
-    x as usize
-}
-
 fn wide(x: u8) -> usize
     ensures { λ r. ⌜ r ≡ x ⌝ }
 {
@@ -80,7 +74,7 @@ pub(crate) fn put_runs(buf: &mut [u8], at: usize, tracks: Tracks) -> usize
     requires { ⌜ at + length (bytes (heldLines (holders tracks))) ≤ length (now buf) ⌝ }
     ensures { λ r. ⌜ Wrote (now (buf .entry)) at (bytes (heldLines (holders tracks))) (now (buf .exit)) r ⌝ }
 {
-    let count = widen(tracks.count);
+    let count = tracks.count as usize;
     let mut o = at;
     let mut first: usize = 0;
     while first < count {

@@ -5,7 +5,9 @@ ghost use lib.ListN.{length, take};
 ghost use Rattle.records.specs.Names.{bare};
 ghost use Rattle.text.specs.Text.{decimal, between};
 ghost use Rattle.text.specs.Inner.{Wrote};
+ghost use lib.Seq.{slice};
 ghost use Rattle.page.specs.Page.{party, orDash, reason};
+ghost use Rattle.page.specs.Inner.{others};
 use super::keys;
 use records::Numbers;
 use records::Why;
@@ -80,6 +82,21 @@ pub(crate) fn put_party(buf: &mut [u8], at: usize, h: u8) -> usize
     text::put_number(buf, at, h as u64)
 }
 
+// The numbers from the second to the one before `len`, a comma before each.
+fn put_others(buf: &mut [u8], at: usize, ids: [u8; 32], len: usize) -> usize
+    requires { ⌜ len ≤ 32 ⌝ }
+    requires { ⌜ at + length (others (slice 1 len ids)) ≤ length (now buf) ⌝ }
+    ensures { λ r. ⌜ Wrote (now (buf .entry)) at (others (slice 1 len ids)) (now (buf .exit)) r ⌝ }
+{
+    let mut o = at;
+    let mut i: usize = 1;
+    while i < len {
+        o = put_coded(buf, o, &keys::COMMA, ids[i] as u64);
+        i += 1;
+    }
+    o
+}
+
 // The first `len` numbers, joined by commas.
 pub(crate) fn put_joined(buf: &mut [u8], at: usize, ids: [u8; 32], len: usize) -> usize
     requires { ⌜ len ≤ 32 ⌝ }
@@ -89,12 +106,6 @@ pub(crate) fn put_joined(buf: &mut [u8], at: usize, ids: [u8; 32], len: usize) -
     if len == 0 {
         return at;
     }
-    let mut o = text::put_number(buf, at, ids[0] as u64);
-    let mut i: usize = 1;
-    while i < len {
-        o = text::put_byte(buf, o, b',');
-        o = text::put_number(buf, o, ids[i] as u64);
-        i += 1;
-    }
-    o
+    let a = text::put_number(buf, at, ids[0] as u64);
+    put_others(buf, a, ids, len)
 }

@@ -51,9 +51,6 @@ left-end h e = left-none (rw e at h)
 pub left-room : {l₀ all l : List ℕ} {at₀ at : ℕ} (x rest : List ℕ) → Left l₀ at₀ all l at (x ++ rest) → at₀ + length all ≤ length l₀ → at + length x ≤ length l
 left-room x rest h room = omega (arith, h .end, h .same, length-append x rest)
 
-pub left-room-last : {l₀ all l : List ℕ} {at₀ at : ℕ} (x : List ℕ) → Left l₀ at₀ all l at x → at₀ + length all ≤ length l₀ → at + length x ≤ length l
-left-room-last x h room = omega (arith, h .end, h .same)
-
 -- a turn of the loop that copies
 pub left-turn : {l₀ l : List ℕ} {at₀ at i : ℕ} (s : List ℕ) → i < length s → Left l₀ at₀ s l at (drop i s)
     → Left l₀ at₀ s (set l at (getD s i 0)) (at + 1) (drop (i + 1) s)

@@ -1,10 +1,10 @@
 -- `put_page` meets its contract: after each call the parts from the next on are left. The last is one line.
 -- Assumes nothing.
-use Prim.Native.Nat.{ℕ, _+_}
+use Prim.Native.Nat.{ℕ}
 use native.Mathlib.Omega.{arith}
 use borrow.Author.Needs.{needs}
-use mathlib.Core.Path.{sym, ap, _∙_}
-use mathlib.Core.List.{List, []}
+use mathlib.Core.Path.{sym, ap}
+use mathlib.Core.List.{List}
 use lib.ListN.{length, drop}
 use Rattle.text.specs.Text.{text}
 use Rattle.text.proofs.Laws.{Todo, todo-start, todo-step, todo-room, todo-end, todo-same}

@@ -23,7 +23,7 @@ abbrev after-1 : (c : tie.After-put-figure) → From 1 (c .put-figure .last .0) 
 after-1 c = let d = after-0 (c .before .before .before .before .before .before) in (d .0, todo-step (d .1) (c .put-figure .ensures))
 
 abbrev after-2 : (c : tie.After-put-name-line) → From 2 (c .put-name-line .last .0) (c .put-name-line .result)
-after-2 c = let d = after-1 (c .before .before .before .before) in (d .0, todo-step (d .1) (c .put-name-line .ensures))
+after-2 c = let d = after-1 (c .before .before .before .before .before) in (d .0, todo-step (d .1) (c .put-name-line .ensures))
 
 abbrev after-3 : (c : tie.After-put-figure2) → From 3 (c .put-figure2 .last .0) (c .put-figure2 .result)
 after-3 c = let d = after-2 (c .before .before .before .before .before .before) in (d .0, todo-step (d .1) (c .put-figure2 .ensures))
@@ -32,7 +32,7 @@ abbrev after-4 : (c : tie.After-put-figure3) → From 4 (c .put-figure3 .last .0
 after-4 c = let d = after-3 (c .before .before .before .before .before .before) in (d .0, todo-step (d .1) (c .put-figure3 .ensures))
 
 abbrev after-5 : (c : tie.After-put-why-line) → From 5 (c .put-why-line .last .0) (c .put-why-line .result)
-after-5 c = let d = after-4 (c .before .before .before .before) in (d .0, todo-step (d .1) (c .put-why-line .ensures))
+after-5 c = let d = after-4 (c .before .before .before .before .before) in (d .0, todo-step (d .1) (c .put-why-line .ensures))
 
 abbrev after-6 : (c : tie.After-put-or-dash-line) → From 6 (c .put-or-dash-line .last .0) (c .put-or-dash-line .result)
 after-6 c = let d = after-5 (c .before .before .before .before .before) in (d .0, todo-step (d .1) (c .put-or-dash-line .ensures))
@@ -46,14 +46,16 @@ put-record-spec =
     (tie.spec
     (λ c. search needs)
     (λ c κs. todo-room (after-0 (c .before .before .before .before .before) .1))
-    (λ c κs. todo-room (after-1 (c .before .before .before) .1))
+    (λ c. search needs)
+    (λ c κs. todo-room (after-1 (c .before .before .before .before) .1))
     (λ c. search needs)
     (λ c. search needs)
     (λ c κs. todo-room (after-2 (c .before .before .before .before .before) .1))
     (λ c. search needs)
     (λ c. search needs)
     (λ c κs. todo-room (after-3 (c .before .before .before .before .before) .1))
-    (λ c κs. todo-room (after-4 (c .before .before .before) .1))
+    (λ c. search needs)
+    (λ c κs. todo-room (after-4 (c .before .before .before .before) .1))
     (λ c. search needs)
     (λ c κs. todo-room (after-5 (c .before .before .before .before) .1))
     (λ c. search needs)

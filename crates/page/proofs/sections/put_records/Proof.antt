@@ -1,6 +1,6 @@
 -- `sections::put_records` meets its contract. The loop's invariant: the lines of the used records from p on are left. The measure is the records left.
 -- Assumes nothing.
-use Prim.Native.Nat.{_+_, _-_, _≤_}
+use Prim.Native.Nat.{_-_, _≤_}
 use native.Mathlib.Omega.{arith}
 use borrow.Author.Needs.{needs}
 use mathlib.Core.Logic.{⊎-elim}

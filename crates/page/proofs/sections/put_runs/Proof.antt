@@ -3,7 +3,7 @@
 use Prim.Native.Nat.{_+_, _-_, _≤_}
 use native.Mathlib.Omega.{arith}
 use borrow.Author.Needs.{needs}
-use mathlib.Core.Path.{_≡_, sym, _∙_}
+use mathlib.Core.Path.{_≡_}
 use mathlib.Core.List.{_∷_}
 use lib.ListN.{length}
 use lib.Seq.{length-take-le}
@@ -27,7 +27,7 @@ loop-holds c =
     let t = s .args .tracks in
     let all : length (t .holders) ≡ 256 = search needs in
     let long = length-take-le (t .count) (t .holders) (omega (arith, s .pre .0)) in
-    (omega arith, long ∙ sym (c .widen .ensures), todo-start (heldFrom (holders t) 0) (held-all (holders t)) (s .pre .1))
+    (omega arith, long, todo-start (heldFrom (holders t) 0) (held-all (holders t)) (s .pre .1))
 
 here : (c : tie.After-run-from Inv-loop μ-loop)
     → let b = c .before .before in let s = c .before .before .before .before .before .args in let g = c .run-from .result in
@@ -42,7 +42,7 @@ put-runs-spec =
     (tie.spec
     Inv-loop
     μ-loop
-    (λ c κs. search needs)
+    (λ c. search needs)
     loop-holds
     (λ c κs. record { most = c .before .before .before .before .pre .0; below = omega arith })
     (λ c κs. todo-room (here (c .before)))
