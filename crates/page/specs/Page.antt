@@ -21,22 +21,18 @@ use Rattle.tracks.specs.Runs.{runsOf}
 use Rattle.rules.specs.Book.{Book}
 use Rattle.rules.specs.Keeper.{lists, State}
 
--- LINES
 pub record Line : Type 0 where
   pub key : List ℕ
   pub value : List ℕ
 
--- key=value and byte 10; and those of some lines
+-- key=value, and byte 10
 abbrev pub bytesOf : Line → List ℕ
 bytesOf l = entry (l .key) (l .value)
 
 unfoldable pub bytes : List Line → List ℕ
 bytes ls = join (map bytesOf ls)
 
-abbrev pub line : String → List ℕ → Line
-line key value = record { key = text key; value = value }
-
--- THE KEYS, in their order on the page. The code has them in src/keys.rt: what puts a line promises the key that stands here
+-- THE KEYS, as they come on the page; src/keys.rt has the code's, and what puts a line promises the key that stands here
 abbrev pub headKeys : List String
 headKeys = "page" ∷ "clock" ∷ "tracks" ∷ "system" ∷ "numbers" ∷ "programs" ∷ []
 
@@ -54,12 +50,6 @@ numberKey = "number"
 
 abbrev pub endKey : String
 endKey = "end"
-
--- each key with the value at its place
-abbrev pub paired : List String → List (List ℕ) → List Line
-paired [] vs = []
-paired (k ∷ ks) [] = []
-paired (k ∷ ks) (v ∷ vs) = line k v ∷ paired ks vs
 
 -- the states whose chains are shown
 abbrev pub chained : List ℕ
@@ -81,7 +71,16 @@ reason (Son k) = text "son:" ++ decimal k
 reason (Lock r) = text "lock:" ++ decimal r
 reason Number = text "number"
 
--- THE PARTS OF A PAGE
+-- LINES
+abbrev pub line : String → List ℕ → Line
+line key value = record { key = text key; value = value }
+
+-- each key with the value at its place
+abbrev pub paired : List String → List (List ℕ) → List Line
+paired [] vs = []
+paired (k ∷ ks) [] = []
+paired (k ∷ ks) (v ∷ vs) = line k v ∷ paired ks vs
+
 abbrev pub headLines : ℕ → ℕ → ℕ → ℕ → ℕ → List Line
 headLines clock T S R n = paired headKeys (text "rte2" ∷ decimal clock ∷ decimal T ∷ decimal S ∷ decimal R ∷ decimal n ∷ [])
 
@@ -123,17 +122,12 @@ numberLine r x =
 unfoldable pub numberLines : ℕ → List Resource → List Line
 numberLines n xs = join (map (λ r. numberLine r (numberAt xs r)) (from 1 n))
 
--- THE PAGE
+-- THE PAGE, part by part
 abbrev pub parts : State lists → List (List Line)
 parts a =
     let b : Book = a .book in
-    headLines (b .clock) (b .tracks) (b .system) (b .numbers) (length (usedIn (b .programs)))
-    ∷ recordLines (b .programs)
-    ∷ chainLines (a .kept)
-    ∷ heldLines (b .holders)
-    ∷ numberLines (b .numbers) (b .resources)
-    ∷ (line endKey (text "page") ∷ [])
-    ∷ []
+    headLines (b .clock) (b .tracks) (b .system) (b .numbers) (length (usedIn (b .programs))) ∷ recordLines (b .programs) ∷ chainLines (a .kept)
+    ∷ heldLines (b .holders) ∷ numberLines (b .numbers) (b .resources) ∷ (line endKey (text "page") ∷ []) ∷ []
 
 unfoldable pub lines : State lists → List Line
 lines a = join (parts a)
