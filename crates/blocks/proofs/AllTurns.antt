@@ -17,7 +17,7 @@ use Rattle.text.proofs.Fields.{until, part-end}
 use Rattle.rules.specs.Keeper.{lists, State}
 use Rattle.tables.specs.declared.Tables.{Tables}
 use Rattle.tables.specs.Tables.{plain}
-use Rattle.page.specs.Page.{headLines, page}
+use Rattle.page.specs.Page.{bytes, lines, page}
 use Rattle.page.specs.Paging.{Written}
 use Rattle.console.specs.Line.{Line, bad, PAGE, asks, lineOf}
 use Rattle.console.specs.Console.{keyed}
@@ -33,7 +33,7 @@ unfolding answerLine
 answer-some r = omega arith
 
 page-some : (a : State lists) → 0 < length (page a)
-unfolding page headLines entry
+unfolding page lines bytes entry
 page-some a = omega arith
 
 shown-some : (x : Line) (t : Tables) (r : Written) → 0 < length (shown x t r)

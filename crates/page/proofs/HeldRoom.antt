@@ -3,26 +3,25 @@
 -- Assumes nothing.
 use Prim.Native.Nat.{ℕ, suc, _+_, _*_, _<_, _≤_}
 use native.Mathlib.Omega.{arith}
-use mathlib.Core.Path.{_≡_, refl, sym, _∙_}
+use mathlib.Core.Path.{_≡_, refl, sym, ap, _∙_}
 use mathlib.Core.Logic.{_≢_}
 use mathlib.Core.Bool.{Bool, true, false, cond, _||_}
-use mathlib.Core.List.{List, [], _∷_, _++_, map}
+use mathlib.Core.List.{List, [], _∷_, _++_}
 use lib.ListN.{length, getD, length-append}
 use lib.Dec.{eqb}
 use borrow.Author.Tests.{eqb-true, eqb-false}
 use Rattle.lists.specs.Lists.{from, join}
-use Rattle.text.specs.Text.{text, digits, decimal, entry}
-use Rattle.text.proofs.Laws.{entry-length}
+use Rattle.text.specs.Text.{text, digits, decimal}
 use Rattle.records.specs.Numbers.{globally}
+use Rattle.tracks.specs.declared.held.Run.{Run}
 use Rattle.tracks.specs.Tracks.{nobody, system}
-use Rattle.page.specs.Page.{Run, party, joined, runsOf, heldLine, heldLines}
-use Rattle.page.proofs.Widths.{decimal-rise, gain, gain-most, party-length}
+use Rattle.tracks.specs.Runs.{runOf, joined, runsOf}
+use Rattle.page.specs.Page.{bytes, line, heldKey, party, heldLine, heldLines}
+use Rattle.page.proofs.Writing.{pieces, pieces-join}
+use Rattle.page.proofs.Widths.{line-length, decimal-rise, gain, gain-most, party-length}
 use Rattle.page.proofs.Weights.{weigh, weigh-from}
 
 -- LINES
-abbrev run : ℕ → ℕ → ℕ → Run
-run i j h = record { first = i; last = j; holder = h }
-
 -- what stands behind `held=`
 abbrev value : Run → List ℕ
 value g = decimal (g .first) ++ text "-" ++ decimal (g .last) ++ text ":" ++ party (g .holder)
@@ -30,26 +29,26 @@ value g = decimal (g .first) ++ text "-" ++ decimal (g .last) ++ text ":" ++ par
 value-length : (g : Run) → length (value g) ≡ length (decimal (g .first)) + length (decimal (g .last)) + length (party (g .holder)) + 2
 value-length g = simp length-append (omega arith)
 
-held-most : (g : Run) → g .holder ≤ system → length (heldLine g) ≤ 10 + length (decimal (g .first)) + length (decimal (g .last)) + 2 * gain (g .holder)
-unfolding heldLine
+held-most : (g : Run) → g .holder ≤ system → length (bytes (heldLine g)) ≤ 10 + length (decimal (g .first)) + length (decimal (g .last)) + 2 * gain (g .holder)
+unfolding bytes heldLine
 held-most g h = go (eqb (g .holder) nobody || eqb (g .holder) system)
   where
-    go : (t : Bool) → length (cond t [] (entry (text "held") (value g))) ≤ 10 + length (decimal (g .first)) + length (decimal (g .last)) + 2 * gain (g .holder)
+    go : (t : Bool) → length (bytes (cond t [] (line heldKey (value g) ∷ []))) ≤ 10 + length (decimal (g .first)) + length (decimal (g .last)) + 2 * gain (g .holder)
     go true = omega arith
-    go false = omega (arith, entry-length (text "held") (value g), value-length g, party-length (g .holder) (omega arith))
+    go false = omega (arith, line-length heldKey (value g), value-length g, party-length (g .holder) (omega arith))
 
 -- a run that begins earlier has no longer line
-held-earlier : (i : ℕ) (g : Run) → i ≤ g .first → length (heldLine (run i (g .last) (g .holder))) ≤ length (heldLine g)
-unfolding heldLine
+held-earlier : (i : ℕ) (g : Run) → i ≤ g .first → length (bytes (heldLine (runOf i (g .last) (g .holder)))) ≤ length (bytes (heldLine g))
+unfolding bytes heldLine
 held-earlier i g h = go (eqb (g .holder) nobody || eqb (g .holder) system)
   where
     early : Run
-    early = run i (g .last) (g .holder)
+    early = runOf i (g .last) (g .holder)
 
-    go : (t : Bool) → length (cond t [] (entry (text "held") (value early))) ≤ length (cond t [] (entry (text "held") (value g)))
+    go : (t : Bool) → length (bytes (cond t [] (line heldKey (value early) ∷ []))) ≤ length (bytes (cond t [] (line heldKey (value g) ∷ [])))
     go true = omega arith
     go false =
-        omega (arith, entry-length (text "held") (value early), entry-length (text "held") (value g), value-length early, value-length g, decimal-rise i (g .first) h)
+        omega (arith, line-length heldKey (value early), line-length heldKey (value g), value-length early, value-length g, decimal-rise i (g .first) h)
 
 -- WEIGHTS
 abbrev track : ℕ → ℕ
@@ -61,8 +60,8 @@ unfolding decimal digits
 tracks-weigh n h = weigh-from track 0 n 256 4388 h refl
 
 -- a run of one track wants two bytes or has two over
-alone : (i h : ℕ) → h ≤ system → length (heldLine (run i i h)) + 2 ≤ track i + 2 * gain h
-alone i h b = omega (arith, held-most (run i i h) b)
+alone : (i h : ℕ) → h ≤ system → length (bytes (heldLine (runOf i i h))) + 2 ≤ track i + 2 * gain h
+alone i h b = omega (arith, held-most (runOf i i h) b)
 
 -- two holders that differ are not both global
 gain-apart : (h k : ℕ) → h ≢ k → gain h + gain k ≤ 2
@@ -76,10 +75,10 @@ gain-apart h k n = go (eqb h globally) (eqb k globally) refl refl
 
 -- RUNS
 abbrev linesOf : List Run → List ℕ
-linesOf gs = join (map heldLine gs)
+linesOf gs = join (pieces heldLine gs)
 
-lines-length : (g : Run) (gs : List Run) → length (linesOf (g ∷ gs)) ≡ length (heldLine g) + length (linesOf gs)
-lines-length g gs = length-append (heldLine g) (linesOf gs)
+lines-length : (g : Run) (gs : List Run) → length (linesOf (g ∷ gs)) ≡ length (bytes (heldLine g)) + length (linesOf gs)
+lines-length g gs = length-append (bytes (heldLine g)) (linesOf gs)
 
 -- the first run begins at i or behind it; what it wants
 abbrev Behind : ℕ → List Run → Type 0
@@ -100,23 +99,23 @@ record Fits (i n : ℕ) (gs : List Run) : Type 0 where
   room : length (linesOf gs) ≤ weigh track (from i n) + want gs
 
 joined-fits : (i h n : ℕ) (gs : List Run) → h ≤ system → Fits (suc i) n gs → Fits i (suc n) (joined i h gs)
-joined-fits i h n [] b F = record { begin = omega arith; room = omega (arith, lines-length (run i i h) [], alone i h b, gain-most h) }
+joined-fits i h n [] b F = record { begin = omega arith; room = omega (arith, lines-length (runOf i i h) [], alone i h b, gain-most h) }
 joined-fits i h n (g ∷ gs) b F = go (eqb h (g .holder)) refl
   where
-    go : (t : Bool) → eqb h (g .holder) ≡ t → Fits i (suc n) (cond t (run i (g .last) h ∷ gs) (run i i h ∷ g ∷ gs))
+    go : (t : Bool) → eqb h (g .holder) ≡ t → Fits i (suc n) (cond t (runOf i (g .last) h ∷ gs) (runOf i i h ∷ g ∷ gs))
     go true e = rw (eqb-true h (g .holder) e) (record {
       begin = omega arith;
-      room = omega (arith, lines-length (run i (g .last) (g .holder)) gs, lines-length g gs, held-earlier i g (omega (arith, F .begin)), F .room);
+      room = omega (arith, lines-length (runOf i (g .last) (g .holder)) gs, lines-length g gs, held-earlier i g (omega (arith, F .begin)), F .room);
     })
     go false e = record {
       begin = omega arith;
-      room = omega (arith, lines-length (run i i h) (g ∷ gs), alone i h b, gain-apart h (g .holder) (eqb-false h (g .holder) e), F .room);
+      room = omega (arith, lines-length (runOf i i h) (g ∷ gs), alone i h b, gain-apart h (g .holder) (eqb-false h (g .holder) e), F .room);
     }
 
 runs-fit : (i : ℕ) (hs : List ℕ) → ((k : ℕ) → k < length hs → getD hs k nobody ≤ system) → Fits i (length hs) (runsOf i hs)
 runs-fit i [] b = record { begin = tt; room = omega arith }
 runs-fit i (h ∷ hs) b = joined-fits i h (length hs) (runsOf (suc i) hs) (b 0 (omega arith)) (runs-fit (suc i) hs (λ k l. b (suc k) (omega arith)))
 
-pub held-room : (hs : List ℕ) → length hs ≤ 256 → ((k : ℕ) → k < length hs → getD hs k nobody ≤ system) → length (heldLines hs) ≤ 4390
+pub held-room : (hs : List ℕ) → length hs ≤ 256 → ((k : ℕ) → k < length hs → getD hs k nobody ≤ system) → length (bytes (heldLines hs)) ≤ 4390
 unfolding heldLines
-held-room hs l b = omega (arith, runs-fit 0 hs b .room, want-most (runsOf 0 hs), tracks-weigh (length hs) l)
+held-room hs l b = omega (arith, ap length (pieces-join heldLine (runsOf 0 hs)), runs-fit 0 hs b .room, want-most (runsOf 0 hs), tracks-weigh (length hs) l)

@@ -6,8 +6,6 @@ pub mod HeldRoom
 pub mod NumberRoom
 pub mod Room
 pub mod Writing
-pub mod Runs
 pub mod Spans
-pub mod Paged
 pub mod Lending
 pub mod OnePage

@@ -2,28 +2,28 @@
 -- Assumes nothing.
 use Prim.Native.Nat.{ℕ, _+_, _≤_}
 use native.Mathlib.Omega.{arith}
-use mathlib.Core.Path.{_≡_, refl}
+use mathlib.Core.Path.{_≡_, refl, ap}
 use mathlib.Core.Bool.{Bool, true, false, cond}
-use mathlib.Core.List.{List, [], _++_}
+use mathlib.Core.List.{List, [], _∷_, _++_}
 use lib.ListN.{length, length-append}
 use lib.Dec.{eqb, ltb}
 use Rattle.lists.specs.Lists.{count, from}
 use Rattle.lists.proofs.Laws.{from-in}
-use Rattle.text.specs.Text.{text, digits, decimal, entry}
-use Rattle.text.proofs.Laws.{entry-length}
+use Rattle.text.specs.Text.{text, digits, decimal}
 use Rattle.records.specs.declared.Resource.{Resource}
 use Rattle.records.specs.Numbers.{globally, numberAt}
 use Rattle.rules.specs.Book.{Book}
 use Rattle.rules.specs.Sound.{Limits}
-use Rattle.page.specs.Page.{party, orDash, numberLine, numberLines}
-use Rattle.page.proofs.Widths.{gain-most, party-length, orDash-length}
+use Rattle.page.specs.Page.{Line, bytes, line, numberKey, party, orDash, numberLine, numberLines}
+use Rattle.page.proofs.Writing.{pieces-join}
+use Rattle.page.proofs.Widths.{line-length, gain-most, party-length, orDash-length}
 use Rattle.page.proofs.Weights.{weigh, weigh-from, lines-weigh}
 
 abbrev number : ℕ → ℕ
 number r = 18 + length (decimal r)
 
-number-most : (r : ℕ) (x : Resource) → x .owner ≤ globally → x .lock ≤ 32 → length (numberLine r x) ≤ number r
-unfolding numberLine
+number-most : (r : ℕ) (x : Resource) → x .owner ≤ globally → x .lock ≤ 32 → length (bytes (numberLine r x)) ≤ number r
+unfolding bytes numberLine
 number-most r x h k = go (eqb (x .owner) 0)
   where
     shown : List ℕ
@@ -32,11 +32,11 @@ number-most r x h k = go (eqb (x .owner) 0)
     shown-length : length shown ≡ length (decimal r) + length (party (x .owner)) + length (orDash (ltb 0 (x .lock)) (x .lock)) + 2
     shown-length = simp length-append (omega arith)
 
-    go : (t : Bool) → length (cond t [] (entry (text "number") shown)) ≤ number r
+    go : (t : Bool) → length (bytes (cond t [] (line numberKey shown ∷ []))) ≤ number r
     go true = omega arith
     go false = omega (
       arith,
-      entry-length (text "number") shown,
+      line-length numberKey shown,
       shown-length,
       party-length (x .owner) (omega arith),
       gain-most (x .owner),
@@ -48,12 +48,19 @@ numbers-weigh : (n : ℕ) → n ≤ 16 → weigh number (from 1 n) ≤ 311
 unfolding decimal digits
 numbers-weigh n h = weigh-from number 1 n 16 311 h refl
 
-pub number-room : (b : Book) → Limits b → length (numberLines (b .numbers) (b .resources)) ≤ 311
+pub number-room : (b : Book) → Limits b → length (bytes (numberLines (b .numbers) (b .resources))) ≤ 311
 unfolding numberLines
-number-room b L =
-    omega (arith, lines-weigh number (λ r. numberLine r (numberAt (b .resources) r)) (from 1 (b .numbers)) each, numbers-weigh (b .numbers) (L .few))
+number-room b L = omega (
+  arith,
+  ap length (pieces-join lineOf (from 1 (b .numbers))),
+  lines-weigh number (λ r. bytes (lineOf r)) (from 1 (b .numbers)) each,
+  numbers-weigh (b .numbers) (L .few),
+)
   where
-    each : (r : ℕ) → 1 ≤ count r (from 1 (b .numbers)) → length (numberLine r (numberAt (b .resources) r)) ≤ number r
+    lineOf : ℕ → List Line
+    lineOf r = numberLine r (numberAt (b .resources) r)
+
+    each : (r : ℕ) → 1 ≤ count r (from 1 (b .numbers)) → length (bytes (lineOf r)) ≤ number r
     each r k =
         let f = from-in r 1 (b .numbers) k in
         let ours : (1 ≤ r) × (r ≤ b .numbers) = (f .0, omega arith) in

@@ -3,7 +3,7 @@
 use Prim.Native.Nat.{ℕ, _+_, _<_, _≤_}
 use native.Mathlib.Omega.{arith}
 use native.Mathlib.Decide.{ℕ-discrete}
-use mathlib.Core.Path.{_≡_, refl}
+use mathlib.Core.Path.{_≡_, refl, ap}
 use mathlib.Core.Bool.{Bool, true, false, not, _&&_, _||_}
 use mathlib.Core.List.{List, [], _∷_}
 use lib.ListN.{length, length-append}
@@ -23,7 +23,8 @@ use Rattle.records.specs.Records.{Known, known, all, recordAt}
 use Rattle.rules.specs.Book.{Book, at}
 use Rattle.rules.specs.Sound.{suits, Names, Whys, Limits, Dues}
 use Rattle.rules.proofs.shared.Places.{all-in}
-use Rattle.page.specs.Page.{orDash, reason, usedIn, recorded, recordLines}
+use Rattle.page.specs.Page.{bytes, orDash, reason, usedIn, recorded, recordLines}
+use Rattle.page.proofs.Writing.{pieces-join}
 use Rattle.page.proofs.Widths.{figure-length, orDash-length}
 use Rattle.page.proofs.Weights.{weigh, weigh-fewer, lines-weigh, keep-length}
 
@@ -81,8 +82,8 @@ unfolding all decimal digits
 records-weigh = refl
 
 module _ (b : Book) (N : Names b) (W : Whys b) (L : Limits b) (D : Dues b) where
-  recorded-most : (p : ℕ) → Known p → at b p .used ≡ true → length (recorded p (at b p)) ≤ weight p
-  unfolding recorded
+  recorded-most : (p : ℕ) → Known p → at b p .used ≡ true → length (bytes (recorded p (at b p))) ≤ weight p
+  unfolding bytes
   recorded-most p P u =
       let r = at b p in
       let w = why-most b L p (r .state) (r .why) (W .fitting p P) in
@@ -101,14 +102,15 @@ module _ (b : Book) (N : Names b) (W : Whys b) (L : Limits b) (D : Dues b) where
         orDash-length timer 9 (r .interval) (omega (arith, D .steps p P)),
       ))
 
-  pub record-room : length (recordLines (b .programs)) ≤ 2967
+  pub record-room : length (bytes (recordLines (b .programs))) ≤ 2967
   unfolding recordLines
   record-room = omega (
     arith,
-    lines-weigh weight (λ p. recorded p (at b p)) (usedIn (b .programs)) each,
+    ap length (pieces-join (λ p. recorded p (at b p)) (usedIn (b .programs))),
+    lines-weigh weight (λ p. bytes (recorded p (at b p))) (usedIn (b .programs)) each,
     weigh-fewer weight (usedIn (b .programs)) all (used-fewer (b .programs)),
     records-weigh,
   )
     where
-      each : (p : ℕ) → 1 ≤ count p (usedIn (b .programs)) → length (recorded p (at b p)) ≤ weight p
+      each : (p : ℕ) → 1 ≤ count p (usedIn (b .programs)) → length (bytes (recorded p (at b p))) ≤ weight p
       each p h = let k = used-in (b .programs) p h in recorded-most p (k .0) (k .1)

@@ -11,10 +11,10 @@ use Rattle.records.specs.Records.{all, recordAt}
 use Rattle.rules.specs.Book.{Book}
 use Rattle.rules.specs.Keeper.{lists, State}
 use Rattle.rules.specs.Sound.{Sound, Limits}
-use Rattle.page.specs.Page.{headLines, usedIn, page}
-use Rattle.page.proofs.Widths.{figure-length}
+use Rattle.page.specs.Page.{bytes, endKey, headLines, usedIn, page}
+use Rattle.page.proofs.Widths.{figure-length, line-length}
 use Rattle.page.proofs.Weights.{keep-length}
-use Rattle.page.proofs.Writing.{heading-length}
+use Rattle.page.proofs.Writing.{page-pieces}
 use Rattle.page.proofs.RecordRoom.{record-room}
 use Rattle.page.proofs.ChainRoom.{chain-room}
 use Rattle.page.proofs.HeldRoom.{held-room}
@@ -24,32 +24,30 @@ used-length : (ps : List Program) → length (usedIn ps) ≤ 32
 unfolding usedIn all
 used-length ps = keep-length (λ p. recordAt ps p .used) all
 
-head-room : (b : Book) → Limits b → length (headLines (b .clock) (b .tracks) (b .system) (b .numbers) (length (usedIn (b .programs)))) ≤ 75
-head-room b L =
-    omega (
-      arith,
-      heading-length (b .clock) (b .tracks) (b .system) (b .numbers) (length (usedIn (b .programs))),
-      entry-length (text "page") (text "rte2"),
-      figure-length "clock" 12 (b .clock) (omega (arith, L .time)),
-      figure-length "tracks" 2 (b .tracks) (omega (arith, L .most)),
-      figure-length "system" 2 (b .system) (omega (arith, L .most, L .first)),
-      figure-length "numbers" 1 (b .numbers) (omega (arith, L .few)),
-      figure-length "programs" 1 (length (usedIn (b .programs))) (omega (arith, used-length (b .programs))),
-    )
+head-room : (b : Book) → Limits b → length (bytes (headLines (b .clock) (b .tracks) (b .system) (b .numbers) (length (usedIn (b .programs))))) ≤ 75
+unfolding bytes
+head-room b L = simp length-append (omega (
+  arith,
+  entry-length (text "page") (text "rte2"),
+  figure-length "clock" 12 (b .clock) (omega (arith, L .time)),
+  figure-length "tracks" 2 (b .tracks) (omega (arith, L .most)),
+  figure-length "system" 2 (b .system) (omega (arith, L .most, L .first)),
+  figure-length "numbers" 1 (b .numbers) (omega (arith, L .few)),
+  figure-length "programs" 1 (length (usedIn (b .programs))) (omega (arith, used-length (b .programs))),
+))
 
 pub page-length : (a : State lists) → Sound a → length (page a) ≤ 7871
-unfolding page
 page-length a S =
     let b : Book = a .book in
-    simp length-append (omega (
+    rw (page-pieces a) (simp length-append (omega (
       arith,
       head-room b (S .limits),
       record-room b (S .names) (S .whys) (S .limits) (S .dues),
       chain-room b (a .kept) (S .chains),
       held-room (b .holders) (omega (arith, S .shape .holders, S .limits .most)) (λ i h. S .limits .holder i (omega (arith, S .shape .holders))),
       number-room b (S .limits),
-      entry-length (text "end") (text "page"),
-    ))
+      line-length endKey (text "page"),
+    )))
 
 pub page-room : (a : State lists) → Sound a → length (page a) ≤ 8192
 page-room a S = omega (arith, page-length a S)

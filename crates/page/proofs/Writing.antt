@@ -1,7 +1,6 @@
--- Laws of the values and lines that are written: a value known by an equation, a name without its blanks, numbers joined by commas, a line of three values.
+-- Laws of the values and lines that are written: lines piece by piece, a value known by an equation, a name without its blanks, numbers joined by commas.
 -- Assumes nothing.
 use Prim.Native.Nat.{ℕ, suc, _+_, _≤_, _<_}
-use Prim.Native.String.{String}
 use native.Mathlib.Omega.{arith}
 use native.Mathlib.Numerals.{add-one}
 use mathlib.Core.Path.{_≡_, refl, sym, ap, ap₂, _∙_}
@@ -9,19 +8,21 @@ use mathlib.Core.Logic.{_≢_}
 use mathlib.Core.Bool.{Bool, true, false, cond, not, _||_}
 use mathlib.Core.List.{List, [], _∷_, _++_, map, append-assoc, append-nil}
 use lib.Dec.{eqb, ltb}
-use lib.ListN.{length, getD, take, drop, set, length-append}
-use lib.Seq.{slice, slice-cons, slice-empty, drop-cons}
+use lib.ListN.{length, getD, take, drop, set, drop-of-length-le}
+use lib.Seq.{slice, slice-cons, drop-cons, length-take-le}
 use borrow.Author.Tests.{eq-eqb, ne-eqb}
+use Rattle.lists.specs.Lists.{join}
 use Rattle.text.specs.Text.{text, decimal, between, entry}
 use Rattle.text.specs.Inner.{Wrote}
-use Rattle.text.proofs.Laws.{Left, left-step, wrote-then, wrote-length, entry-length}
-use Rattle.records.specs.declared.Program.{Program}
+use Rattle.text.proofs.Laws.{Left, left-step}
 use Rattle.records.specs.declared.Resource.{Resource}
 use Rattle.records.specs.Names.{bare}
 use Rattle.records.specs.Numbers.{globally}
+use Rattle.tracks.specs.declared.held.Run.{Run}
 use Rattle.tracks.specs.Tracks.{nobody, system}
-use Rattle.page.specs.Page.{figure, party, orDash, reason, headLines, recorded, heldLine, numberLine}
-use Rattle.page.specs.Inner.{runFrom}
+use Rattle.rules.specs.Keeper.{lists, State}
+use Rattle.page.specs.Inner.{others}
+use Rattle.page.specs.Page.{Line, bytesOf, bytes, line, heldKey, numberKey, party, orDash, heldLine, numberLine, parts, lines, page}
 
 -- what is written, under another name
 pub wrote-as : {l x y l′ : List ℕ} {at n : ℕ} → x ≡ y → Wrote l at y l′ n → Wrote l at x l′ n
@@ -33,20 +34,75 @@ left-as e h = rw e at h
 pub left-at : {l₀ all l l′ rest : List ℕ} {at₀ at at′ : ℕ} → l′ ≡ l → at′ ≡ at → Left l₀ at₀ all l at rest → Left l₀ at₀ all l′ at′ rest
 left-at e f h = rw (e, f) h
 
--- room behind a write, and for the first of two
-pub wrote-room : {l x l′ : List ℕ} {at n : ℕ} (y : List ℕ) → Wrote l at x l′ n → at + length (x ++ y) ≤ length l → n + length y ≤ length l′
-wrote-room {x = x} y w room = omega (arith, w .place, wrote-length w, length-append x y)
-
-pub append-room : {m : ℕ} (at : ℕ) (x y : List ℕ) → at + length (x ++ y) ≤ m → at + length x ≤ m
-append-room at x y room = omega (arith, length-append x y)
-
--- what is left, written by parts
-pub left-on : {l₀ all l₁ mid l rest : List ℕ} {at₀ at₁ at : ℕ} → Left l₀ at₀ all l₁ at₁ mid → Left l₁ at₁ mid l at rest → Left l₀ at₀ all l at rest
-left-on h k = record { whole = k .whole ∙ h .whole; end = k .end ∙ h .end; same = k .same ∙ h .same }
-
 -- one byte is stored
 pub left-store : {l₀ all l rest : List ℕ} {at₀ at x : ℕ} → Left l₀ at₀ all l at (x ∷ rest) → Left l₀ at₀ all (set l at x) (at + 1) rest
 left-store {x = x} h = left-step (x ∷ []) h (record { buffer = refl; place = refl })
+
+-- LINES
+pub bytes-lines : (ls : List Line) → bytes ls ≡ join (map bytesOf ls)
+unfolding bytes
+bytes-lines ls = refl
+
+pub bytes-line : (l : Line) → bytes (l ∷ []) ≡ bytesOf l
+unfolding bytes
+bytes-line l = append-nil (bytesOf l)
+
+bytes-append : (xs ys : List Line) → bytes (xs ++ ys) ≡ bytes xs ++ bytes ys
+unfolding bytes
+bytes-append [] ys = refl
+bytes-append (x ∷ xs) ys = ap (λ (r : List ℕ). bytesOf x ++ r) (bytes-append xs ys) ∙ sym (append-assoc (bytesOf x) (bytes xs) (bytes ys))
+
+-- the lines of some things, a piece for each thing
+abbrev pub pieces : {A : Type 0} → (A → List Line) → List A → List (List ℕ)
+pieces f xs = map (λ x. bytes (f x)) xs
+
+pub pieces-join : {A : Type 0} (f : A → List Line) (xs : List A) → bytes (join (map f xs)) ≡ join (pieces f xs)
+unfolding bytes
+pieces-join f [] = refl
+pieces-join f (x ∷ xs) = bytes-append (f x) (join (map f xs)) ∙ ap (λ (r : List ℕ). bytes (f x) ++ r) (pieces-join f xs)
+
+-- the page, a piece for each of its parts
+pub page-pieces : (a : State lists) → page a ≡ join (pieces (λ ls. ls) (parts a))
+unfolding page lines
+page-pieces a = pieces-join (λ ls. ls) (parts a)
+
+-- a run of tracks: no line, or one by its pieces
+abbrev pub heldPieces : Run → List (List ℕ)
+heldPieces g =
+    (text heldKey ++ (61 ∷ [])) ∷ (decimal (g .first) ++ (45 ∷ [])) ∷ (decimal (g .last) ++ (58 ∷ [])) ∷ party (g .holder) ∷ (10 ∷ []) ∷ []
+
+abbrev heldIf : Run → Bool → List Line
+heldIf g b = cond b [] (line heldKey (decimal (g .first) ++ text "-" ++ decimal (g .last) ++ text ":" ++ party (g .holder)) ∷ [])
+
+pub held-free : (g : Run) → g .holder ≡ nobody → bytes (heldLine g) ≡ []
+unfolding bytes heldLine
+held-free g e = ap (λ (b : Bool). bytes (heldIf g (b || eqb (g .holder) system))) (eq-eqb (g .holder) nobody e)
+
+pub held-system : (g : Run) → g .holder ≡ system → bytes (heldLine g) ≡ []
+unfolding bytes heldLine
+held-system g e = ap (λ (h : ℕ). bytes (heldIf g (eqb h nobody || eqb h system))) e
+
+pub held-some : (g : Run) → g .holder ≢ nobody → g .holder ≢ system → bytes (heldLine g) ≡ join (heldPieces g)
+unfolding bytes heldLine entry
+held-some g n m =
+    ap (λ (b : Bool). bytes (heldIf g b)) (ap₂ _||_ (ne-eqb (g .holder) nobody n) (ne-eqb (g .holder) system m))
+    ∙ simp (append-assoc, append-nil)
+
+-- a resource number likewise
+abbrev pub numberPieces : ℕ → Resource → List (List ℕ)
+numberPieces r x =
+    (text numberKey ++ (61 ∷ [])) ∷ (decimal r ++ (58 ∷ [])) ∷ party (x .owner) ∷ (58 ∷ []) ∷ orDash (ltb 0 (x .lock)) (x .lock) ∷ (10 ∷ []) ∷ []
+
+abbrev numberIf : ℕ → Resource → Bool → List Line
+numberIf r x b = cond b [] (line numberKey (decimal r ++ text ":" ++ party (x .owner) ++ text ":" ++ orDash (ltb 0 (x .lock)) (x .lock)) ∷ [])
+
+pub number-none : (r : ℕ) (x : Resource) → x .owner ≡ 0 → bytes (numberLine r x) ≡ []
+unfolding bytes numberLine
+number-none r x e = ap (λ (b : Bool). bytes (numberIf r x b)) (eq-eqb (x .owner) 0 e)
+
+pub number-some : (r : ℕ) (x : Resource) → x .owner ≢ 0 → bytes (numberLine r x) ≡ join (numberPieces r x)
+unfolding bytes numberLine entry
+number-some r x n = ap (λ (b : Bool). bytes (numberIf r x b)) (ne-eqb (x .owner) 0 n) ∙ simp (append-assoc, append-nil)
 
 -- VALUES
 pub party-global : (h : ℕ) → h ≡ globally → party h ≡ text "global"
@@ -68,11 +124,7 @@ bare-put nm i h n = bare-cons nm i false h (ne-eqb (getD nm i 0) 32 n)
 pub bare-skip : (nm : List ℕ) (i : ℕ) → i < length nm → getD nm i 0 ≡ 32 → bare (drop i nm) ≡ bare (drop (i + 1) nm)
 bare-skip nm i h e = bare-cons nm i true h (eq-eqb (getD nm i 0) 32 e)
 
--- numbers with a comma before each
-abbrev pub others : List ℕ → List ℕ
-others [] = []
-others (x ∷ xs) = (44 ∷ decimal x) ++ others xs
-
+-- numbers joined by commas: the first, and the others
 joined-cons : (x : ℕ) (xs : List ℕ) → between 44 (map decimal (x ∷ xs)) ≡ decimal x ++ others xs
 joined-cons x [] = sym (append-nil (decimal x))
 joined-cons x (y ∷ ys) = ap (λ (r : List ℕ). decimal x ++ (44 ∷ r)) (joined-cons y ys)
@@ -80,88 +132,15 @@ joined-cons x (y ∷ ys) = ap (λ (r : List ℕ). decimal x ++ (44 ∷ r)) (join
 pub joined-none : (xs : List ℕ) (n : ℕ) → n ≡ 0 → between 44 (map decimal (take n xs)) ≡ []
 joined-none xs n e = rw e refl
 
--- the first n of some, from the first on and from the one at i on
 pub joined-first : (xs : List ℕ) (n : ℕ) → 0 < n → n ≤ length xs → between 44 (map decimal (take n xs)) ≡ decimal (getD xs 0 0) ++ others (slice 1 n xs)
 joined-first xs n h k = ap (λ (r : List ℕ). between 44 (map decimal r)) (slice-cons 0 n xs 0 h k) ∙ joined-cons (getD xs 0 0) (slice 1 n xs)
 
-pub others-cons : (xs : List ℕ) (i n : ℕ) → i < n → n ≤ length xs → others (slice i n xs) ≡ (44 ∷ decimal (getD xs i 0)) ++ others (slice (i + 1) n xs)
-others-cons xs i n h k = rw (add-one i) (ap others (slice-cons i n xs 0 h k))
+-- the others from the one at i on, a piece for each
+abbrev pub othersFrom : List ℕ → ℕ → ℕ → List (List ℕ)
+othersFrom xs n i = map (λ x. 44 ∷ decimal x) (slice i n xs)
 
-pub others-none : (xs : List ℕ) (i n : ℕ) → i ≡ n → others (slice i n xs) ≡ []
-others-none xs i n e = rw e (ap others (slice-empty n xs))
+pub others-here : (xs : List ℕ) (i n : ℕ) → i < n → n ≤ length xs → othersFrom xs n i ≡ (44 ∷ decimal (getD xs i 0)) ∷ othersFrom xs n (i + 1)
+others-here xs i n h k = rw (add-one i) (ap (map (λ x. 44 ∷ decimal x)) (slice-cons i n xs 0 h k))
 
--- LINES
--- three values with a byte between each two
-abbrev pub three : List ℕ → ℕ → List ℕ → ℕ → List ℕ → List ℕ
-three x c y d z = x ++ (c ∷ []) ++ y ++ (d ∷ []) ++ z
-
-pub three-length : (key x : List ℕ) (c : ℕ) (y : List ℕ) (d : ℕ) (z : List ℕ)
-    → length (entry key (three x c y d z)) ≡ length key + length x + length y + length z + 4
-three-length key x c y d z = omega (arith, entry-length key (three x c y d z), sum)
-  where
-    sum : length (three x c y d z) ≡ length x + length y + length z + 2
-    sum = simp length-append (omega arith)
-
--- the writes that make such a line, but for its end
-pub three-open : {l₀ l₁ l₂ l₃ l₄ l₅ l₆ l₇ key x y z : List ℕ} {c d at₀ at₁ at₂ at₃ at₄ at₅ at₆ at₇ : ℕ}
-    → Wrote l₀ at₀ key l₁ at₁ → Wrote l₁ at₁ (61 ∷ []) l₂ at₂ → Wrote l₂ at₂ x l₃ at₃ → Wrote l₃ at₃ (c ∷ []) l₄ at₄ → Wrote l₄ at₄ y l₅ at₅
-    → Wrote l₅ at₅ (d ∷ []) l₆ at₆ → Wrote l₆ at₆ z l₇ at₇ → Wrote l₀ at₀ (key ++ (61 ∷ three x c y d z)) l₇ at₇
-three-open k e u v w p q = wrote-then _ _ k (wrote-then _ _ e (wrote-then _ _ (wrote-then _ _ (wrote-then _ _ (wrote-then _ _ u v) w) p) q))
-
--- the end of a line, and room for it
-pub entry-close : {l₀ l₁ l₂ : List ℕ} {at₀ at₁ at₂ : ℕ} (key value : List ℕ) → Wrote l₀ at₀ (key ++ (61 ∷ value)) l₁ at₁ → Wrote l₁ at₁ (10 ∷ []) l₂ at₂
-    → Wrote l₀ at₀ (entry key value) l₂ at₂
-unfolding entry
-entry-close key value v w = wrote-as (sym (append-assoc key (61 ∷ value) (10 ∷ []))) (wrote-then _ _ v w)
-
-pub entry-room : {l₀ l₁ : List ℕ} {at₀ at₁ : ℕ} (key value : List ℕ) → Wrote l₀ at₀ (key ++ (61 ∷ value)) l₁ at₁ → at₀ + length (entry key value) ≤ length l₀
-    → at₁ + 1 ≤ length l₁
-entry-room key value w room = omega (arith, w .place, wrote-length w, entry-length key value, length-append key (61 ∷ value))
-
--- a run of tracks
-abbrev pub heldValue : ℕ → ℕ → ℕ → List ℕ
-heldValue i j h = three (decimal i) 45 (decimal j) 58 (party h)
-
-pub held-free : (i j h : ℕ) → h ≡ nobody → heldLine (runFrom i j h) ≡ []
-unfolding heldLine
-held-free i j h e = rw e refl
-
-pub held-system : (i j h : ℕ) → h ≡ system → heldLine (runFrom i j h) ≡ []
-unfolding heldLine
-held-system i j h e = rw e refl
-
-pub held-some : (i j h : ℕ) → h ≢ nobody → h ≢ system → heldLine (runFrom i j h) ≡ entry (text "held") (heldValue i j h)
-unfolding heldLine
-held-some i j h n m = ap (λ (t : Bool). cond t [] (entry (text "held") (heldValue i j h))) (ap₂ _||_ (ne-eqb h nobody n) (ne-eqb h system m))
-
--- a resource number
-abbrev pub numberValue : ℕ → Resource → List ℕ
-numberValue r x = three (decimal r) 58 (party (x .owner)) 58 (orDash (ltb 0 (x .lock)) (x .lock))
-
-pub number-none : (r : ℕ) (x : Resource) → x .owner ≡ 0 → numberLine r x ≡ []
-unfolding numberLine
-number-none r x e = ap (λ (t : Bool). cond t [] (entry (text "number") (numberValue r x))) (eq-eqb (x .owner) 0 e)
-
-pub number-some : (r : ℕ) (x : Resource) → x .owner ≢ 0 → numberLine r x ≡ entry (text "number") (numberValue r x)
-unfolding numberLine
-number-some r x n = ap (λ (t : Bool). cond t [] (entry (text "number") (numberValue r x))) (ne-eqb (x .owner) 0 n)
-
--- LINES TOGETHER
-pub heading-length : (c T S R n : ℕ) → length (headLines c T S R n)
-    ≡ length (entry (text "page") (text "rte2")) + length (figure "clock" c) + length (figure "tracks" T) + length (figure "system" S)
-    + length (figure "numbers" R) + length (figure "programs" n)
-unfolding headLines
-heading-length c T S R n = simp length-append refl
-
--- a program's lines before its timer's, and one of these
-abbrev pub untimed : ℕ → Program → List ℕ
-untimed p r = figure "id" p ++ entry (text "name") (bare (r .name)) ++ figure "priority" (r .priority) ++ figure "state" (r .state) ++ entry (text "why") (reason (r .why))
-
-abbrev pub timed : String → Program → ℕ → List ℕ
-timed key r n = entry (text key) (orDash (ltb 0 (r .due)) n)
-
-pub recorded-length : (p : ℕ) (r : Program) → length (recorded p r)
-    ≡ length (figure "id" p) + length (entry (text "name") (bare (r .name))) + length (figure "priority" (r .priority)) + length (figure "state" (r .state))
-    + length (entry (text "why") (reason (r .why))) + length (timed "due" r (r .due)) + length (timed "interval" r (r .interval))
-unfolding recorded
-recorded-length p r = simp length-append refl
+pub others-past : (xs : List ℕ) (i n : ℕ) → n ≤ i → n ≤ length xs → othersFrom xs n i ≡ []
+others-past xs i n h k = ap (map (λ x. 44 ∷ decimal x)) (drop-of-length-le (take n xs) {i = i} (omega (arith, length-take-le n xs k)))

@@ -1,6 +1,6 @@
--- The page of a plain state: lines of key=value, each ended by byte 10, in the outline's order (OUTLINE, "The page and the console line").
+-- The page of a plain state: lines of key=value in the outline's order (OUTLINE, "The page and the console line").
 -- Assumes nothing.
-use Prim.Native.Nat.{ℕ, suc}
+use Prim.Native.Nat.{ℕ}
 use Prim.Native.String.{String}
 use mathlib.Core.Bool.{Bool, cond, _||_}
 use mathlib.Core.List.{List, [], _∷_, _++_, map}
@@ -15,21 +15,54 @@ use Rattle.records.specs.declared.Why.the-variants.{Nothing, Tracks, Son, Lock,
 use Rattle.records.specs.Names.{bare}
 use Rattle.records.specs.Records.{all, recordAt}
 use Rattle.records.specs.Numbers.{globally, numberAt}
+use Rattle.tracks.specs.declared.held.Run.{Run}
 use Rattle.tracks.specs.Tracks.{nobody, system}
+use Rattle.tracks.specs.Runs.{runsOf}
 use Rattle.rules.specs.Book.{Book}
 use Rattle.rules.specs.Keeper.{lists, State}
 
--- a line with a number
-abbrev pub figure : String → ℕ → List ℕ
-figure key n = entry (text key) (decimal n)
+pub record Line : Type 0 where
+  pub key : List ℕ
+  pub value : List ℕ
+
+-- key=value, and byte 10
+abbrev pub bytesOf : Line → List ℕ
+bytesOf l = entry (l .key) (l .value)
+
+unfoldable pub bytes : List Line → List ℕ
+bytes ls = join (map bytesOf ls)
+
+-- THE KEYS, as they come on the page; src/keys.rt has the code's, and what puts a line promises the key that stands here
+abbrev pub headKeys : List String
+headKeys = "page" ∷ "clock" ∷ "tracks" ∷ "system" ∷ "numbers" ∷ "programs" ∷ []
+
+abbrev pub recordKeys : List String
+recordKeys = "id" ∷ "name" ∷ "priority" ∷ "state" ∷ "why" ∷ "due" ∷ "interval" ∷ []
+
+abbrev pub chainKey : String
+chainKey = "chain"
+
+abbrev pub heldKey : String
+heldKey = "held"
+
+abbrev pub numberKey : String
+numberKey = "number"
+
+abbrev pub endKey : String
+endKey = "end"
+
+-- the states whose chains are shown
+abbrev pub chained : List ℕ
+chained = 1 ∷ 3 ∷ 5 ∷ 6 ∷ []
+
+-- VALUES
+-- a number that may be absent
+abbrev pub orDash : Bool → ℕ → List ℕ
+orDash there n = cond there (decimal n) (text "-")
 
 -- a holder or an owner: a number or `global`
 abbrev pub party : ℕ → List ℕ
 party h = cond (eqb h globally) (text "global") (decimal h)
-
--- a number that may be absent
-abbrev pub orDash : Bool → ℕ → List ℕ
-orDash there n = cond there (decimal n) (text "-")
 
 abbrev pub reason : Why → List ℕ
 reason Nothing = text "-"
@@ -38,64 +71,66 @@ reason (Son k) = text "son:" ++ decimal k
 reason (Lock r) = text "lock:" ++ decimal r
 reason Number = text "number"
 
-unfoldable pub headLines : ℕ → ℕ → ℕ → ℕ → ℕ → List ℕ
-headLines clock T S R n =
-    entry (text "page") (text "rte2") ++ figure "clock" clock ++ figure "tracks" T ++ figure "system" S ++ figure "numbers" R ++ figure "programs" n
+-- LINES
+abbrev pub line : String → List ℕ → Line
+line key value = record { key = text key; value = value }
+
+-- each key with the value at its place
+abbrev pub paired : List String → List (List ℕ) → List Line
+paired [] vs = []
+paired (k ∷ ks) [] = []
+paired (k ∷ ks) (v ∷ vs) = line k v ∷ paired ks vs
+
+abbrev pub headLines : ℕ → ℕ → ℕ → ℕ → ℕ → List Line
+headLines clock T S R n = paired headKeys (text "rte2" ∷ decimal clock ∷ decimal T ∷ decimal S ∷ decimal R ∷ decimal n ∷ [])
 
 -- the numbers of the used records, upward
 unfoldable pub usedIn : List Program → List ℕ
 usedIn ps = keep (λ p. recordAt ps p .used) all
 
-unfoldable pub recorded : ℕ → Program → List ℕ
+abbrev pub recorded : ℕ → Program → List Line
 recorded p r =
     let timer : Bool = ltb 0 (r .due) in
-    figure "id" p ++ entry (text "name") (bare (r .name)) ++ figure "priority" (r .priority) ++ figure "state" (r .state)
-    ++ entry (text "why") (reason (r .why)) ++ entry (text "due") (orDash timer (r .due)) ++ entry (text "interval") (orDash timer (r .interval))
+    paired recordKeys
+    (decimal p ∷ bare (r .name) ∷ decimal (r .priority) ∷ decimal (r .state) ∷ reason (r .why) ∷ orDash timer (r .due) ∷ orDash timer (r .interval) ∷ [])
 
-unfoldable pub recordLines : List Program → List ℕ
+unfoldable pub recordLines : List Program → List Line
 recordLines ps = join (map (λ p. recorded p (recordAt ps p)) (usedIn ps))
 
--- numbers joined by commas
-unfoldable pub chained : String → List ℕ → List ℕ
-chained key c = entry (text key) (between 44 (map decimal c))
+-- `chain` and the state's digit; the programs joined by commas
+abbrev pub chainLine : ℕ → List ℕ → Line
+chainLine s c = record { key = text chainKey ++ decimal s; value = between 44 (map decimal c) }
 
-unfoldable pub chainLines : List (List ℕ) → List ℕ
-chainLines m = chained "chain1" (getD m 1 []) ++ chained "chain3" (getD m 3 []) ++ chained "chain5" (getD m 5 []) ++ chained "chain6" (getD m 6 [])
-
--- the longest runs of one holder, upward
-pub record Run : Type 0 where
-  pub first : ℕ
-  pub last : ℕ
-  pub holder : ℕ
-
-abbrev pub joined : ℕ → ℕ → List Run → List Run
-joined i h [] = record { first = i; last = i; holder = h } ∷ []
-joined i h (g ∷ gs) =
-    cond (eqb h (g .holder)) (record { first = i; last = g .last; holder = h } ∷ gs) (record { first = i; last = i; holder = h } ∷ g ∷ gs)
-
-abbrev pub runsOf : ℕ → List ℕ → List Run
-runsOf i [] = []
-runsOf i (h ∷ hs) = joined i h (runsOf (suc i) hs)
+unfoldable pub chainLines : List (List ℕ) → List Line
+chainLines m = map (λ s. chainLine s (getD m s [])) chained
 
 -- `held=first-last:holder`; none for free tracks and the system's
-unfoldable pub heldLine : Run → List ℕ
+unfoldable pub heldLine : Run → List Line
 heldLine g =
     cond (eqb (g .holder) nobody || eqb (g .holder) system) []
-    (entry (text "held") (decimal (g .first) ++ text "-" ++ decimal (g .last) ++ text ":" ++ party (g .holder)))
+    (line heldKey (decimal (g .first) ++ text "-" ++ decimal (g .last) ++ text ":" ++ party (g .holder)) ∷ [])
 
-unfoldable pub heldLines : List ℕ → List ℕ
+unfoldable pub heldLines : List ℕ → List Line
 heldLines hs = join (map heldLine (runsOf 0 hs))
 
 -- `number=r:owner:lock` for each allocated one
-unfoldable pub numberLine : ℕ → Resource → List ℕ
+unfoldable pub numberLine : ℕ → Resource → List Line
 numberLine r x =
-    cond (eqb (x .owner) 0) [] (entry (text "number") (decimal r ++ text ":" ++ party (x .owner) ++ text ":" ++ orDash (ltb 0 (x .lock)) (x .lock)))
+    cond (eqb (x .owner) 0) []
+    (line numberKey (decimal r ++ text ":" ++ party (x .owner) ++ text ":" ++ orDash (ltb 0 (x .lock)) (x .lock)) ∷ [])
 
-unfoldable pub numberLines : ℕ → List Resource → List ℕ
+unfoldable pub numberLines : ℕ → List Resource → List Line
 numberLines n xs = join (map (λ r. numberLine r (numberAt xs r)) (from 1 n))
 
-unfoldable pub page : State lists → List ℕ
-page a =
+-- THE PAGE, part by part
+abbrev pub parts : State lists → List (List Line)
+parts a =
     let b : Book = a .book in
-    headLines (b .clock) (b .tracks) (b .system) (b .numbers) (length (usedIn (b .programs))) ++ recordLines (b .programs) ++ chainLines (a .kept)
-    ++ heldLines (b .holders) ++ numberLines (b .numbers) (b .resources) ++ entry (text "end") (text "page")
+    headLines (b .clock) (b .tracks) (b .system) (b .numbers) (length (usedIn (b .programs))) ∷ recordLines (b .programs) ∷ chainLines (a .kept)
+    ∷ heldLines (b .holders) ∷ numberLines (b .numbers) (b .resources) ∷ (line endKey (text "page") ∷ []) ∷ []
+
+unfoldable pub lines : State lists → List Line
+lines a = join (parts a)
+
+unfoldable pub page : State lists → List ℕ
+page a = bytes (lines a)

@@ -1,4 +1,4 @@
-// The words of a page, each in one place: the writer puts them, a reader will compare them.
+// The words of a page, each in one place: the writer puts them, a reader will compare them. The keys are those of specs/Page.antt, in its order.
 pub(crate) const PAGE: [u8; 4] = *b"page";
 
 pub(crate) const RTE2: [u8; 4] = *b"rte2";
@@ -37,13 +37,12 @@ pub(crate) const FOR_LOCK: [u8; 5] = *b"lock:";
 
 pub(crate) const FOR_NUMBER: [u8; 6] = *b"number";
 
-pub(crate) const CHAIN1: [u8; 6] = *b"chain1";
+pub(crate) const CHAIN: [u8; 5] = *b"chain";
 
-pub(crate) const CHAIN3: [u8; 6] = *b"chain3";
+// The states whose chains are shown.
+pub(crate) const CHAINED: [u8; 4] = [1, 3, 5, 6];
 
-pub(crate) const CHAIN5: [u8; 6] = *b"chain5";
-
-pub(crate) const CHAIN6: [u8; 6] = *b"chain6";
+pub(crate) const COMMA: [u8; 1] = *b",";
 
 pub(crate) const HELD: [u8; 4] = *b"held";
 

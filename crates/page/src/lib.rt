@@ -16,12 +16,6 @@ use rules::Answer;
 use tables::Outcome;
 use tables::Tables;
 
-fn wide(x: u16) -> usize
-    ensures { λ r. ⌜ r ≡ x ⌝ }
-{
-    x as usize
-}
-
 // Puts the page at the front.
 fn put_page(buf: &mut [u8], tables: Tables) -> usize
     requires { ⌜ CanPage tables (now buf) ⌝ }
@@ -32,7 +26,6 @@ fn put_page(buf: &mut [u8], tables: Tables) -> usize
     let programs = book.programs;
     let clock = book.clock;
     let tracks = book.tracks;
-    let holders = tracks.holders;
     let numbers = book.numbers;
     let used = sections::count_used(programs);
     let a = lines::put_heading(
@@ -46,8 +39,7 @@ fn put_page(buf: &mut [u8], tables: Tables) -> usize
     );
     let b = sections::put_records(buf, a, programs);
     let c = sections::put_chains(buf, b, links);
-    let count = wide(tracks.count);
-    let d = sections::put_runs(buf, c, &holders[..count]);
+    let d = sections::put_runs(buf, c, tracks);
     let e = sections::put_resources(buf, d, numbers);
     text::put_entry(buf, e, &keys::END, &keys::PAGE)
 }

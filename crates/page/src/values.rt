@@ -1,11 +1,13 @@
 // The values that lines of a page have: a name, a reason, a figure that may be absent, a holder, numbers joined by commas.
 ghost use Prim.Native.Nat.{_+_, _≤_};
-ghost use mathlib.Core.List.{_++_, map};
+ghost use mathlib.Core.List.{[], _∷_, _++_, map};
 ghost use lib.ListN.{length, take};
 ghost use Rattle.records.specs.Names.{bare};
 ghost use Rattle.text.specs.Text.{decimal, between};
 ghost use Rattle.text.specs.Inner.{Wrote};
+ghost use lib.Seq.{slice};
 ghost use Rattle.page.specs.Page.{party, orDash, reason};
+ghost use Rattle.page.specs.Inner.{others};
 use super::keys;
 use records::Numbers;
 use records::Why;
@@ -28,13 +30,21 @@ pub(crate) fn put_name(buf: &mut [u8], at: usize, name: [u8; 5]) -> usize
     o
 }
 
-// A word and a number.
-fn put_coded(buf: &mut [u8], at: usize, word: &[u8], n: u64) -> usize
+// A word and a number; a number and a byte.
+pub(crate) fn put_coded(buf: &mut [u8], at: usize, word: &[u8], n: u64) -> usize
     requires { ⌜ at + length (now word ++ decimal n) ≤ length (now buf) ⌝ }
     ensures { λ r. ⌜ Wrote (now (buf .entry)) at (now (word .entry) ++ decimal n) (now (buf .exit)) r ⌝ }
 {
     let a = text::put_bytes(buf, at, word);
     text::put_number(buf, a, n)
+}
+
+pub(crate) fn put_marked(buf: &mut [u8], at: usize, n: u64, mark: u8) -> usize
+    requires { ⌜ at + length (decimal n ++ (mark ∷ [])) ≤ length (now buf) ⌝ }
+    ensures { λ r. ⌜ Wrote (now (buf .entry)) at (decimal n ++ (mark ∷ [])) (now (buf .exit)) r ⌝ }
+{
+    let a = text::put_number(buf, at, n);
+    text::put_byte(buf, a, mark)
 }
 
 pub(crate) fn put_reason(buf: &mut [u8], at: usize, why: Why) -> usize
@@ -72,6 +82,21 @@ pub(crate) fn put_party(buf: &mut [u8], at: usize, h: u8) -> usize
     text::put_number(buf, at, h as u64)
 }
 
+// The numbers from the second to the one before `len`, a comma before each.
+fn put_others(buf: &mut [u8], at: usize, ids: [u8; 32], len: usize) -> usize
+    requires { ⌜ len ≤ 32 ⌝ }
+    requires { ⌜ at + length (others (slice 1 len ids)) ≤ length (now buf) ⌝ }
+    ensures { λ r. ⌜ Wrote (now (buf .entry)) at (others (slice 1 len ids)) (now (buf .exit)) r ⌝ }
+{
+    let mut o = at;
+    let mut i: usize = 1;
+    while i < len {
+        o = put_coded(buf, o, &keys::COMMA, ids[i] as u64);
+        i += 1;
+    }
+    o
+}
+
 // The first `len` numbers, joined by commas.
 pub(crate) fn put_joined(buf: &mut [u8], at: usize, ids: [u8; 32], len: usize) -> usize
     requires { ⌜ len ≤ 32 ⌝ }
@@ -81,12 +106,6 @@ pub(crate) fn put_joined(buf: &mut [u8], at: usize, ids: [u8; 32], len: usize) -
     if len == 0 {
         return at;
     }
-    let mut o = text::put_number(buf, at, ids[0] as u64);
-    let mut i: usize = 1;
-    while i < len {
-        o = text::put_byte(buf, o, b',');
-        o = text::put_number(buf, o, ids[i] as u64);
-        i += 1;
-    }
-    o
+    let a = text::put_number(buf, at, ids[0] as u64);
+    put_others(buf, a, ids, len)
 }

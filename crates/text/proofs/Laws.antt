@@ -6,7 +6,7 @@ use native.Mathlib.Numerals.{add-one}
 use native.Mathlib.Omega.{arith}
 use mathlib.Core.Path.{_≡_, refl, sym, ap, _∙_}
 use mathlib.Core.Bool.{Bool, true, false}
-use mathlib.Core.List.{List, [], _∷_, _++_}
+use mathlib.Core.List.{List, [], _∷_, _++_, append-assoc}
 use lib.Dec.{ltb}
 use lib.ListN.{length, getD, take, drop, set, length-append, length-set}
 use lib.Seq.{sets, sets-eq, take-at, length-sets, drop-cons}
@@ -51,9 +51,6 @@ left-end h e = left-none (rw e at h)
 pub left-room : {l₀ all l : List ℕ} {at₀ at : ℕ} (x rest : List ℕ) → Left l₀ at₀ all l at (x ++ rest) → at₀ + length all ≤ length l₀ → at + length x ≤ length l
 left-room x rest h room = omega (arith, h .end, h .same, length-append x rest)
 
-pub left-room-last : {l₀ all l : List ℕ} {at₀ at : ℕ} (x : List ℕ) → Left l₀ at₀ all l at x → at₀ + length all ≤ length l₀ → at + length x ≤ length l
-left-room-last x h room = omega (arith, h .end, h .same)
-
 -- a turn of the loop that copies
 pub left-turn : {l₀ l : List ℕ} {at₀ at i : ℕ} (s : List ℕ) → i < length s → Left l₀ at₀ s l at (drop i s)
     → Left l₀ at₀ s (set l at (getD s i 0)) (at + 1) (drop (i + 1) s)
@@ -74,12 +71,35 @@ pub parts-step : {l₀ all l l′ : List ℕ} {at₀ at at′ : ℕ} {x : List �
     → Parts l₀ at₀ all l′ at′ ps
 parts-step {x = x} h w = record { left = left-step x (h .left) w }
 
-pub parts-room : {l₀ all l : List ℕ} {at₀ at : ℕ} {x : List ℕ} {ps : List (List ℕ)} → Parts l₀ at₀ all l at (x ∷ ps) → at₀ + length all ≤ length l₀
-    → at + length x ≤ length l
-parts-room {x = x} {ps = ps} h room = left-room x (join ps) (h .left) room
-
 pub parts-end : {l₀ all l : List ℕ} {at₀ at : ℕ} → Parts l₀ at₀ all l at [] → Wrote l₀ at₀ all l at
 parts-end h = left-none (h .left)
+
+-- and with room for all of it: then there is room for the piece that stands first
+pub record Todo (l₀ : List ℕ) (at₀ : ℕ) (all : List ℕ) (l : List ℕ) (at : ℕ) (ps : List (List ℕ)) : Type 0 where
+  pub parts : Parts l₀ at₀ all l at ps
+  pub room : at₀ + length all ≤ length l₀
+
+pub todo-start : {l all : List ℕ} {at : ℕ} (ps : List (List ℕ)) → all ≡ join ps → at + length all ≤ length l → Todo l at all l at ps
+todo-start ps e room = rw e (record { parts = parts-start ps; room = rw e at room })
+
+pub todo-as : {l₀ all l : List ℕ} {at₀ at : ℕ} {ps qs : List (List ℕ)} → ps ≡ qs → Todo l₀ at₀ all l at ps → Todo l₀ at₀ all l at qs
+todo-as e h = rw e at h
+
+pub todo-at : {l₀ all l l′ : List ℕ} {at₀ at at′ : ℕ} {ps : List (List ℕ)} → l′ ≡ l → at′ ≡ at → Todo l₀ at₀ all l at ps → Todo l₀ at₀ all l′ at′ ps
+todo-at e f h = rw (e, f) h
+
+pub todo-step : {l₀ all l l′ : List ℕ} {at₀ at at′ : ℕ} {x : List ℕ} {ps : List (List ℕ)} → Todo l₀ at₀ all l at (x ∷ ps) → Wrote l at x l′ at′
+    → Todo l₀ at₀ all l′ at′ ps
+todo-step h w = record { parts = parts-step (h .parts) w; room = h .room }
+
+pub todo-room : {l₀ all l : List ℕ} {at₀ at : ℕ} {x : List ℕ} {ps : List (List ℕ)} → Todo l₀ at₀ all l at (x ∷ ps) → at + length x ≤ length l
+todo-room {x = x} {ps = ps} h = left-room x (join ps) (h .parts .left) (h .room)
+
+pub todo-end : {l₀ all l : List ℕ} {at₀ at : ℕ} → Todo l₀ at₀ all l at [] → Wrote l₀ at₀ all l at
+todo-end h = parts-end (h .parts)
+
+pub todo-same : {l₀ all l : List ℕ} {at₀ at : ℕ} {ps : List (List ℕ)} → Todo l₀ at₀ all l at ps → length l ≡ length l₀
+todo-same h = h .parts .left .same
 
 -- whole writes: none, two one after the other, one at the front
 pub wrote-none : {l : List ℕ} {at : ℕ} → Wrote l at [] l at
@@ -179,15 +199,22 @@ pub decimal-pos : (n : ℕ) → 0 < length (decimal n)
 unfolding decimal
 decimal-pos n = digits-pos 19 n
 
--- an entry: its length, and the four writes that make it
+-- an entry: its length, and the three writes that make it
 pub entry-length : (key value : List ℕ) → length (entry key value) ≡ length key + length value + 2
 unfolding entry
 entry-length key value = omega (arith, length-append key (61 ∷ (value ++ (10 ∷ []))), length-append value (10 ∷ []))
 
-pub entry-most : (key : List ℕ) (n : ℕ) → length (entry key (decimal n)) ≤ length key + 22
-entry-most key n = omega (arith, entry-length key (decimal n), decimal-most n)
-
-pub entry-wrote : {l₀ l₁ l₂ l₃ l₄ key value : List ℕ} {at₀ at₁ at₂ at₃ at₄ : ℕ} → Wrote l₀ at₀ key l₁ at₁ → Wrote l₁ at₁ (61 ∷ []) l₂ at₂ → Wrote l₂ at₂ value l₃ at₃
-    → Wrote l₃ at₃ (10 ∷ []) l₄ at₄ → Wrote l₀ at₀ (entry key value) l₄ at₄
+pub entry-wrote : {l₀ l₁ l₂ l₃ value : List ℕ} {at₀ at₁ at₂ at₃ : ℕ} (key : List ℕ) → Wrote l₀ at₀ (key ++ (61 ∷ [])) l₁ at₁ → Wrote l₁ at₁ value l₂ at₂
+    → Wrote l₂ at₂ (10 ∷ []) l₃ at₃ → Wrote l₀ at₀ (entry key value) l₃ at₃
 unfolding entry
-entry-wrote {key = key} {value = value} a b c d = wrote-then key (61 ∷ (value ++ (10 ∷ []))) a (wrote-then (61 ∷ []) (value ++ (10 ∷ [])) b (wrote-then value (10 ∷ []) c d))
+entry-wrote {value = value} key a b c =
+    rw (← append-assoc key (61 ∷ []) (value ++ (10 ∷ []))) (wrote-then (key ++ (61 ∷ [])) (value ++ (10 ∷ [])) a (wrote-then value (10 ∷ []) b c))
+
+-- room for its value, and for its end
+pub value-room : {l₀ l₁ : List ℕ} {at₀ at₁ : ℕ} (key value : List ℕ) → Wrote l₀ at₀ (key ++ (61 ∷ [])) l₁ at₁ → at₀ + length (entry key value) ≤ length l₀
+    → at₁ + length value ≤ length l₁
+value-room key value w h = omega (arith, entry-length key value, w .place, wrote-length w, length-append key (61 ∷ []))
+
+pub end-room : {l₀ l₁ l₂ value : List ℕ} {at₀ at₁ at₂ : ℕ} (key : List ℕ) → Wrote l₀ at₀ (key ++ (61 ∷ [])) l₁ at₁ → Wrote l₁ at₁ value l₂ at₂
+    → at₀ + length (entry key value) ≤ length l₀ → at₂ + 1 ≤ length l₂
+end-room {value = value} key v w h = omega (arith, value-room key value v h, entry-length key value, v .place, w .place, wrote-length v, wrote-length w, length-append key (61 ∷ []))

@@ -3,12 +3,12 @@
 use Prim.Native.Nat.{ℕ, zero, suc, _+_, _-_, _*_, _/_, _%_}
 use Prim.Native.Char.{code}
 use Prim.Native.String.{String}
-use mathlib.Core.Bool.{Bool, true, false, cond, not, _&&_, _||_}
+use mathlib.Core.Bool.{true, false, cond, not, _&&_, _||_}
 use mathlib.Core.List.{List, [], _∷_, _++_}
 use mathlib.Core.Option.{Option, none, some}
 use lib.ListN.{length, getD}
-use lib.Dec.{leb, ltb, eqb}
-use Rattle.lists.specs.Lists.{upTo, every}
+use lib.Dec.{ltb, eqb}
+use Rattle.lists.specs.Lists.{upTo}
 
 -- the bytes of a quoted text
 abbrev pub text : String → List ℕ

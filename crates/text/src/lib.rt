@@ -1,6 +1,6 @@
 // Text as bytes: put at a place of a lent buffer, and read: fields, words and numbers.
 ghost use mathlib.Core.Path.{_≡_};
-ghost use mathlib.Core.List.{[], _∷_};
+ghost use mathlib.Core.List.{[], _∷_, _++_};
 ghost use Prim.Native.Nat.{_+_, _≤_};
 ghost use lib.ListN.{length};
 ghost use lib.Seq.{slice};
@@ -44,15 +44,23 @@ pub fn put_number(buf: &mut [u8], at: usize, n: u64) -> usize
     }
 }
 
+// The beginning of a line: a key, and `=`.
+pub fn put_key(buf: &mut [u8], at: usize, key: &[u8]) -> usize
+    requires { ⌜ at + length (now key) + 1 ≤ length (now buf) ⌝ }
+    ensures { λ r. ⌜ Wrote (now (buf .entry)) at (now (key .entry) ++ (61 ∷ [])) (now (buf .exit)) r ⌝ }
+{
+    let a = put_bytes(buf, at, key);
+    put_byte(buf, a, b'=')
+}
+
 // The line key=value.
 pub fn put_entry(buf: &mut [u8], at: usize, key: &[u8], value: &[u8]) -> usize
     requires { ⌜ at + length (entry (now key) (now value)) ≤ length (now buf) ⌝ }
     ensures { λ r. ⌜ Wrote (now (buf .entry)) at (entry (now (key .entry)) (now (value .entry))) (now (buf .exit)) r ⌝ }
 {
-    let a = put_bytes(buf, at, key);
-    let b = put_byte(buf, a, b'=');
-    let c = put_bytes(buf, b, value);
-    put_byte(buf, c, 10)
+    let a = put_key(buf, at, key);
+    let b = put_bytes(buf, a, value);
+    put_byte(buf, b, 10)
 }
 
 // The line key=n.
@@ -60,10 +68,9 @@ pub fn put_figure(buf: &mut [u8], at: usize, key: &[u8], n: u64) -> usize
     requires { ⌜ at + length (entry (now key) (decimal n)) ≤ length (now buf) ⌝ }
     ensures { λ r. ⌜ Wrote (now (buf .entry)) at (entry (now (key .entry)) (decimal n)) (now (buf .exit)) r ⌝ }
 {
-    let a = put_bytes(buf, at, key);
-    let b = put_byte(buf, a, b'=');
-    let c = put_number(buf, b, n);
-    put_byte(buf, c, 10)
+    let a = put_key(buf, at, key);
+    let b = put_number(buf, a, n);
+    put_byte(buf, b, 10)
 }
 
 // Where the part that begins at `from` ends: the place of the next byte d, or the length.

@@ -1,4 +1,7 @@
 // The disc tracks: who holds each.
+mod held;
+
+pub use held::Run;
 ghost use Prim.Native.Nat.{_-_};
 ghost use mathlib.Core.Path.{_≡_};
 ghost use mathlib.Core.List.{_++_};

@@ -20,9 +20,6 @@ use Rattle.page.proofs.Lending.{can-page, handed-unsound, handed-short,
 use Rattle.page.proofs.write_page.Statement.{statement}
 use Rattle.page.proofs.write_page.Tie as tie
 
-is-sound-requires : tie.Need-is-sound-requires
-is-sound-requires c κs = search needs
-
 arrays : (s : tie.Start) → Arrays (s .args .tables)
 arrays s = record {
   programs = sym (length-map (s .args .tables .ledger .programs) (program.the-field .into)) ∙ s .good .0 .1 .1 .0 .1 .1 .0 .1 .0 .1;
@@ -37,12 +34,6 @@ unsound c = sym (c .before .is-sound .ensures) ∙ not-true (c .before .is-sound
 approved : (c : tie.Else1) → sound (c .before .before .before .args .tables) ≡ true
 approved c = sym (c .before .is-sound .ensures) ∙ not-false (c .before .is-sound .result) (c .if1 .left)
 
-returns : tie.Need-returns
-returns c = let s = c .before .before .before in handed-unsound (s .args .tables) (s .args .buf .now) (unsound c)
-
-slice-aggregate-put-page : tie.Need-slice-aggregate-put-page
-slice-aggregate-put-page c = search needs
-
 -- the space is room for the page, and the page is what it begins with
 fits : (c : tie.After-space) → CanPage (c .before .before .before .before .args .tables) (replicate {A = ℕ} 8192 0)
 fits c =
@@ -55,31 +46,17 @@ within c = omega (arith, c .put-page .ensures .place, wrote-length (c .put-page 
 begins : (c : tie.After-put-page) → take (c .put-page .result) (c .put-page .last .0) ≡ page (plain (c .before .before .before .before .before .args .tables))
 begins c = wrote-take (c .put-page .ensures) (fits (c .before) .room)
 
-put-page-requires : tie.Need-put-page-requires
-put-page-requires c κs = fits c
-
 returns-2 : tie.Need-returns-2
 returns-2 c =
     let p = c .before .before in
     let s = p .before .before .before .before .before in
     handed-short (s .args .tables) (s .args .buf .now) (p .put-page .result) (approved (p .before .before)) (p .put-page .ensures .place) (omega (arith, c .if2 .taken))
 
-array-share-prefix-space : tie.Need-array-share-prefix-space
-array-share-prefix-space c = within (c .before .before .before)
-
-slice-aggregate-put-bytes : tie.Need-slice-aggregate-put-bytes
-slice-aggregate-put-bytes c =
-    let p = c .before .before .before .before in
-    sym (length-take-le (p .put-page .result) (p .put-page .last .0) (within p))
-
 put-bytes-requires : tie.Need-put-bytes-requires
 put-bytes-requires c κs =
     let e = c .before .before in
     let p = e .before .before in
     omega (arith, length-take-le (p .put-page .result) (p .put-page .last .0) (within p), e .if2 .left)
-
-same-length : tie.Need-same-length
-same-length c = wrote-length (c .before .before .put-bytes .ensures)
 
 returns-3 : tie.Need-returns-3
 returns-3 c =
@@ -94,13 +71,13 @@ pub write-page-spec : {M : Type 1} → statement M
 write-page-spec =
     tie.close
     (tie.spec
-    is-sound-requires
-    returns
-    slice-aggregate-put-page
-    put-page-requires
+    (λ c κs. search needs)
+    (λ c. let s = c .before .before .before in handed-unsound (s .args .tables) (s .args .buf .now) (unsound c))
+    (λ c. search needs)
+    (λ c κs. fits c)
     returns-2
-    array-share-prefix-space
-    slice-aggregate-put-bytes
+    (λ c. within (c .before .before .before))
+    (λ c. let p = c .before .before .before .before in sym (length-take-le (p .put-page .result) (p .put-page .last .0) (within p)))
     put-bytes-requires
-    same-length
+    (λ c. wrote-length (c .before .before .put-bytes .ensures))
     returns-3)

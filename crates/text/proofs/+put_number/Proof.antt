@@ -1,12 +1,12 @@
 -- `text::put_number` meets its contract. It calls itself at n / 10, so the measure is n. Assumes nothing.
-use mathlib.Core.Path.{ap}
+use mathlib.Core.Path.{_≡_, ap, _∙_}
 use mathlib.Core.List.{[], _∷_}
-use Prim.Native.Nat.{ℕ, _+_, _/_, _%_, _<_}
+use Prim.Native.Nat.{ℕ, _+_, _/_, _%_, _<_, _≤_}
 use native.Mathlib.Omega.{arith}
 use borrow.Author.Needs.{needs}
 use lib.ListN.{length, length-append}
 use Rattle.text.specs.Text.{decimal}
-use Rattle.text.proofs.Laws.{wrote-then, decimal-small, decimal-step}
+use Rattle.text.proofs.Laws.{ten, wrote-then, decimal-small, decimal-step}
 use borrow.Fn.Kinds.{In}
 use borrow.Fn.PlainCycle.{Measures, is, falls, and}
 use Rattle.text.proofs.put_number.Reads as put-number
@@ -27,103 +27,9 @@ abbrev put-number-below : ℕ → In 1 put-number-kinds.ps
 put-number-below t =
     and 1 put-number-kinds.ps (falls 1 put-number-kinds.ps _<_ μ-put-number t) put-number.Pre
 
-put-number-cast-put-byte : (t : ℕ) → put-number-lts.Need-cast-put-byte (
-  put-byte-reads.Asked,
-  put-byte-reads.Learnt,
-  put-number-below t,
-  put-number.Post,
-) (put-number-at t) put-number.Post
-put-number-cast-put-byte t c = search needs
-
-put-number-add-put-byte : (t : ℕ) → put-number-lts.Need-add-put-byte (
-  put-byte-reads.Asked,
-  put-byte-reads.Learnt,
-  put-number-below t,
-  put-number.Post,
-) (put-number-at t) put-number.Post
-put-number-add-put-byte t c = search needs
-
-put-number-put-byte-requires : (t : ℕ) → put-number-lts.Need-put-byte-requires (
-  put-byte-reads.Asked,
-  put-byte-reads.Learnt,
-  put-number-below t,
-  put-number.Post,
-) (put-number-at t) put-number.Post
-put-number-put-byte-requires t c κs =
-    let n = c .before .before .before .args .n in
-    omega (arith, ap length (decimal-small n (c .before .if1 .taken)))
-
-put-number-put-number-requires : (t : ℕ) → put-number-lts.Need-put-number-requires (
-  put-byte-reads.Asked,
-  put-byte-reads.Learnt,
-  put-number-below t,
-  put-number.Post,
-) (put-number-at t) put-number.Post
-put-number-put-number-requires t c κs =
-    let n = c .before .before .before .args .n in
-    omega (arith, ap length (decimal-step n (c .before .if1 .left) (omega arith)), length-append (decimal (n / 10)) ((48 + n % 10) ∷ []))
-
-put-number-cast-put-byte-2 : (t : ℕ) → put-number-lts.Need-cast-put-byte-2 (
-  put-byte-reads.Asked,
-  put-byte-reads.Learnt,
-  put-number-below t,
-  put-number.Post,
-) (put-number-at t) put-number.Post
-put-number-cast-put-byte-2 t c = search needs
-
-put-number-add-put-byte-2 : (t : ℕ) → put-number-lts.Need-add-put-byte-2 (
-  put-byte-reads.Asked,
-  put-byte-reads.Learnt,
-  put-number-below t,
-  put-number.Post,
-) (put-number-at t) put-number.Post
-put-number-add-put-byte-2 t c = search needs
-
-put-number-put-byte-requires-2 : (t : ℕ) → put-number-lts.Need-put-byte-requires-2 (
-  put-byte-reads.Asked,
-  put-byte-reads.Learnt,
-  put-number-below t,
-  put-number.Post,
-) (put-number-at t) put-number.Post
-put-number-put-byte-requires-2 t c κs =
-    let n = c .before .before .before .before .before .before .before .args .n in
-    omega (arith, ap length (decimal-step n (c .before .before .before .before .before .if1 .left) (omega arith)), length-append (decimal (n / 10)) ((48 + n % 10) ∷ []))
-
-put-number-same-length : (t : ℕ) → put-number-lts.Need-same-length (
-  put-byte-reads.Asked,
-  put-byte-reads.Learnt,
-  put-number-below t,
-  put-number.Post,
-) (put-number-at t) put-number.Post
-put-number-same-length t c = search needs
-
-put-number-returns : (t : ℕ) → put-number-lts.Need-returns (
-  put-byte-reads.Asked,
-  put-byte-reads.Learnt,
-  put-number-below t,
-  put-number.Post,
-) (put-number-at t) put-number.Post
-put-number-returns t c = rw (decimal-small _ (c .before .before .before .before .if1 .taken)) (c .before .before .put-byte .ensures)
-
-put-number-same-length-2 : (t : ℕ) → put-number-lts.Need-same-length-2 (
-  put-byte-reads.Asked,
-  put-byte-reads.Learnt,
-  put-number-below t,
-  put-number.Post,
-) (put-number-at t) put-number.Post
-put-number-same-length-2 t c = search needs
-
-put-number-returns-2 : (t : ℕ) → put-number-lts.Need-returns-2 (
-  put-byte-reads.Asked,
-  put-byte-reads.Learnt,
-  put-number-below t,
-  put-number.Post,
-) (put-number-at t) put-number.Post
-put-number-returns-2 t c =
-    let s = c .before .before .before .before .before .before .before .before .before .before in
-    let n = s .args .n in
-    rw (decimal-step n (c .before .before .before .before .before .before .before .before .if1 .left) (omega (arith, s .fits .n)))
-    (wrote-then (decimal (n / 10)) ((48 + n % 10) ∷ []) (c .before .before .before .before .before .before .put-number .ensures) (c .before .before .put-byte2 .ensures))
+-- a number of more than one digit has one more than its tenth
+longer : (n : ℕ) → 10 ≤ n → n < ten 20 → length (decimal n) ≡ length (decimal (n / 10)) + 1
+longer n h b = ap length (decimal-step n h b) ∙ length-append (decimal (n / 10)) ((48 + n % 10) ∷ [])
 
 pub +put-number-spec : {M : Type 1} → statement M
 +put-number-spec = close μ-put-number λ t. put-number-lts.spec (
@@ -134,14 +40,19 @@ pub +put-number-spec : {M : Type 1} → statement M
 )
     (put-number-at t)
     put-number.Post
-    (put-number-cast-put-byte t)
-    (put-number-add-put-byte t)
-    (put-number-put-byte-requires t)
-    (put-number-put-number-requires t)
-    (put-number-cast-put-byte-2 t)
-    (put-number-add-put-byte-2 t)
-    (put-number-put-byte-requires-2 t)
-    (put-number-same-length t)
-    (put-number-returns t)
-    (put-number-same-length-2 t)
-    (put-number-returns-2 t)
+    (λ c. search needs)
+    (λ c. search needs)
+    (λ c κs. omega (arith, ap length (decimal-small (c .before .before .before .args .n) (c .before .if1 .taken))))
+    (λ c κs. omega (arith, longer (c .before .before .before .args .n) (c .before .if1 .left) (omega arith)))
+    (λ c. search needs)
+    (λ c. search needs)
+    (λ c κs. let e = c .before .before .before .before .before in omega (arith, longer (e .before .before .args .n) (e .if1 .left) (omega arith)))
+    (λ c. search needs)
+    (λ c. rw (decimal-small _ (c .before .before .before .before .if1 .taken)) (c .before .before .put-byte .ensures))
+    (λ c. search needs)
+    (λ c.
+    let m = c .before .before .before .before .before .before in
+    let s = m .before .before .before .before in
+    let n = s .args .n in
+    rw (decimal-step n (m .before .before .if1 .left) (omega (arith, s .fits .n)))
+    (wrote-then (decimal (n / 10)) ((48 + n % 10) ∷ []) (m .put-number .ensures) (c .before .before .put-byte2 .ensures)))

@@ -1,113 +1,58 @@
--- `lines::put_heading` meets its contract: its six lines one after the other, and the room is their length together. Assumes nothing.
-use native.Mathlib.Omega.{arith}
+-- `lines::put_heading` meets its contract: after each call the lines from the next on are left. Assumes nothing.
+use Prim.Native.Nat.{ℕ}
 use borrow.Author.Needs.{needs}
-use Rattle.text.proofs.Laws.{wrote-then, wrote-length}
-use Rattle.page.specs.Page.{headLines}
-use Rattle.page.proofs.Writing.{heading-length}
+use mathlib.Core.List.{List, map}
+use lib.ListN.{drop}
+use Rattle.text.proofs.Laws.{Todo, todo-start, todo-step, todo-room, todo-end, todo-same}
+use Rattle.page.specs.Page.{Line, bytesOf, bytes, headLines}
+use Rattle.page.proofs.Writing.{bytes-lines}
 use Rattle.page.proofs.lines.put_heading.Statement.{statement}
 use Rattle.page.proofs.lines.put_heading.Tie as tie
 
--- where the writes began
-abbrev past-page : tie.After-put-entry → tie.Start
-past-page c = c .before .before .before .before .before
+abbrev head : tie.Start → List Line
+head s = headLines (s .args .clock) (s .args .tracks) (s .args .system) (s .args .numbers) (s .args .programs)
 
-abbrev past-clock : tie.After-put-figure → tie.Start
-past-clock c = past-page (c .before .before .before .before .before)
+-- the lines from k on are left
+abbrev From : ℕ → List ℕ → ℕ → Type 0
+From k l at = (s : tie.Start) × Todo (s .args .buf .now) (s .args .at) (bytes (head s)) l at (drop k (map bytesOf (head s)))
 
-abbrev past-tracks : tie.After-put-figure2 → tie.Start
-past-tracks c = past-clock (c .before .before .before .before .before)
+abbrev after-0 : (s : tie.Start) → From 0 (s .args .buf .now) (s .args .at)
+after-0 s = (s, todo-start (map bytesOf (head s)) (bytes-lines (head s)) (s .pre))
 
-abbrev past-system : tie.After-put-figure3 → tie.Start
-past-system c = past-tracks (c .before .before .before .before .before)
+abbrev after-1 : (c : tie.After-put-entry) → From 1 (c .put-entry .last .0) (c .put-entry .result)
+after-1 c = let d = after-0 (c .before .before .before .before .before) in (d .0, todo-step (d .1) (c .put-entry .ensures))
 
-abbrev past-numbers : tie.After-put-figure4 → tie.Start
-past-numbers c = past-system (c .before .before .before .before .before)
+abbrev after-2 : (c : tie.After-put-figure) → From 2 (c .put-figure .last .0) (c .put-figure .result)
+after-2 c = let d = after-1 (c .before .before .before .before .before) in (d .0, todo-step (d .1) (c .put-figure .ensures))
 
-slice-aggregate-put-entry : tie.Need-slice-aggregate-put-entry
-slice-aggregate-put-entry c = search needs
+abbrev after-3 : (c : tie.After-put-figure2) → From 3 (c .put-figure2 .last .0) (c .put-figure2 .result)
+after-3 c = let d = after-2 (c .before .before .before .before .before) in (d .0, todo-step (d .1) (c .put-figure2 .ensures))
 
-slice-aggregate-put-entry-2 : tie.Need-slice-aggregate-put-entry-2
-slice-aggregate-put-entry-2 c = search needs
+abbrev after-4 : (c : tie.After-put-figure3) → From 4 (c .put-figure3 .last .0) (c .put-figure3 .result)
+after-4 c = let d = after-3 (c .before .before .before .before .before) in (d .0, todo-step (d .1) (c .put-figure3 .ensures))
 
-put-entry-requires : tie.Need-put-entry-requires
-put-entry-requires c κs =
-    let s = c .before .before .before .before .args in
-    omega (arith, heading-length (s .clock) (s .tracks) (s .system) (s .numbers) (s .programs))
+abbrev after-5 : (c : tie.After-put-figure4) → From 5 (c .put-figure4 .last .0) (c .put-figure4 .result)
+after-5 c = let d = after-4 (c .before .before .before .before .before) in (d .0, todo-step (d .1) (c .put-figure4 .ensures))
 
-slice-aggregate-put-figure : tie.Need-slice-aggregate-put-figure
-slice-aggregate-put-figure c = search needs
-
-put-figure-requires : tie.Need-put-figure-requires
-put-figure-requires c κs =
-    let s = past-page (c .before .before .before .before) .args in
-    omega (arith, heading-length (s .clock) (s .tracks) (s .system) (s .numbers) (s .programs))
-
-slice-aggregate-put-figure-2 : tie.Need-slice-aggregate-put-figure-2
-slice-aggregate-put-figure-2 c = search needs
-
-put-figure-requires-2 : tie.Need-put-figure-requires-2
-put-figure-requires-2 c κs =
-    let s = past-clock (c .before .before .before .before) .args in
-    omega (arith, heading-length (s .clock) (s .tracks) (s .system) (s .numbers) (s .programs))
-
-slice-aggregate-put-figure-3 : tie.Need-slice-aggregate-put-figure-3
-slice-aggregate-put-figure-3 c = search needs
-
-put-figure-requires-3 : tie.Need-put-figure-requires-3
-put-figure-requires-3 c κs =
-    let s = past-tracks (c .before .before .before .before) .args in
-    omega (arith, heading-length (s .clock) (s .tracks) (s .system) (s .numbers) (s .programs))
-
-slice-aggregate-put-figure-4 : tie.Need-slice-aggregate-put-figure-4
-slice-aggregate-put-figure-4 c = search needs
-
-put-figure-requires-4 : tie.Need-put-figure-requires-4
-put-figure-requires-4 c κs =
-    let s = past-system (c .before .before .before .before) .args in
-    omega (arith, heading-length (s .clock) (s .tracks) (s .system) (s .numbers) (s .programs))
-
-slice-aggregate-put-figure-5 : tie.Need-slice-aggregate-put-figure-5
-slice-aggregate-put-figure-5 c = search needs
-
-put-figure-requires-5 : tie.Need-put-figure-requires-5
-put-figure-requires-5 c κs =
-    let s = past-numbers (c .before .before .before .before) .args in
-    omega (arith, heading-length (s .clock) (s .tracks) (s .system) (s .numbers) (s .programs))
-
-returns : tie.Need-returns
-unfolding headLines
-returns c =
-    let programs = c .before .before in
-    let numbers = programs .before .before .before .before .before in
-    let system = numbers .before .before .before .before .before in
-    let tracks = system .before .before .before .before .before in
-    let clock = tracks .before .before .before .before .before in
-    let page = clock .before .before .before .before .before in
-    let two = wrote-then _ _ (page .put-entry .ensures) (clock .put-figure .ensures) in
-    let three = wrote-then _ _ two (tracks .put-figure2 .ensures) in
-    let four = wrote-then _ _ three (system .put-figure3 .ensures) in
-    let five = wrote-then _ _ four (numbers .put-figure4 .ensures) in
-    wrote-then _ _ five (programs .put-figure5 .ensures)
-
-same-length : tie.Need-same-length
-same-length c = wrote-length (returns c)
+abbrev after-6 : (c : tie.After-put-figure5) → From 6 (c .put-figure5 .last .0) (c .put-figure5 .result)
+after-6 c = let d = after-5 (c .before .before .before .before .before) in (d .0, todo-step (d .1) (c .put-figure5 .ensures))
 
 pub put-heading-spec : {M : Type 1} → statement M
 put-heading-spec =
     tie.close
     (tie.spec
-    slice-aggregate-put-entry
-    slice-aggregate-put-entry-2
-    put-entry-requires
-    slice-aggregate-put-figure
-    put-figure-requires
-    slice-aggregate-put-figure-2
-    put-figure-requires-2
-    slice-aggregate-put-figure-3
-    put-figure-requires-3
-    slice-aggregate-put-figure-4
-    put-figure-requires-4
-    slice-aggregate-put-figure-5
-    put-figure-requires-5
-    same-length
-    returns)
+    (λ c. search needs)
+    (λ c. search needs)
+    (λ c κs. todo-room (after-0 (c .before .before .before .before) .1))
+    (λ c. search needs)
+    (λ c κs. todo-room (after-1 (c .before .before .before .before) .1))
+    (λ c. search needs)
+    (λ c κs. todo-room (after-2 (c .before .before .before .before) .1))
+    (λ c. search needs)
+    (λ c κs. todo-room (after-3 (c .before .before .before .before) .1))
+    (λ c. search needs)
+    (λ c κs. todo-room (after-4 (c .before .before .before .before) .1))
+    (λ c. search needs)
+    (λ c κs. todo-room (after-5 (c .before .before .before .before) .1))
+    (λ c. todo-same (after-6 (c .before .before) .1))
+    (λ c. todo-end (after-6 (c .before .before) .1)))

@@ -1,135 +1,55 @@
--- `lines::put_resource` meets its contract. Past its test its writes are the line (`three-open`, `entry-close`), and the room is the line's length.
--- Assumes nothing.
+-- `lines::put_resource` meets its contract: past its test there is a line, and after each call its pieces from the next on are left. Assumes nothing.
+use Prim.Native.Nat.{ℕ}
 use native.Mathlib.Omega.{arith}
 use borrow.Author.Needs.{needs}
-use mathlib.Core.Path.{_≡_, ap, _∙_}
-use mathlib.Core.List.{_∷_, _++_}
-use lib.Dec.{ltb}
-use lib.ListN.{length}
-use Prim.Native.Nat.{_+_}
-use Rattle.text.specs.Text.{text, decimal, entry}
-use Rattle.text.specs.Inner.{Wrote}
-use Rattle.text.proofs.Laws.{wrote-length, wrote-none}
-use Rattle.page.specs.Page.{party, orDash, numberLine}
-use Rattle.page.proofs.Writing.{wrote-as, three-length, three-open, entry-close, entry-room, numberValue, number-none, number-some}
+use mathlib.Core.List.{List}
+use lib.ListN.{drop}
+use Rattle.text.proofs.Laws.{Todo, todo-start, todo-step, todo-room, todo-end, todo-same, wrote-none}
+use Rattle.page.specs.Page.{bytes, numberLine}
+use Rattle.page.proofs.Writing.{wrote-as, numberPieces, number-none, number-some}
 use Rattle.page.proofs.lines.put_resource.Statement.{statement}
 use Rattle.page.proofs.lines.put_resource.Tie as tie
 
--- the test before the writes
-abbrev past-key : tie.After-put-bytes → tie.Else1
-past-key c = c .before .before .before
+-- the pieces from k on are left
+abbrev From : ℕ → List ℕ → ℕ → Type 0
+From k l at =
+    (s : tie.Start) × Todo (s .args .buf .now) (s .args .at) (bytes (numberLine (s .args .number) (s .args .x))) l at (drop k (numberPieces (s .args .number) (s .args .x)))
 
-abbrev past-equals : tie.After-put-byte → tie.Else1
-past-equals c = past-key (c .before .before .before .before)
+abbrev after-0 : (c : tie.Else1) → let s = c .before .before .before in From 0 (s .args .buf .now) (s .args .at)
+after-0 c =
+    let s = c .before .before .before in
+    (s, todo-start (numberPieces (s .args .number) (s .args .x)) (number-some (s .args .number) (s .args .x) (c .if1 .left)) (s .pre))
 
-abbrev past-number : tie.After-put-number → tie.Else1
-past-number c = past-equals (c .before .before .before .before)
+abbrev after-1 : (c : tie.After-put-key) → From 1 (c .put-key .last .0) (c .put-key .result)
+after-1 c = let d = after-0 (c .before .before .before) in (d .0, todo-step (d .1) (c .put-key .ensures))
 
-abbrev past-colon : tie.After-put-byte2 → tie.Else1
-past-colon c = past-number (c .before .before .before .before)
+abbrev after-2 : (c : tie.After-put-marked) → From 2 (c .put-marked .last .0) (c .put-marked .result)
+after-2 c = let d = after-1 (c .before .before .before .before) in (d .0, todo-step (d .1) (c .put-marked .ensures))
 
-abbrev past-owner : tie.After-put-party → tie.Else1
-past-owner c = past-colon (c .before .before .before .before)
+abbrev after-3 : (c : tie.After-put-party) → From 3 (c .put-party .last .0) (c .put-party .result)
+after-3 c = let d = after-2 (c .before .before .before .before) in (d .0, todo-step (d .1) (c .put-party .ensures))
 
-abbrev past-colon2 : tie.After-put-byte3 → tie.Else1
-past-colon2 c = past-owner (c .before .before .before .before)
+abbrev after-4 : (c : tie.After-put-byte) → From 4 (c .put-byte .last .0) (c .put-byte .result)
+after-4 c = let d = after-3 (c .before .before .before .before) in (d .0, todo-step (d .1) (c .put-byte .ensures))
 
-abbrev past-lock : tie.After-put-or-dash → tie.Else1
-past-lock c = past-colon2 (c .before .before .before .before .before .before)
+abbrev after-5 : (c : tie.After-put-or-dash) → From 5 (c .put-or-dash .last .0) (c .put-or-dash .result)
+after-5 c = let d = after-4 (c .before .before .before .before .before .before) in (d .0, todo-step (d .1) (c .put-or-dash .ensures))
 
--- past the test there is a line
-line : (c : tie.Else1)
-    → let s = c .before .before .before .args in
-    numberLine (s .number) (s .x) ≡ entry (text "number") (numberValue (s .number) (s .x))
-line c =
-    let s = c .before .before .before .args in
-    number-some (s .number) (s .x) (c .if1 .left)
-
-line-length : (c : tie.Else1)
-    → let s = c .before .before .before .args in
-    length (numberLine (s .number) (s .x))
-    ≡ length (text "number") + length (decimal (s .number)) + length (party (s .x .owner)) + length (orDash (ltb 0 (s .x .lock)) (s .x .lock)) + 4
-line-length c =
-    let s = c .before .before .before .args in
-    ap length (line c) ∙ three-length (text "number") (decimal (s .number)) 58 (party (s .x .owner)) 58 (orDash (ltb 0 (s .x .lock)) (s .x .lock))
-
--- the line but for its end
-unended : (c : tie.After-put-or-dash)
-    → let s = past-lock c .before .before .before .args in
-    Wrote (s .buf .now) (s .at) (text "number" ++ (61 ∷ numberValue (s .number) (s .x))) (c .put-or-dash .last .0) (c .put-or-dash .result)
-unended c =
-    let colon2 = c .before .before .before .before .before .before in
-    let owner = colon2 .before .before .before .before in
-    let colon = owner .before .before .before .before in
-    let number = colon .before .before .before .before in
-    let equals = number .before .before .before .before in
-    let key = equals .before .before .before .before in
-    three-open
-    (key .put-bytes .ensures) (equals .put-byte .ensures) (number .put-number .ensures) (colon .put-byte2 .ensures)
-    (owner .put-party .ensures) (colon2 .put-byte3 .ensures) (c .put-or-dash .ensures)
-
-returns : tie.Need-returns
-returns c =
-    let s = c .before .before .before .args in
-    wrote-as (number-none (s .number) (s .x) (c .if1 .taken)) wrote-none
-
-slice-aggregate-put-bytes : tie.Need-slice-aggregate-put-bytes
-slice-aggregate-put-bytes c = search needs
-
-put-bytes-requires : tie.Need-put-bytes-requires
-put-bytes-requires c κs = omega (arith, line-length (c .before .before))
-
-put-byte-requires : tie.Need-put-byte-requires
-put-byte-requires c κs = omega (arith, line-length (past-key (c .before .before .before)))
-
-put-number-requires : tie.Need-put-number-requires
-put-number-requires c κs = omega (arith, line-length (past-equals (c .before .before .before)))
-
-put-byte-requires-2 : tie.Need-put-byte-requires-2
-put-byte-requires-2 c κs = omega (arith, line-length (past-number (c .before .before .before)))
-
-put-party-requires : tie.Need-put-party-requires
-put-party-requires c κs = omega (arith, line-length (past-colon (c .before .before .before)))
-
-put-byte-requires-3 : tie.Need-put-byte-requires-3
-put-byte-requires-3 c κs = omega (arith, line-length (past-owner (c .before .before .before)))
-
-cast-put-or-dash : tie.Need-cast-put-or-dash
-cast-put-or-dash c = search needs
-
-put-or-dash-requires : tie.Need-put-or-dash-requires
-put-or-dash-requires c κs = omega (arith, line-length (past-colon2 (c .before .before .before .before .before)))
-
-put-byte-requires-4 : tie.Need-put-byte-requires-4
-put-byte-requires-4 c κs =
-    let w = c .before .before .before in
-    let n = past-lock w in
-    let s = n .before .before .before in
-    entry-room (text "number") (numberValue (s .args .number) (s .args .x)) (unended w) (omega (arith, ap length (line n), s .pre))
-
-returns-2 : tie.Need-returns-2
-returns-2 c =
-    let stop = c .before .before in
-    let w = stop .before .before .before .before in
-    wrote-as (line (past-lock w)) (entry-close _ _ (unended w) (stop .put-byte4 .ensures))
-
-same-length : tie.Need-same-length
-same-length c = wrote-length (returns-2 c)
+abbrev after-6 : (c : tie.After-put-byte2) → From 6 (c .put-byte2 .last .0) (c .put-byte2 .result)
+after-6 c = let d = after-5 (c .before .before .before .before) in (d .0, todo-step (d .1) (c .put-byte2 .ensures))
 
 pub put-resource-spec : {M : Type 1} → statement M
 put-resource-spec =
     tie.close
     (tie.spec
-    returns
-    slice-aggregate-put-bytes
-    put-bytes-requires
-    put-byte-requires
-    put-number-requires
-    put-byte-requires-2
-    put-party-requires
-    put-byte-requires-3
-    cast-put-or-dash
-    put-or-dash-requires
-    put-byte-requires-4
-    same-length
-    returns-2)
+    (λ c. let s = c .before .before .before .args in wrote-as (number-none (s .number) (s .x) (c .if1 .taken)) wrote-none)
+    (λ c. search needs)
+    (λ c κs. omega (arith, todo-room (after-0 (c .before .before) .1)))
+    (λ c κs. todo-room (after-1 (c .before .before .before) .1))
+    (λ c κs. todo-room (after-2 (c .before .before .before) .1))
+    (λ c κs. todo-room (after-3 (c .before .before .before) .1))
+    (λ c. search needs)
+    (λ c κs. todo-room (after-4 (c .before .before .before .before .before) .1))
+    (λ c κs. todo-room (after-5 (c .before .before .before) .1))
+    (λ c. todo-same (after-6 (c .before .before) .1))
+    (λ c. todo-end (after-6 (c .before .before) .1)))

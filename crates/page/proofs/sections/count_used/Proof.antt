@@ -17,24 +17,6 @@ Inv-loop programs n₀ i₀ n i = (i ≤ 32) × (n ≤ i) × (n + length (usedFr
 abbrev μ-loop : tie.MeasureT-loop
 μ-loop programs n₀ i₀ n i = 32 - i
 
-loop-holds : tie.Need-loop-holds Inv-loop μ-loop
-loop-holds c = (omega arith, omega arith, omega (arith, ap length (used-all (c .args .t1))))
-
-mul-r : tie.Need-mul-r Inv-loop μ-loop
-mul-r c = search needs
-
-array-copy-out-r : tie.Need-array-copy-out-r Inv-loop μ-loop
-array-copy-out-r c = search needs
-
-add-n : tie.Need-add-n Inv-loop μ-loop
-add-n c = omega arith
-
-add-i : tie.Need-add-i Inv-loop μ-loop
-add-i c = omega arith
-
-loop-less : tie.Need-loop-less Inv-loop μ-loop
-loop-less c = omega arith
-
 loop-again : tie.Need-loop-again Inv-loop μ-loop
 loop-again c =
     let l = c .before .before .before in
@@ -48,22 +30,17 @@ loop-again c =
           (c .if1 .came),
     )
 
-returns : tie.Need-returns Inv-loop μ-loop
-returns c =
-    let l = c .before in
-    omega (arith, ap length (used-past (l .before .args .t1) (l .loop .i + 1) (omega arith)))
-
 pub count-used-spec : {M : Type 1} → statement M
 count-used-spec =
     tie.close
     (tie.spec
     Inv-loop
     μ-loop
-    loop-holds
-    mul-r
-    array-copy-out-r
-    add-n
-    add-i
-    loop-less
+    (λ c. (omega arith, omega arith, omega (arith, ap length (used-all (c .args .t1)))))
+    (λ c. search needs)
+    (λ c. search needs)
+    (λ c. omega arith)
+    (λ c. omega arith)
+    (λ c. omega arith)
     loop-again
-    returns)
+    (λ c. let l = c .before in omega (arith, ap length (used-past (l .before .args .t1) (l .loop .i + 1) (omega arith)))))

@@ -1,89 +1,62 @@
--- `sections::put_chains` meets its contract: after each call the chains from the next on are left.
+-- `sections::put_chains` meets its contract. The loop's invariant: the lines of the states from the one at i on are left. The measure is the states left.
 -- Assumes nothing.
-use Prim.Native.Nat.{ℕ}
+use Prim.Native.Nat.{ℕ, _+_, _-_, _≤_}
+use native.Mathlib.Omega.{arith}
 use borrow.Author.Needs.{needs}
-use mathlib.Core.List.{List}
-use lib.ListN.{drop}
-use Rattle.text.proofs.Laws.{left-start, Parts, parts-step, parts-room, parts-end}
-use Rattle.chains.specs.Links.{read}
-use Rattle.page.specs.Page.{chainLines}
-use Rattle.page.proofs.Writing.{left-as}
-use Rattle.page.proofs.Paged.{rows, chain-rows}
+use mathlib.Core.Path.{_≡_, sym, ap, _∙_}
+use mathlib.Core.List.{List, _∷_}
+use lib.ListN.{length, getD, take}
+use Rattle.text.proofs.Laws.{Todo, todo-start, todo-as, todo-step, todo-room, todo-end, todo-same}
+use Rattle.chains.specs.Links.{walk, read}
+use Rattle.page.specs.Page.{bytesOf, bytes, chained, chainLine, chainLines}
+use Rattle.page.proofs.Writing.{wrote-as}
+use Rattle.page.proofs.Spans.{chainsFrom, chains-all, chains-here, chains-past}
 use Rattle.page.proofs.sections.put_chains.Statement.{statement}
 use Rattle.page.proofs.sections.put_chains.Tie as tie
 
--- the chains from k on are left
-abbrev From : ℕ → tie.Start → List ℕ → ℕ → Type 0
-From k s l at = Parts (s .args .buf .now) (s .args .at) (chainLines (read (s .args .links))) l at (drop k (rows (s .args .links)))
+abbrev Inv-loop : tie.InvT-loop
+Inv-loop buf₀ at links states o₀ i₀ buf o i = (i ≤ 4) × Todo buf₀ at (bytes (chainLines (read links))) buf o (chainsFrom links i)
 
-abbrev S1 : tie.After-put-chain-of → tie.Start
-S1 c = c .before .before .before .before
+abbrev μ-loop : tie.MeasureT-loop
+μ-loop buf₀ at links states o₀ i₀ buf o i = 4 - i
 
-abbrev S2 : tie.After-put-chain-of2 → tie.Start
-S2 c = S1 (c .before .before .before .before .before)
+-- the state at i, and its line
+abbrev state : tie.In-loop Inv-loop μ-loop → ℕ
+state c = getD chained (c .before .loop .i) 0
 
-abbrev S3 : tie.After-put-chain-of3 → tie.Start
-S3 c = S2 (c .before .before .before .before .before)
+abbrev lineOf : tie.In-loop Inv-loop μ-loop → List ℕ → List ℕ
+lineOf c ids = bytesOf (chainLine (state c) ids)
 
-abbrev S4 : tie.After-put-chain-of4 → tie.Start
-S4 c = S3 (c .before .before .before .before .before)
+here : (c : tie.In-loop Inv-loop μ-loop)
+    → let b = c .before in let s = c .before .before .before .args in
+    Todo (s .buf .now) (s .at) (bytes (chainLines (read (s .links)))) (b .loop .buf) (b .loop .o)
+    (lineOf c (walk (s .links) (state c) 32) ∷ chainsFrom (s .links) (b .loop .i + 1))
+here c = let b = c .before in todo-as (chains-here (c .before .before .before .args .links) (b .loop .i) (omega arith)) (b .loop .inv .1)
 
-after-0 : (s : tie.Start) → From 0 s (s .args .buf .now) (s .args .at)
-after-0 s = record { left = left-as (chain-rows (s .args .links)) left-start }
-
-after-1 : (c : tie.After-put-chain-of) → From 1 (S1 c) (c .put-chain-of .last .0) (c .put-chain-of .result)
-after-1 c = parts-step (after-0 (S1 c)) (c .put-chain-of .ensures)
-
-after-2 : (c : tie.After-put-chain-of2) → From 2 (S2 c) (c .put-chain-of2 .last .0) (c .put-chain-of2 .result)
-after-2 c = parts-step (after-1 (c .before .before .before .before .before)) (c .put-chain-of2 .ensures)
-
-after-3 : (c : tie.After-put-chain-of3) → From 3 (S3 c) (c .put-chain-of3 .last .0) (c .put-chain-of3 .result)
-after-3 c = parts-step (after-2 (c .before .before .before .before .before)) (c .put-chain-of3 .ensures)
-
-after-4 : (c : tie.After-put-chain-of4) → From 4 (S4 c) (c .put-chain-of4 .last .0) (c .put-chain-of4 .result)
-after-4 c = parts-step (after-3 (c .before .before .before .before .before)) (c .put-chain-of4 .ensures)
-
-slice-aggregate-put-chain-of : tie.Need-slice-aggregate-put-chain-of
-slice-aggregate-put-chain-of c = search needs
-
-put-chain-of-requires : tie.Need-put-chain-of-requires
-put-chain-of-requires c κs = let s = c .before .before .before in parts-room (after-0 s) (s .pre)
-
-slice-aggregate-put-chain-of-2 : tie.Need-slice-aggregate-put-chain-of-2
-slice-aggregate-put-chain-of-2 c = search needs
-
-put-chain-of-requires-2 : tie.Need-put-chain-of-requires-2
-put-chain-of-requires-2 c κs = let d = c .before .before .before .before in parts-room (after-1 d) (S1 d .pre)
-
-slice-aggregate-put-chain-of-3 : tie.Need-slice-aggregate-put-chain-of-3
-slice-aggregate-put-chain-of-3 c = search needs
-
-put-chain-of-requires-3 : tie.Need-put-chain-of-requires-3
-put-chain-of-requires-3 c κs = let d = c .before .before .before .before in parts-room (after-2 d) (S2 d .pre)
-
-slice-aggregate-put-chain-of-4 : tie.Need-slice-aggregate-put-chain-of-4
-slice-aggregate-put-chain-of-4 c = search needs
-
-put-chain-of-requires-4 : tie.Need-put-chain-of-requires-4
-put-chain-of-requires-4 c κs = let d = c .before .before .before .before in parts-room (after-3 d) (S3 d .pre)
-
-same-length : tie.Need-same-length
-same-length c = after-4 (c .before .before) .left .same
-
-returns : tie.Need-returns
-returns c = parts-end (after-4 (c .before .before))
+-- the ids listed are the walk from the state's slot
+listed : (c : tie.After-chain-of Inv-loop μ-loop)
+    → let d = c .before .before in let r = c .chain-of .result in
+    lineOf d (walk (c .before .before .before .before .before .args .links) (state d) 32) ≡ lineOf d (take (r .len) (r .ids))
+listed c =
+    let d = c .before .before in
+    ap (lineOf d) (sym (c .chain-of .ensures .some ∙ ap (λ (k : ℕ). walk (c .before .before .before .before .before .args .links) k 32) (c .before .wide .ensures)))
 
 pub put-chains-spec : {M : Type 1} → statement M
 put-chains-spec =
     tie.close
     (tie.spec
-    slice-aggregate-put-chain-of
-    put-chain-of-requires
-    slice-aggregate-put-chain-of-2
-    put-chain-of-requires-2
-    slice-aggregate-put-chain-of-3
-    put-chain-of-requires-3
-    slice-aggregate-put-chain-of-4
-    put-chain-of-requires-4
-    same-length
-    returns)
+    Inv-loop
+    μ-loop
+    (λ c. let s = c .before in (omega arith, todo-start _ (chains-all (s .args .links)) (s .pre)))
+    (λ c. omega arith)
+    (λ c κs. search needs)
+    (λ c κs. search needs)
+    (λ c κs. let f = c .before in (f .chain-of .ensures .most, omega (arith, ap length (listed f), todo-room (here (f .before .before)))))
+    (λ c. omega arith)
+    (λ c. omega arith)
+    (λ c.
+    let p = c .before .before in
+    let f = p .before .before in
+    (omega arith, todo-step (here (f .before .before)) (wrote-as (listed f) (p .put-chain .ensures))))
+    (λ c. todo-same (c .before .loop .inv .1))
+    (λ c. let b = c .before in todo-end (todo-as (chains-past (b .before .before .args .links) (b .loop .i) (omega arith)) (b .loop .inv .1))))

@@ -25,24 +25,6 @@ next c =
     let b = c .before .before in
     left-as (bare-put (b .before .args .t3) (b .loop .i) (omega arith) (c .if1 .taken)) (b .loop .inv .1)
 
-loop-holds : tie.Need-loop-holds Inv-loop μ-loop
-loop-holds c = (omega arith, left-start)
-
-array-read-c : tie.Need-array-read-c Inv-loop μ-loop
-array-read-c c = omega arith
-
-slice-write-buf : tie.Need-slice-write-buf Inv-loop μ-loop
-slice-write-buf c = omega (arith, next c .end, next c .same)
-
-add-o : tie.Need-add-o Inv-loop μ-loop
-add-o c = omega (arith, next c .end, next c .same)
-
-add-i : tie.Need-add-i Inv-loop μ-loop
-add-i c = omega arith
-
-loop-less : tie.Need-loop-less Inv-loop μ-loop
-loop-less c = omega arith
-
 loop-again : tie.Need-loop-again Inv-loop μ-loop
 loop-again c =
     let b = c .before .before in (
@@ -53,26 +35,18 @@ loop-again c =
           (c .if1 .came),
     )
 
-same-length : tie.Need-same-length Inv-loop μ-loop
-same-length c = c .before .loop .inv .1 .same
-
-returns : tie.Need-returns Inv-loop μ-loop
-returns c =
-    let b = c .before in
-    left-end (b .loop .inv .1) (ap bare (drop-of-length-le (b .before .args .t3) {i = b .loop .i} (omega arith)))
-
 pub put-name-spec : {M : Type 1} → statement M
 put-name-spec =
     tie.close
     (tie.spec
     Inv-loop
     μ-loop
-    loop-holds
-    array-read-c
-    slice-write-buf
-    add-o
-    add-i
-    loop-less
+    (λ c. (omega arith, left-start))
+    (λ c. omega arith)
+    (λ c. omega (arith, next c .end, next c .same))
+    (λ c. omega (arith, next c .end, next c .same))
+    (λ c. omega arith)
+    (λ c. omega arith)
     loop-again
-    same-length
-    returns)
+    (λ c. c .before .loop .inv .1 .same)
+    (λ c. let b = c .before in left-end (b .loop .inv .1) (ap bare (drop-of-length-le (b .before .args .t3) {i = b .loop .i} (omega arith)))))

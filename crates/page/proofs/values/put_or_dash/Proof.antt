@@ -16,39 +16,14 @@ number c = ap (λ (t : Bool). orDash t (c .before .before .args .n)) (c .if1 .ta
 dash : (c : tie.Else1) → orDash (c .before .before .args .there) (c .before .before .args .n) ≡ text "-"
 dash c = ap (λ (t : Bool). orDash t (c .before .before .args .n)) (c .if1 .left)
 
-put-number-requires : tie.Need-put-number-requires
-put-number-requires c κs = omega (arith, ap length (number (c .before)))
-
-same-length : tie.Need-same-length
-same-length c = search needs
-
-returns : tie.Need-returns
-returns c =
-    let n = c .before .before in
-    wrote-as (number (n .before .before)) (n .put-number .ensures)
-
-slice-aggregate-put-bytes : tie.Need-slice-aggregate-put-bytes
-slice-aggregate-put-bytes c = search needs
-
-put-bytes-requires : tie.Need-put-bytes-requires
-put-bytes-requires c κs = omega (arith, ap length (dash (c .before .before)))
-
-same-length-2 : tie.Need-same-length-2
-same-length-2 c = search needs
-
-returns-2 : tie.Need-returns-2
-returns-2 c =
-    let n = c .before .before in
-    wrote-as (dash (n .before .before .before)) (n .put-bytes .ensures)
-
 pub put-or-dash-spec : {M : Type 1} → statement M
 put-or-dash-spec =
     tie.close
     (tie.spec
-    put-number-requires
-    same-length
-    returns
-    slice-aggregate-put-bytes
-    put-bytes-requires
-    same-length-2
-    returns-2)
+    (λ c κs. omega (arith, ap length (number (c .before))))
+    (λ c. search needs)
+    (λ c. let n = c .before .before in wrote-as (number (n .before .before)) (n .put-number .ensures))
+    (λ c. search needs)
+    (λ c κs. omega (arith, ap length (dash (c .before .before))))
+    (λ c. search needs)
+    (λ c. let n = c .before .before in wrote-as (dash (n .before .before .before)) (n .put-bytes .ensures)))

@@ -7,30 +7,11 @@ use Rattle.page.proofs.Writing.{wrote-as, party-global, party-program}
 use Rattle.page.proofs.values.put_party.Statement.{statement}
 use Rattle.page.proofs.values.put_party.Tie as tie
 
-slice-aggregate-put-bytes : tie.Need-slice-aggregate-put-bytes
-slice-aggregate-put-bytes c = search needs
-
-put-bytes-requires : tie.Need-put-bytes-requires
-put-bytes-requires c κs =
-    let t = c .before .before in
-    omega (arith, ap length (party-global (t .before .before .args .h) (t .if1 .taken)))
-
-same-length : tie.Need-same-length
-same-length c = search needs
-
 returns : tie.Need-returns
 returns c =
     let w = c .before .before in
     let t = w .before .before .before in
     wrote-as (party-global (t .before .before .args .h) (t .if1 .taken)) (w .put-bytes .ensures)
-
-put-number-requires : tie.Need-put-number-requires
-put-number-requires c κs =
-    let t = c .before in
-    omega (arith, ap length (party-program (t .before .before .args .h) (t .if1 .left)))
-
-same-length-2 : tie.Need-same-length-2
-same-length-2 c = search needs
 
 returns-2 : tie.Need-returns-2
 returns-2 c =
@@ -42,10 +23,10 @@ pub put-party-spec : {M : Type 1} → statement M
 put-party-spec =
     tie.close
     (tie.spec
-    slice-aggregate-put-bytes
-    put-bytes-requires
-    same-length
+    (λ c. search needs)
+    (λ c κs. let t = c .before .before in omega (arith, ap length (party-global (t .before .before .args .h) (t .if1 .taken))))
+    (λ c. search needs)
     returns
-    put-number-requires
-    same-length-2
+    (λ c κs. let t = c .before in omega (arith, ap length (party-program (t .before .before .args .h) (t .if1 .left))))
+    (λ c. search needs)
     returns-2)
