@@ -13,8 +13,9 @@ use Rattle.lists.proofs.Tests.{clash}
 use Rattle.records.specs.declared.Program.{Program}
 use Rattle.records.specs.Records.{missing}
 use Rattle.rules.specs.Test.{sonOf}
-use Rattle.ledger.specs.Inner.{Tells, fits, nameCode, nameKey, sonKey, stateKey, usedKey, Keyed, Fresh, Ended, Distinct, Apart, Sons, Awaited, Enrolled, slotOf, Marked}
-use Rattle.ledger.proofs.Bools.{tells-no}
+use Rattle.tracks.specs.Inner.{Tells}
+use Rattle.ledger.specs.Inner.{fits, nameCode, nameKey, sonKey, stateKey, usedKey, Keyed, Fresh, Ended, Distinct, Apart, Sons, Awaited, Enrolled, slotOf, Marked}
+use Rattle.tracks.proofs.Tells.{tells-no}
 use Rattle.ledger.proofs.Turns.{fits-parts, unused-son, son-most}
 
 -- nothing is noted at first

@@ -23,8 +23,8 @@ use Rattle.rules.proofs.Places.{known-true}
 use Rattle.rules.proofs.Agree.{yes-or-no}
 use Rattle.ledger.specs.declared.Ledger.{Ledger}
 use Rattle.ledger.specs.Ledger.{bookOf}
-use Rattle.ledger.specs.Inner.{timed, trim, stateFits, reasonFits, fits, Records, nameKey, sonKey, stateKey, Apart, Roster}
-use Rattle.ledger.proofs.Facts.{trim-is}
+use Rattle.ledger.specs.Inner.{timed, trim, stateFits, reasonFits, fits, nameKey, sonKey, stateKey, Apart, Roster}
+use Rattle.ledger.proofs.Facts.{Trim, trim-true, trim-is}
 
 -- the record at i
 abbrev pub held : Ledger → ℕ → Program
@@ -174,25 +174,31 @@ key-state : (r : Program) → r .used ≡ true → r .state ≢ 0 → stateKey r
 unfolding stateKey
 key-state r u n e = n (sym (ap (λ (b : Bool). cond b (r .state) 0) u) ∙ e)
 
--- the roster is what is asked of the records
-pub records-of : (l : Ledger) → Roster (l .clock .ticks) (l .tracks .count) (l .numbers .count) (l .programs) → Records l
-unfolding sonKey
-records-of l S i h =
-    let f = fits-parts (l .clock .ticks) (l .tracks .count) (l .numbers .count) (i + 1) (held l i) (S .fitting i h) in
-    and (f .0) (suits-of (bookOf l) (i + 1) (held l i .state) (held l i .why) (f .1) (f .2) (λ n.
-    state-key (held l (sonOf (held l i .why) - 1)) (S .live i h n)))
+-- what the roster says of a record: it is sound but for its why, and that fits
+module _ (l : Ledger) (S : Roster (l .clock .ticks) (l .tracks .count) (l .numbers .count) (l .programs)) (i : ℕ) (h : i < 32) where
+  parts : (trim (l .clock .ticks) (held l i) ≡ true) × (stateFits (held l i .why) (held l i .state) ≡ true)
+      × (reasonFits (l .tracks .count) (l .numbers .count) (i + 1) (held l i .why) ≡ true)
+  parts = fits-parts (l .clock .ticks) (l .tracks .count) (l .numbers .count) (i + 1) (held l i) (S .fitting i h)
 
-pub roster-of : (l : Ledger) → Records l → Apart nameKey (l .programs) → Apart sonKey (l .programs)
+  pub roster-trim : Trim (l .clock .ticks) (held l i)
+  roster-trim = trim-true (l .clock .ticks) (held l i) (parts .0)
+
+  pub roster-suits : suits (bookOf l) (i + 1) (held l i .state) (held l i .why) ≡ true
+  unfolding sonKey
+  roster-suits =
+      suits-of (bookOf l) (i + 1) (held l i .state) (held l i .why) (parts .1) (parts .2) (λ n.
+      state-key (held l (sonOf (held l i .why) - 1)) (S .live i h n))
+
+-- and back
+pub roster-of : (l : Ledger) → ((i : ℕ) → i < 32 → Trim (l .clock .ticks) (held l i))
+    → ((i : ℕ) → i < 32 → suits (bookOf l) (i + 1) (held l i .state) (held l i .why) ≡ true) → Apart nameKey (l .programs) → Apart sonKey (l .programs)
     → Roster (l .clock .ticks) (l .tracks .count) (l .numbers .count) (l .programs)
 unfolding sonKey
-roster-of l A names sons = record {
-  fitting = λ i h. let f = suits-fits (bookOf l) (i + 1) (held l i .state) (held l i .why) ((parts i h) .1) in
-      fits-is (l .clock .ticks) (l .tracks .count) (l .numbers .count) (i + 1) (held l i) ((parts i h) .0) (f .0) (f .1);
+roster-of l t w names sons = record {
+  fitting = λ i h. let f = suits-fits (bookOf l) (i + 1) (held l i .state) (held l i .why) (w i h) in
+      fits-is (l .clock .ticks) (l .tracks .count) (l .numbers .count) (i + 1) (held l i) (trim-is (l .clock .ticks) (held l i) (t i h)) (f .0) (f .1);
   names = names;
-  live = λ i h n. let s = suits-son (bookOf l) (i + 1) (held l i .state) (held l i .why) ((parts i h) .1) n in
+  live = λ i h n. let s = suits-son (bookOf l) (i + 1) (held l i .state) (held l i .why) (w i h) n in
       key-state (held l (sonOf (held l i .why) - 1)) (s .0) (s .1);
   sons = sons;
 }
-  where
-    parts : (i : ℕ) → i < 32 → (trim (l .clock .ticks) (held l i) ≡ true) × (suits (bookOf l) (i + 1) (held l i .state) (held l i .why) ≡ true)
-    parts i h = both (trim (l .clock .ticks) (held l i)) (suits (bookOf l) (i + 1) (held l i .state) (held l i .why)) (A i h)

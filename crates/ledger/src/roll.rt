@@ -4,7 +4,8 @@ use super::entries::son_of;
 use records::Program;
 ghost use Prim.Native.Nat.{_<_};
 ghost use mathlib.Core.Path.{_≡_};
-ghost use Rattle.ledger.specs.Inner.{Tells, joined, nameCode, slotOf, Fresh, Ended, Distinct, Marked, Sons, Awaited, Enrolled};
+ghost use Rattle.tracks.specs.Inner.{Tells};
+ghost use Rattle.ledger.specs.Inner.{joined, nameCode, slotOf, Fresh, Ended, Distinct, Marked, Sons, Awaited, Enrolled};
 
 // Whether the records are sound, and a mark for each used one.
 pub struct Roll {

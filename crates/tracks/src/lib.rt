@@ -1,4 +1,7 @@
-// The disc tracks: who holds each.
+// The disc tracks: who holds each. Other crates reach the array by functions of this one alone.
+mod places;
+mod sound;
+
 ghost use Prim.Native.Nat.{_-_};
 ghost use mathlib.Core.Path.{_≡_};
 ghost use mathlib.Core.List.{_++_};

@@ -4,8 +4,9 @@ use mathlib.Core.Path.{_≡_, sym, ap, _∙_}
 use denote.Ref.{now}
 use native.Mathlib.Omega.{arith}
 use lib.ListN.{getD}
+use Rattle.tracks.specs.Inner.{Serves}
 use Rattle.ledger.specs.Inner.{Sits}
-use Rattle.ledger.proofs.Bools.{tells-yes, tells-no, tells-eq}
+use Rattle.tracks.proofs.Tells.{tells-yes, tells-no, tells-eq}
 use borrow.Author.Needs.{needs}
 use Rattle.ledger.proofs.places.number_fits.Statement.{statement}
 use Rattle.ledger.proofs.places.number_fits.Tie as tie
@@ -39,7 +40,7 @@ returns-3 : tie.Need-returns-3
 returns-3 c = tells-no (λ S. S .program (c .if3 .taken))
 
 -- what has passed so far, but for a free number
-sits : (c : tie.Else3) → let a = c .before .before .before .before .before .before .before .args in (a .x .owner ≡ 0 → a .x .lock ≡ 0) → Sits (now (a .marks)) (a .x)
+sits : (c : tie.Else3) → let a = c .before .before .before .before .before .before .before .args in (a .x .owner ≡ 0 → a .x .lock ≡ 0) → Sits (Serves (now (a .marks))) (a .x)
 sits c f =
     let d = c .before in
     let w = d .before .before in

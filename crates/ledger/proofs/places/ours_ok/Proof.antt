@@ -5,14 +5,15 @@ use borrow.Author.Count.{below-more}
 use borrow.Author.Tests.{not-true, not-false}
 use lib.ListN.{getD}
 use Rattle.records.specs.Numbers.{free}
+use Rattle.tracks.specs.Inner.{Serves}
 use Rattle.ledger.specs.Inner.{Sits}
-use Rattle.ledger.proofs.Bools.{tells-yes, tells-no}
+use Rattle.tracks.proofs.Tells.{tells-yes, tells-no}
 use borrow.Author.Needs.{needs}
 use Rattle.ledger.proofs.places.ours_ok.Statement.{statement}
 use Rattle.ledger.proofs.places.ours_ok.Tie as tie
 
 abbrev Inv-loop : tie.InvT-loop
-Inv-loop count marks resources i₀ i = (k : ℕ) → k < i → Sits marks (getD resources k free)
+Inv-loop count marks resources i₀ i = (k : ℕ) → k < i → Sits (Serves marks) (getD resources k free)
 
 abbrev μ-loop : tie.MeasureT-loop
 μ-loop count marks resources i₀ i = count - i

@@ -4,7 +4,7 @@ use native.Mathlib.Omega.{arith}
 use borrow.Author.Tests.{not-true, not-false}
 use denote.Ref.{now}
 use lib.ListN.{getD}
-use Rattle.ledger.proofs.Bools.{tells-yes, tells-no}
+use Rattle.tracks.proofs.Tells.{tells-yes, tells-no}
 use Rattle.ledger.proofs.Rows.{Seen, seen-start, slot-small, seen-marked, seen-more, seen-end, fresh-of}
 use borrow.Author.Needs.{needs}
 use Rattle.ledger.proofs.roll.are_distinct.Statement.{statement}

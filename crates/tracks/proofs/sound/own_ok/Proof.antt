@@ -1,12 +1,12 @@
--- `ledger::places::own_ok` meets its contract. The invariant: the system holds each place before i. Assumes nothing.
+-- `tracks::sound::own_ok` meets its contract. The invariant: the system holds each place before i. Assumes nothing.
 use Prim.Native.Nat.{ℕ, _-_, _<_}
 use mathlib.Core.Path.{_≡_}
 use native.Mathlib.Omega.{arith}
 use borrow.Author.Count.{below-more}
 use lib.ListN.{getD}
-use Rattle.ledger.proofs.Bools.{tells-yes, tells-no}
-use Rattle.ledger.proofs.places.own_ok.Statement.{statement}
-use Rattle.ledger.proofs.places.own_ok.Tie as tie
+use Rattle.tracks.proofs.Tells.{tells-yes, tells-no}
+use Rattle.tracks.proofs.sound.own_ok.Statement.{statement}
+use Rattle.tracks.proofs.sound.own_ok.Tie as tie
 
 abbrev Inv-loop : tie.InvT-loop
 Inv-loop own holders i₀ i = (k : ℕ) → k < i → getD holders k 0 ≡ 34

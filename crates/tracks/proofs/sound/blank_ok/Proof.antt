@@ -1,12 +1,12 @@
--- `ledger::places::blank_ok` meets its contract. The invariant: the largest holder so far is 0 exactly where each is. Assumes nothing.
+-- `tracks::sound::blank_ok` meets its contract. The invariant: the largest holder so far is 0 exactly where each is. Assumes nothing.
 use Prim.Native.Nat.{_-_, _≤_}
 use mathlib.Core.Path.{_≡_}
 use native.Mathlib.Omega.{arith}
 use lib.ListN.{getD}
-use Rattle.ledger.proofs.Tallies.{Tally, tally-start, tally-more, tally-end}
+use Rattle.tracks.proofs.Tells.{Tally, tally-start, tally-more, tally-end}
 use borrow.Author.Needs.{needs}
-use Rattle.ledger.proofs.places.blank_ok.Statement.{statement}
-use Rattle.ledger.proofs.places.blank_ok.Tie as tie
+use Rattle.tracks.proofs.sound.blank_ok.Statement.{statement}
+use Rattle.tracks.proofs.sound.blank_ok.Tie as tie
 
 abbrev Inv-loop : tie.InvT-loop
 Inv-loop all holders most₀ i₀ most i = (i ≤ 256) × Tally (λ k. getD holders k 0 ≡ 0) all i most

@@ -1,14 +1,14 @@
--- `ledger::places::others_ok` meets its contract. The invariant: the sum of the marks so far is 0 exactly where each is. Assumes nothing.
+-- `tracks::sound::others_ok` meets its contract. The invariant: the sum of the marks so far is 0 exactly where each is. Assumes nothing.
 use Prim.Native.Nat.{ℕ, _-_, _≤_, _*_}
 use mathlib.Core.Path.{_≡_, ap, _∙_}
 use denote.Ref.{now}
 use native.Mathlib.Omega.{arith}
 use lib.ListN.{getD}
-use Rattle.ledger.specs.Inner.{Serves}
-use Rattle.ledger.proofs.Tallies.{Tally, tally-start, tally-more, tally-end}
+use Rattle.tracks.specs.Inner.{Serves}
+use Rattle.tracks.proofs.Tells.{Tally, tally-start, tally-more, tally-end}
 use borrow.Author.Needs.{needs}
-use Rattle.ledger.proofs.places.others_ok.Statement.{statement}
-use Rattle.ledger.proofs.places.others_ok.Tie as tie
+use Rattle.tracks.proofs.sound.others_ok.Statement.{statement}
+use Rattle.tracks.proofs.sound.others_ok.Tie as tie
 
 abbrev Inv-loop : tie.InvT-loop
 Inv-loop own all holders marks sum₀ i₀ sum i = (i ≤ all) × (sum ≤ 255 * i) × Tally (λ k. Serves marks (getD holders k 0)) own i sum
