@@ -19,18 +19,6 @@ abbrev μ-loop : tie.MeasureT-loop
 loop-holds : tie.Need-loop-holds Inv-loop μ-loop
 loop-holds c = (omega arith, unused-all (c .args .t1))
 
-wide-requires : tie.Need-wide-requires Inv-loop μ-loop
-wide-requires c κs = search needs
-
-place-requires : tie.Need-place-requires Inv-loop μ-loop
-place-requires c κs = search needs
-
-mul-r : tie.Need-mul-r Inv-loop μ-loop
-mul-r c = search needs
-
-array-copy-out-r : tie.Need-array-copy-out-r Inv-loop μ-loop
-array-copy-out-r c = search needs
-
 returns : tie.Need-returns Inv-loop μ-loop
 returns c =
     let k = c .before .before .before in
@@ -38,12 +26,6 @@ returns c =
     let a = b .before .args in
     sym (b .loop .inv .1 ∙ first-here (λ q. vacant (recordAt (a .t1) q)) (b .loop .p) 32 (omega arith)
     (at-place vacant (a .t1) (b .loop .p) (k .place .result) _ (omega arith) (c .if1 .taken)))
-
-add-p : tie.Need-add-p Inv-loop μ-loop
-add-p c = omega arith
-
-loop-less : tie.Need-loop-less Inv-loop μ-loop
-loop-less c = omega arith
 
 loop-again : tie.Need-loop-again Inv-loop μ-loop
 loop-again c =
@@ -68,12 +50,12 @@ lowest-unused-spec =
     Inv-loop
     μ-loop
     loop-holds
-    wide-requires
-    place-requires
-    mul-r
-    array-copy-out-r
+    (λ c κs. search needs)
+    (λ c κs. search needs)
+    (λ c. search needs)
+    (λ c. search needs)
     returns
-    add-p
-    loop-less
+    (λ c. omega arith)
+    (λ c. omega arith)
     loop-again
     returns-2)

@@ -6,21 +6,6 @@ use Rattle.ledger.proofs.Releasing.{nothing-told, tracks-told, number-t
 use Rattle.ledger.proofs.Release.awaited.Statement.{statement}
 use Rattle.ledger.proofs.Release.awaited.Tie as tie
 
-enum-told : tie.Need-enum-told
-enum-told c = search needs
-
-enum-told-2 : tie.Need-enum-told-2
-enum-told-2 c = search needs
-
-enum-known-why : tie.Need-enum-known-why
-enum-known-why c = search needs
-
-enum-known-why-2 : tie.Need-enum-known-why-2
-enum-known-why-2 c = search needs
-
-wide-requires : tie.Need-wide-requires
-wide-requires c κs = search needs
-
 returns : tie.Need-returns
 returns c =
     let l = c .before .before .before in
@@ -33,15 +18,6 @@ returns-2 c =
     let l = w .before .before in
     let s = l .before .before in
     past-told (s .args .t1) (s .args .why) (l .why2 .given .1) (omega (arith, w .wide .ensures, c .if3 .taken)) (search needs)
-
-sub-i : tie.Need-sub-i
-sub-i c = search needs
-
-element-copy-out-result : tie.Need-element-copy-out-result
-element-copy-out-result c = search needs
-
-enum-told-3 : tie.Need-enum-told-3
-enum-told-3 c = search needs
 
 returns-3 : tie.Need-returns-3
 returns-3 c = nothing-told (c .before .before .args .t1) (c .before .before .args .why) (c .enum-told .given .1)
@@ -76,16 +52,16 @@ pub awaited-spec : {M : Type 1} → statement M
 awaited-spec =
     tie.close
     (tie.spec
-    enum-told
-    enum-told-2
-    enum-known-why
-    enum-known-why-2
-    wide-requires
+    (λ c. search needs)
+    (λ c. search needs)
+    (λ c. search needs)
+    (λ c. search needs)
+    (λ c κs. search needs)
     returns
     returns-2
-    sub-i
-    element-copy-out-result
-    enum-told-3
+    (λ c. search needs)
+    (λ c. search needs)
+    (λ c. search needs)
     returns-3
     returns-4
     returns-5

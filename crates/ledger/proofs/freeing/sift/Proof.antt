@@ -25,42 +25,12 @@ loop-holds c =
     let a = c .args in
     sifted-start (λ q. awaits (shown (a .release)) (recordAt (a .t1) q .why)) (a .t2 .ids) (a .t2 .len) (search needs) (c .pre .most)
 
-element-copy-out-q : tie.Need-element-copy-out-q Inv-loop μ-loop
-element-copy-out-q c = omega arith
-
-wide-requires : tie.Need-wide-requires Inv-loop μ-loop
-wide-requires c κs = search needs
-
 -- the program that is read is known
 known : (c : tie.After-wide Inv-loop μ-loop) → Known (getD (c .before .before .before .before .args .t2 .ids) (c .before .before .before .loop .i) 0)
 known c =
     let b = c .before .before .before in
     let s = b .before in
     listed-known (s .args .t2 .ids) (s .args .t2 .len) (b .loop .i) (s .pre) (omega arith) (omega arith)
-
-sub-k : tie.Need-sub-k Inv-loop μ-loop
-sub-k c = omega (arith, known c)
-
-mul-r : tie.Need-mul-r Inv-loop μ-loop
-mul-r c = omega (arith, known c)
-
-array-copy-out-r : tie.Need-array-copy-out-r Inv-loop μ-loop
-array-copy-out-r c = omega (arith, known c)
-
-awaited-requires : tie.Need-awaited-requires Inv-loop μ-loop
-awaited-requires c κs = search needs
-
-array-write-ids : tie.Need-array-write-ids Inv-loop μ-loop
-array-write-ids c = omega arith
-
-add-len : tie.Need-add-len Inv-loop μ-loop
-add-len c = omega arith
-
-add-i : tie.Need-add-i Inv-loop μ-loop
-add-i c = omega arith
-
-loop-less : tie.Need-loop-less Inv-loop μ-loop
-loop-less c = omega arith
 
 loop-again : tie.Need-loop-again Inv-loop μ-loop
 loop-again c =
@@ -90,15 +60,15 @@ sift-spec =
     Inv-loop
     μ-loop
     loop-holds
-    element-copy-out-q
-    wide-requires
-    sub-k
-    mul-r
-    array-copy-out-r
-    awaited-requires
-    array-write-ids
-    add-len
-    add-i
-    loop-less
+    (λ c. omega arith)
+    (λ c κs. search needs)
+    (λ c. omega (arith, known c))
+    (λ c. omega (arith, known c))
+    (λ c. omega (arith, known c))
+    (λ c κs. search needs)
+    (λ c. omega arith)
+    (λ c. omega arith)
+    (λ c. omega arith)
+    (λ c. omega arith)
     loop-again
     returns)

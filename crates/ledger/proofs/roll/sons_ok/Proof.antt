@@ -21,15 +21,6 @@ abbrev μ-loop : tie.MeasureT-loop
 loop-holds : tie.Need-loop-holds Inv-loop μ-loop
 loop-holds c = meeting-start _ _
 
-element-copy-out-son : tie.Need-element-copy-out-son Inv-loop μ-loop
-element-copy-out-son c = omega (arith, c .before .before .pre .ended .most)
-
-wide-requires : tie.Need-wide-requires Inv-loop μ-loop
-wide-requires c κs = search needs
-
-sub-k : tie.Need-sub-k Inv-loop μ-loop
-sub-k c = omega (arith, c .before .if1 .taken)
-
 -- the son's place
 place : (c : tie.After-wide Inv-loop μ-loop) →
     let b = c .before .before .before .before in
@@ -40,9 +31,6 @@ small : (c : tie.After-wide Inv-loop μ-loop) → c .wide .result - 1 < 32
 small c =
     let b = c .before .before .before .before in
     omega (arith, c .before .if1 .taken, c .wide .ensures, b .before .pre .known (b .loop .i))
-
-element-copy-out-if2 : tie.Need-element-copy-out-if2 Inv-loop μ-loop
-element-copy-out-if2 c = omega (arith, small c)
 
 returns : tie.Need-returns Inv-loop μ-loop
 returns c =
@@ -61,12 +49,6 @@ returns-2 c =
 
 array-write-met : tie.Need-array-write-met Inv-loop μ-loop
 array-write-met c = omega (arith, small (c .before .before .before), c .before .before .before .before .before .before .before .loop .inv .long)
-
-add-i : tie.Need-add-i Inv-loop μ-loop
-add-i c = omega arith
-
-loop-less : tie.Need-loop-less Inv-loop μ-loop
-loop-less c = omega arith
 
 loop-again : tie.Need-loop-again Inv-loop μ-loop
 loop-again c =
@@ -92,15 +74,15 @@ sons-ok-spec =
     Inv-loop
     μ-loop
     loop-holds
-    element-copy-out-son
-    wide-requires
-    sub-k
-    element-copy-out-if2
+    (λ c. omega (arith, c .before .before .pre .ended .most))
+    (λ c κs. search needs)
+    (λ c. omega (arith, c .before .if1 .taken))
+    (λ c. omega (arith, small c))
     returns
     array-read-if3
     returns-2
     array-write-met
-    add-i
-    loop-less
+    (λ c. omega arith)
+    (λ c. omega arith)
     loop-again
     returns-3)
