@@ -1,9 +1,9 @@
 -- The test of blank entries says what its clause says, both ways.
 -- Assumes nothing.
-use Prim.Native.Nat.{ℕ, zero, suc, _+_, _-_, _≤_, _<_}
+use Prim.Native.Nat.{ℕ, zero, suc, _+_, _-_, _≤_}
 use native.Mathlib.Omega.{arith}
 use mathlib.Core.Path.{_≡_, refl, sym, ap, _∙_}
-use mathlib.Core.Bool.{Bool, true, false, _&&_}
+use mathlib.Core.Bool.{true, _&&_}
 use mathlib.Core.List.{List, [], _∷_}
 use lib.ListN.{getD, drop}
 use lib.Seq.{getD-drop}
@@ -11,7 +11,7 @@ use lib.Dec.{eqb}
 use borrow.Author.Tests.{eq-eqb, eqb-true}
 use Rattle.lists.proofs.Tests.{both, and}
 use Rattle.records.specs.declared.Resource.{Resource}
-use Rattle.records.specs.Numbers.{free, numberAt}
+use Rattle.records.specs.Numbers.{free}
 use Rattle.tracks.specs.Tracks.{nobody, places}
 use Rattle.ledger.specs.declared.Ledger.{Ledger}
 use Rattle.ledger.specs.Ledger.{Blank, noHolders, noNumbers, testBlank}

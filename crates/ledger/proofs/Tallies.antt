@@ -6,7 +6,7 @@ use native.Mathlib.Decide.{ℕ-discrete, decLe}
 use mathlib.Core.Path.{_≡_, refl, sym, ap, _∙_}
 use mathlib.Core.Bool.{Bool, true, false, cond}
 use mathlib.Core.List.{List}
-use lib.ListN.{length, getD, set, replicate, length-set}
+use lib.ListN.{length, getD, set, replicate, length-set, getD-replicate}
 use lib.Seq.{getD-set-same, getD-set-other}
 use lib.Dec.{eqb}
 use borrow.Author.Count.{below-more}
@@ -30,11 +30,6 @@ pub record Marking (used marks : List ℕ) (i : ℕ) : Type 0 where
   pub program : (k : ℕ) → k < i → getD marks (k + 1) 0 ≡ strange (getD used k 0)
   pub other : (h : ℕ) → 33 < h → h < 256 → getD marks h 0 ≡ 1
 
-ones : (n i : ℕ) → i < n → getD (replicate {A = ℕ} n 1) i 0 ≡ 1
-ones zero i h = absurd (omega arith)
-ones (suc n) zero h = refl
-ones (suc n) (suc i) h = ones n i (omega arith)
-
 pub marking-start : (used : List ℕ) → Marking used (set (set (replicate 256 1) 0 0) 33 0) 0
 marking-start used = record {
   most = omega arith;
@@ -42,7 +37,7 @@ marking-start used = record {
   nobody = refl;
   global = refl;
   program = λ k h. absurd (omega arith);
-  other = λ h l m. getD-set-other {A = ℕ} (set (replicate 256 1) 0 0) 33 h 0 0 (λ z. omega arith) ∙ getD-set-other {A = ℕ} (replicate 256 1) 0 h 0 0 (λ z. omega arith) ∙ ones 256 h m;
+  other = λ h l m. getD-set-other {A = ℕ} (set (replicate 256 1) 0 0) 33 h 0 0 (λ z. omega arith) ∙ getD-set-other {A = ℕ} (replicate 256 1) 0 h 0 0 (λ z. omega arith) ∙ getD-replicate {A = ℕ} 256 h 1 0 m;
 }
 
 pub marking-more : {used marks : List ℕ} {i : ℕ} → Marking used marks i → i < 32 → (v : ℕ) → v ≡ strange (getD used i 0) → Marking used (set marks (i + 1) v) (i + 1)

@@ -19,7 +19,7 @@ use Rattle.records.specs.Records.{Known}
 use Rattle.records.specs.Numbers.{free, numberAt}
 use Rattle.tracks.specs.Tracks.{nobody, system, places}
 use Rattle.tracks.specs.Inner.{Held}
-use Rattle.rules.specs.Book.{Book, at, stateOf, whyOf, holderOf}
+use Rattle.rules.specs.Book.{at, stateOf, whyOf, holderOf}
 use Rattle.rules.specs.Sound.{Ours, suits, Names, Whys, System, Users, Unlocked, Limits, Dues}
 use Rattle.rules.specs.Test.{sonOf, zeros, testNames, testZeros, testWhys, testSystem, testUsers, testUnlocked, testLimits, testDues}
 use Rattle.rules.proofs.Agree.{program-in, program-is, yes-or-no, names-clause, names-test, whys-clause, whys-test, dues-clause, dues-test, son-known}

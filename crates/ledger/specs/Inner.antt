@@ -6,10 +6,10 @@ use mathlib.Core.Bool.{Bool, false, _&&_, true, cond, not, _||_}
 use mathlib.Core.List.{List}
 use lib.ListN.{getD, take}
 use lib.Dec.{eqb, leb, ltb}
-use Rattle.lists.specs.Lists.{count, any, from, upTo}
+use Rattle.lists.specs.Lists.{count, upTo}
 use Rattle.records.specs.declared.Numbers.{Numbers}
 use Rattle.records.specs.Records.{Known, known, missing}
-use Rattle.records.specs.Numbers.{resources, numberAt, concerns, globally, free}
+use Rattle.records.specs.Numbers.{resources, globally, free}
 use Rattle.ledger.specs.declared.Release.{Release}
 use Rattle.rules.specs.Test.{testNames, testZeros, testWhys, testSystem, testUsers, testUnlocked, testLimits, testDues, sonOf, zeros}
 use mathlib.Core.Logic.{_≢_}

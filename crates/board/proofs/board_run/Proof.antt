@@ -15,7 +15,6 @@ use Rattle.tables.specs.declared.Tables.{Tables}
 use Rattle.console.specs.Sheet.{room}
 use Rattle.console.proofs.LineEnds.{LineEnd, line-end}
 use Rattle.board.proofs.Lines.{slice-taken}
-use Rattle.board.specs.Board.{Ran}
 use Rattle.board.proofs.Answered.{answering-not}
 use Rattle.board.proofs.Whole.{ran-over, ran-short}
 use Rattle.board.proofs.Running.{made-smallest, Shows, line-printed, Run, run-as, run-start, Turn, needed-small, run-keep, put-room, run-put, run-end}

@@ -1,6 +1,5 @@
 -- `ledger::sound::book_sound` meets its contract. Assumes nothing.
 use mathlib.Core.Path.{_≡_, sym, _∙_}
-use native.Mathlib.Omega.{arith}
 use lib.ListN.{length, length-map}
 use borrow.Author.Tests.{not-true, not-false}
 use Rattle.records.proofs.Resource.{the-field}
