@@ -1,32 +1,26 @@
 -- `ledger::entries::reason_fits` meets its contract. Assumes nothing.
-use mathlib.Core.Path.{sym, ap, ap₂, _∙_}
-use Rattle.lists.specs.Lists.{upTo}
+use Prim.Native.Nat.{ℕ}
+use mathlib.Core.Path.{_≡_, sym, ap, _∙_}
+use mathlib.Core.Bool.{Bool}
+use Rattle.records.specs.declared.Why.{Why}
 use Rattle.ledger.specs.Inner.{reasonFits}
 use borrow.Author.Needs.{needs}
 use Rattle.ledger.proofs.entries.reason_fits.Statement.{statement}
 use Rattle.ledger.proofs.entries.reason_fits.Tie as tie
 
+-- what is said of the why that w is
+told : (s : tie.Start) (v : Why) {b : Bool} → b ≡ reasonFits (s .args .all) (s .args .numbers) (s .args .p) v → s .args .w ≡ v
+    → b ≡ reasonFits (s .args .all) (s .args .numbers) (s .args .p) (s .args .w)
+told s v e h = e ∙ sym (ap (reasonFits (s .args .all) (s .args .numbers) (s .args .p)) h)
+
 returns-2 : tie.Need-returns-2
-returns-2 c =
-    let k = c .before .before .before in
-    let a = k .before .before .before .args in
-    c .one-to .ensures
-    ∙ ap₂ (upTo 1) (c .before .before .broad .ensures) (c .before .broad2 .ensures)
-    ∙ sym (ap (reasonFits (a .all) (a .numbers) (a .p)) (k .before .w .given .1))
+returns-2 c = let k = c .before .before in told (k .before .before) _ (c .one-to .ensures) (k .w .given .1)
 
 returns-3 : tie.Need-returns-3
-returns-3 c =
-    let k = c .before in
-    let a = k .before .before .before .args in
-    c .son-fits .ensures ∙ sym (ap (reasonFits (a .all) (a .numbers) (a .p)) (k .before .w2 .given .1))
+returns-3 c = let k = c .before .before in told (k .before .before) _ (c .son-fits .ensures) (k .w2 .given .1)
 
 returns-4 : tie.Need-returns-4
-returns-4 c =
-    let k = c .before .before .before in
-    let a = k .before .before .before .args in
-    c .one-to2 .ensures
-    ∙ ap₂ (upTo 1) (c .before .before .wide .ensures) (c .before .wide2 .ensures)
-    ∙ sym (ap (reasonFits (a .all) (a .numbers) (a .p)) (k .before .w3 .given .1))
+returns-4 c = let k = c .before .before in told (k .before .before) _ (c .one-to2 .ensures) (k .w3 .given .1)
 
 pub reason-fits-spec : {M : Type 1} → statement M
 reason-fits-spec =
@@ -34,14 +28,12 @@ reason-fits-spec =
     (tie.spec
     (λ c. search needs)
     (λ c. search needs)
-    (λ c κs. search needs)
-    (λ c κs. search needs)
-    (λ c κs. search needs)
     (λ c. search needs)
     (λ c κs. search needs)
     (λ c. search needs)
     (λ c κs. search needs)
-    (λ c κs. search needs)
+    (λ c. search needs)
+    (λ c. search needs)
     (λ c κs. search needs)
     (λ c. search needs)
     (λ c. search needs)
