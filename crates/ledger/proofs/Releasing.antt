@@ -74,10 +74,8 @@ module _ (x : Release) (w : Why) where
   past-told {r} e h l =
       told x w (Lock r) false e (rw (lt-ltb 0 r (omega arith)) (List·getD-eq-default (x .cleared) false {n = r - 1} (omega arith)))
 
-  pub lock-told : {r : ℕ} (k : ℕ) → w ≡ Lock r → r ≢ 0 → k ≡ r → Answer x w (getD (x .cleared) (k - 1) false)
-  lock-told {r} k e h z =
-      told x w (Lock r) (getD (x .cleared) (k - 1) false) e
-      (rw (lt-ltb 0 r (omega (arith, h))) (ap (λ (i : ℕ). getD (x .cleared) (i - 1) false) (sym z)))
+  pub lock-told : {r : ℕ} → w ≡ Lock r → r ≢ 0 → Answer x w (getD (x .cleared) (r - 1) false)
+  lock-told {r} e h = told x w (Lock r) (getD (x .cleared) (r - 1) false) e (rw (lt-ltb 0 r (omega (arith, h))))
 
 -- one mark
 pub marked : (n r s : ℕ) → 1 ≤ r → r ≤ n → 1 ≤ s → getD (set (replicate n false) (r - 1) true) (s - 1) false ≡ eqb r s

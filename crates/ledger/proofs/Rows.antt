@@ -45,17 +45,16 @@ pub record Row (f : Program → ℕ) (ps : List Program) (high i : ℕ) (ks : Li
 row-start : (f : Program → ℕ) (ps : List Program) → Row f ps 0 0 (replicate 32 0)
 row-start f ps = record { long = refl; each = λ k h. absurd (omega arith); rest = λ k h. unset 0 32 k }
 
-row-used : (f : Program → ℕ) (ps : List Program) (high i : ℕ) (ks : List ℕ) (v : ℕ) → Row f ps high i ks → i < 32 → high ≤ i
-    → v ≡ f (getD ps i missing) → Row f ps (i + 1) (i + 1) (set ks i v)
-row-used f ps high i ks v R h m e = record {
-  long = length-set ks i v ∙ R .long;
-  each = below-more _ _ (λ k l. getD-set-other ks i k v 0 (λ z. omega arith) ∙ R .each k l) (getD-set-same ks i v 0 (omega (arith, R .long)) ∙ e);
-  rest = λ k l. getD-set-other ks i k v 0 (λ z. omega arith) ∙ R .rest k (omega arith);
-}
+module _ {f : Program → ℕ} {ps : List Program} {high i : ℕ} {ks : List ℕ} (R : Row f ps high i ks) (m : high ≤ i) where
+  row-used : (v : ℕ) → i < 32 → v ≡ f (getD ps i missing) → Row f ps (i + 1) (i + 1) (set ks i v)
+  row-used v h e = record {
+    long = length-set ks i v ∙ R .long;
+    each = below-more _ _ (λ k l. getD-set-other ks i k v 0 (λ z. omega arith) ∙ R .each k l) (getD-set-same ks i v 0 (omega (arith, R .long)) ∙ e);
+    rest = λ k l. getD-set-other ks i k v 0 (λ z. omega arith) ∙ R .rest k (omega arith);
+  }
 
-row-unused : (f : Program → ℕ) (ps : List Program) (high i : ℕ) (ks : List ℕ) → Row f ps high i ks → high ≤ i
-    → f (getD ps i missing) ≡ 0 → Row f ps high (i + 1) ks
-row-unused f ps high i ks R m e = record { long = R .long; each = below-more _ _ (R .each) (R .rest i m ∙ sym e); rest = R .rest }
+  row-unused : f (getD ps i missing) ≡ 0 → Row f ps high (i + 1) ks
+  row-unused e = record { long = R .long; each = below-more _ _ (R .each) (R .rest i m ∙ sym e); rest = R .rest }
 
 -- the pass, before record i
 pub record Noted (c T R : ℕ) (ps : List Program) (ns ks ss us : List ℕ) (high i : ℕ) : Type 0 where
@@ -81,12 +80,7 @@ noted-start c T R ps = record {
 -- notes that are the same
 pub noted-same : {c T R : ℕ} {ps : List Program} {ns ks ss us : List ℕ} {high i : ℕ} → Noted c T R ps ns ks ss us high i → {ms js rs vs : List ℕ} {top : ℕ}
     → ms ≡ ns → js ≡ ks → rs ≡ ss → vs ≡ us → top ≡ high → Noted c T R ps ms js rs vs top i
-noted-same {c} {T} {R} {ps} {ns} {ks} {ss} {us} {high} {i} N {ms} {js} {rs} {vs} {top} a b d e f =
-    subst (λ (t : ℕ). Noted c T R ps ms js rs vs t i) (sym f)
-    (subst (λ (v : List ℕ). Noted c T R ps ms js rs v high i) (sym e)
-    (subst (λ (r : List ℕ). Noted c T R ps ms js r us high i) (sym d)
-    (subst (λ (j : List ℕ). Noted c T R ps ms j ss us high i) (sym b)
-    (subst (λ (m : List ℕ). Noted c T R ps m ks ss us high i) (sym a) N))))
+noted-same N a b d e f = rw (a, b, d, e, f) N
 
 module _ {c T R : ℕ} {ps : List Program} {names sons states used : List ℕ} {high i : ℕ} (N : Noted c T R ps names sons states used high i) (h : i < 32) where
   pub noted-used : fits c T R (i + 1) (getD ps i missing) ≡ true → getD ps i missing .used ≡ true → (name son : ℕ)
@@ -97,10 +91,10 @@ module _ {c T R : ℕ} {ps : List Program} {names sons states used : List ℕ} {
     most = omega arith;
     low = omega arith;
     fitting = below-more _ _ (N .fitting) e;
-    names = row-used nameKey ps high i names name (N .names) h (N .low) (n ∙ sym (ap (λ (b : Bool). cond b (nameCode (getD ps i missing .name)) 0) u));
-    sons = row-used sonKey ps high i sons son (N .sons) h (N .low) s;
-    states = row-used stateKey ps high i states (getD ps i missing .state) (N .states) h (N .low) (sym (ap (λ (b : Bool). cond b (getD ps i missing .state) 0) u));
-    used = row-used usedKey ps high i used 1 (N .used) h (N .low) (sym (ap (λ (b : Bool). cond b 1 0) u));
+    names = row-used (N .names) (N .low) name h (n ∙ sym (ap (λ (b : Bool). cond b (nameCode (getD ps i missing .name)) 0) u));
+    sons = row-used (N .sons) (N .low) son h s;
+    states = row-used (N .states) (N .low) (getD ps i missing .state) h (sym (ap (λ (b : Bool). cond b (getD ps i missing .state) 0) u));
+    used = row-used (N .used) (N .low) 1 h (sym (ap (λ (b : Bool). cond b 1 0) u));
   }
 
   pub noted-unused : fits c T R (i + 1) (getD ps i missing) ≡ true → getD ps i missing .used ≡ false → Noted c T R ps names sons states used high (i + 1)
@@ -109,10 +103,10 @@ module _ {c T R : ℕ} {ps : List Program} {names sons states used : List ℕ} {
     most = omega arith;
     low = omega (arith, N .low);
     fitting = below-more _ _ (N .fitting) e;
-    names = row-unused nameKey ps high i names (N .names) (N .low) (ap (λ (b : Bool). cond b (nameCode (getD ps i missing .name)) 0) u);
-    sons = row-unused sonKey ps high i sons (N .sons) (N .low) (unused-son c T R (i + 1) (getD ps i missing) u e);
-    states = row-unused stateKey ps high i states (N .states) (N .low) (ap (λ (b : Bool). cond b (getD ps i missing .state) 0) u);
-    used = row-unused usedKey ps high i used (N .used) (N .low) (ap (λ (b : Bool). cond b 1 0) u);
+    names = row-unused (N .names) (N .low) (ap (λ (b : Bool). cond b (nameCode (getD ps i missing .name)) 0) u);
+    sons = row-unused (N .sons) (N .low) (unused-son c T R (i + 1) (getD ps i missing) u e);
+    states = row-unused (N .states) (N .low) (ap (λ (b : Bool). cond b (getD ps i missing .state) 0) u);
+    used = row-unused (N .used) (N .low) (ap (λ (b : Bool). cond b 1 0) u);
   }
 
   pub noted-refused : (rest : List ℕ) → fits c T R (i + 1) (getD ps i missing) ≡ false → Enrolled c T R ps false rest

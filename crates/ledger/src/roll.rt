@@ -13,12 +13,6 @@ pub struct Roll {
     pub used: [u8; 32],
 }
 
-fn wide(x: u8) -> usize
-    ensures { λ r. ⌜ r ≡ x ⌝ }
-{
-    x as usize
-}
-
 fn join(a: u8, b: u8, c: u8, d: u8, e: u8) -> u64
     ensures { λ r. ⌜ r ≡ joined a b c d e ⌝ }
 {
@@ -89,7 +83,7 @@ fn sons_ok(sons: &[u8; 32], states: &[u8; 32], high: usize) -> bool
     while i < high {
         let son = sons[i];
         if son != 0 {
-            let k = wide(son) - 1;
+            let k = son as usize - 1;
             if states[k] == 0 {
                 return false;
             }

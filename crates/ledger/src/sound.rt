@@ -43,8 +43,7 @@ pub fn book_sound(l: Ledger) -> bool
     }
     let used = roll.used;
     let marks = strangers(&used);
-    let tracks = l.tracks;
-    if !tracks.held_soundly(&marks) {
+    if !l.tracks.held_soundly(&marks) {
         return false;
     }
     let resources = l.numbers.resources;

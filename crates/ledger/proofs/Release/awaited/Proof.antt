@@ -1,6 +1,4 @@
 -- `ledger::Release::awaited` meets its contract: an answer for each why, and for a lock that is none, or past the last. Assumes nothing.
-use mathlib.Core.Path.{sym, _∙_}
-use native.Mathlib.Omega.{arith}
 use borrow.Author.Needs.{needs}
 use Rattle.ledger.proofs.Releasing.{nothing-told, tracks-told, number-told, no-son-told, son-told, no-lock-told, past-told, lock-told}
 use Rattle.ledger.proofs.Release.awaited.Statement.{statement}
@@ -8,16 +6,15 @@ use Rattle.ledger.proofs.Release.awaited.Tie as tie
 
 returns : tie.Need-returns
 returns c =
-    let l = c .before .before .before in
+    let l = c .before .before in
     let s = l .before .before in
-    no-lock-told (s .args .t1) (s .args .why) (l .why2 .given .1) (sym (c .before .wide .ensures) ∙ c .if2 .taken)
+    no-lock-told (s .args .t1) (s .args .why) (l .why2 .given .1) (c .if2 .taken)
 
 returns-2 : tie.Need-returns-2
 returns-2 c =
-    let w = c .before .before in
-    let l = w .before .before in
+    let l = c .before .before .before in
     let s = l .before .before in
-    past-told (s .args .t1) (s .args .why) (l .why2 .given .1) (omega (arith, w .wide .ensures, c .if3 .taken)) (search needs)
+    past-told (s .args .t1) (s .args .why) (l .why2 .given .1) (c .if3 .taken) (search needs)
 
 returns-3 : tie.Need-returns-3
 returns-3 c = nothing-told (c .before .before .args .t1) (c .before .before .args .why) (c .enum-told .given .1)
@@ -39,11 +36,10 @@ returns-6 c =
 
 returns-7 : tie.Need-returns-7
 returns-7 c =
-    let w = c .before .before .before in
-    let l = w .before .before in
+    let e = c .before .before in
+    let l = e .before .before in
     let s = l .before .before in
-    lock-told (s .args .t1) (s .args .why) (w .wide .result) (l .why2 .given .1) (λ z. c .before .before .if2 .left (w .wide .ensures ∙ z))
-    (w .wide .ensures)
+    lock-told (s .args .t1) (s .args .why) (l .why2 .given .1) (e .if2 .left)
 
 returns-8 : tie.Need-returns-8
 returns-8 c = number-told (c .before .before .args .t1) (c .before .before .args .why) (c .enum-told3 .given .1)
@@ -56,7 +52,7 @@ awaited-spec =
     (λ c. search needs)
     (λ c. search needs)
     (λ c. search needs)
-    (λ c κs. search needs)
+    (λ c. search needs)
     returns
     returns-2
     (λ c. search needs)

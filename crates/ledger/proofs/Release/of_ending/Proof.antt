@@ -15,12 +15,12 @@ abbrev μ-loop : tie.MeasureT-loop
 μ-loop p n numbers cleared₀ count i₀ cleared i = count - i
 
 loop-holds : tie.Need-loop-holds Inv-loop μ-loop
-loop-holds c = marks-start (c .before .args .t1) (c .before .args .p)
+loop-holds c = marks-start (c .args .t1) (c .args .p)
 
 loop-again : tie.Need-loop-again Inv-loop μ-loop
 loop-again c =
     let b = c .before .before .before in
-    marks-step (c .concerns .result) (b .loop .inv) (omega arith) (b .before .before .pre .0 .most) (c .concerns .ensures)
+    marks-step (c .concerns .result) (b .loop .inv) (omega arith) (b .before .pre .0 .most) (c .concerns .ensures)
 
 returns : tie.Need-returns Inv-loop μ-loop
 unfolding endsIn
@@ -29,7 +29,7 @@ returns c =
     record {
       ended = refl;
       tracks = refl;
-      cleared = marks-end (b .loop .inv) (omega arith) (b .before .before .pre .1);
+      cleared = marks-end (b .loop .inv) (omega arith) (b .before .pre .1);
       dealt = c .owns-any .ensures;
     }
 
@@ -39,7 +39,7 @@ of-ending-spec =
     (tie.spec
     Inv-loop
     μ-loop
-    (λ c κs. search needs)
+    (λ c. search needs)
     loop-holds
     (λ c. omega arith)
     (λ c. omega arith)

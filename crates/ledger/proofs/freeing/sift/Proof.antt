@@ -1,8 +1,8 @@
 -- `ledger::sift` meets its contract. The invariant is `Sifted`, by whether the release, as shown, is awaited; any other that it says keeps the same. The measure is what
 -- is yet to be read. Assumes nothing.
-use Prim.Native.Nat.{ℕ, _-_}
+use Prim.Native.Nat.{_-_}
 use native.Mathlib.Omega.{arith}
-use mathlib.Core.Path.{sym, ap, _∙_}
+use mathlib.Core.Path.{sym, _∙_}
 use mathlib.Core.Logic.{⊎-elim}
 use lib.ListN.{getD, take}
 use borrow.Author.Needs.{needs}
@@ -26,21 +26,18 @@ loop-holds c =
     sifted-start (λ q. awaits (shown (a .release)) (recordAt (a .t1) q .why)) (a .t2 .ids) (a .t2 .len) (search needs) (c .pre .most)
 
 -- the program that is read is known
-known : (c : tie.After-wide Inv-loop μ-loop) → Known (getD (c .before .before .before .before .args .t2 .ids) (c .before .before .before .loop .i) 0)
+known : (c : tie.After-q Inv-loop μ-loop) → Known (getD (c .before .before .before .args .t2 .ids) (c .before .before .loop .i) 0)
 known c =
-    let b = c .before .before .before in
+    let b = c .before .before in
     let s = b .before in
     listed-known (s .args .t2 .ids) (s .args .t2 .len) (b .loop .i) (s .pre) (omega arith) (omega arith)
 
 loop-again : tie.Need-loop-again Inv-loop μ-loop
 loop-again c =
     let t = c .before in
-    let w = t .before .before in
-    let b = w .before .before .before in
+    let b = t .before .before .before .before in
     let a = b .before .args in
-    let same =
-    ap (λ (k : ℕ). awaits (shown (a .release)) (recordAt (a .t1) k .why)) (sym (w .wide .ensures))
-    ∙ sym (t .awaited .ensures (shown (a .release)) (shown-is (a .release))) in
+    let same = sym (t .awaited .ensures (shown (a .release)) (shown-is (a .release))) in
     ⊎-elim
     (λ e. sifted-in (b .loop .inv) (omega arith) (same ∙ e .0 .taken) (e .1) (e .2))
     (λ e. sifted-out (b .loop .inv) (omega arith) (same ∙ e .0 .left) (e .1) (e .2))
@@ -61,7 +58,7 @@ sift-spec =
     μ-loop
     loop-holds
     (λ c. omega arith)
-    (λ c κs. search needs)
+    (λ c. search needs)
     (λ c. omega (arith, known c))
     (λ c. omega (arith, known c))
     (λ c. omega (arith, known c))

@@ -31,19 +31,19 @@ used : (c : tie.Else2) → Keyed usedKey (c .before .before .before .before .bef
 used c = c .before .before .enrolled .ensures .marked (not-false _ (c .if2 .left))
 
 held-soundly-requires : tie.Need-held-soundly-requires
-held-soundly-requires c κs = sizes (c .before .before .before .before .before .before .before .before .before) .tracks
+held-soundly-requires c κs = sizes (c .before .before .before .before .before .before .before .before) .tracks
 
 returns-3 : tie.Need-returns-3
 returns-3 c =
     let k = c .before in
-    let m = k .before .before .before in
+    let m = k .before .before in
     let e2 = m .before .before .before in
     let l = e2 .before .before .before .before .before .before .args .l in
     book-no l (λ P. k .held-soundly .ensures .nay (not-true (k .held-soundly .result) (c .if3 .taken))
     (held-map (user-serves l (used e2) (m .strangers .ensures)) (P .places)))
 
 numbers-ok-requires : tie.Need-numbers-ok-requires
-numbers-ok-requires c κs = sizes (c .before .before .before .before .before .before .before .before .before .before .before .before .before) .few
+numbers-ok-requires c κs = sizes (c .before .before .before .before .before .before .before .before .before .before .before .before) .few
 
 -- the arrays' lengths
 holders-long : (s : tie.Start) → length (places (s .args .l .tracks)) ≡ 256
@@ -56,7 +56,7 @@ returns-4 : tie.Need-returns-4
 returns-4 c =
     let e3 = c .before .before .before in
     let k = e3 .before .held-soundly in
-    let m = e3 .before .before .before .before in
+    let m = e3 .before .before .before in
     let e2 = m .before .before .before in
     let e1 = e2 .before .before .before .before in
     let s = e1 .before .before in
