@@ -1,7 +1,7 @@
 -- Releases: what a release of the code says of whoever waits, and the marks of the numbers that are set free.
 -- The idea: a release is shown as one of the rules, by its marks; any other that it says the same as wakes the same.
 -- Assumes nothing.
-use Prim.Native.Nat.{ℕ, zero, suc, _+_, _-_, _≤_, _<_}
+use Prim.Native.Nat.{ℕ, _+_, _-_, _≤_, _<_}
 use native.Mathlib.Omega.{arith}
 use native.Mathlib.Decide.{ℕ-discrete, decLe}
 use mathlib.Core.Path.{_≡_, refl, sym, ap, _∙_}

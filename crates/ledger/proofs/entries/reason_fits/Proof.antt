@@ -1,5 +1,4 @@
 -- `ledger::entries::reason_fits` meets its contract. Assumes nothing.
-use Prim.Native.Nat.{ℕ}
 use mathlib.Core.Path.{_≡_, sym, ap, _∙_}
 use mathlib.Core.Bool.{Bool}
 use Rattle.records.specs.declared.Why.{Why}

@@ -7,7 +7,6 @@ use native.Mathlib.Omega.{arith}
 use lib.ListN.{getD}
 use Rattle.tracks.proofs.Tells.{tells-yes, tells-no}
 use Rattle.ledger.proofs.Rows.{Meeting, meeting-start, meeting-none, meeting-twice, meeting-dead, meeting-more, meeting-end}
-use borrow.Author.Needs.{needs}
 use Rattle.ledger.proofs.roll.sons_ok.Statement.{statement}
 use Rattle.ledger.proofs.roll.sons_ok.Tie as tie
 
