@@ -1,4 +1,4 @@
--- Laws of an array that a loop fills, place by place: with the bytes from a place on, or with what a function says of each place.
+-- Laws of an array that a loop fills, place by place, with what a function says of each.
 -- Assumes nothing.
 use Prim.Native.Nat.{ℕ, zero, suc, _+_, _<_, _≤_}
 use native.Mathlib.Nat.{add-zero, zero-add, add-suc, suc-add}
@@ -6,8 +6,8 @@ use native.Mathlib.Numerals.{add-one}
 use native.Mathlib.Omega.{arith}
 use mathlib.Core.Path.{_≡_, sym, ap, _∙_}
 use mathlib.Core.List.{List, [], _∷_, _++_, map}
-use lib.ListN.{length, getD, take, drop, set, length-drop, length-set}
-use lib.Seq.{take-all, take-suc, take-suc-set, getD-drop}
+use lib.ListN.{length, take, set, length-set}
+use lib.Seq.{take-all, take-suc-set}
 use Rattle.lists.specs.Lists.{from}
 
 -- the first i of n places hold what `part` says of so many
@@ -31,15 +31,6 @@ module _ {A : Type 0} (n : ℕ) (part : ℕ → List A) where
   filled-end {i} {xs} h F =
       let e : i ≡ n = omega arith in
       sym (take-all i xs (omega arith)) ∙ F .done ∙ ap part e
-
--- the first k bytes from place o on
-abbrev pub taken : ℕ → List ℕ → ℕ → List ℕ
-taken o s k = take k (drop o s)
-
-pub taken-turn : (n o : ℕ) (s : List ℕ) {i : ℕ} {xs : List ℕ} → i < n → o + i < length s → Filled n (taken o s) i xs → Filled n (taken o s) (i + 1) (set xs i (getD s (o + i) 0))
-taken-turn n o s {i} h more F =
-    filled-turn n (taken o s) (getD s (o + i) 0) h
-    (take-suc (drop o s) i 0 (omega (arith, length-drop o s)) ∙ ap (λ (v : ℕ). taken o s i ++ (v ∷ [])) (getD-drop o s i 0)) F
 
 -- what f says of the first k places
 abbrev pub listed : {A : Type 0} → (ℕ → A) → ℕ → List A

@@ -1,23 +1,17 @@
 -- Laws of the lines of a text, one by one: from a place on, the line that begins there and then those behind its end.
 -- Assumes nothing.
-use Prim.Native.Nat.{ℕ, _+_, _-_, _<_, _≤_}
+use Prim.Native.Nat.{ℕ, _+_, _<_, _≤_}
 use native.Mathlib.Decide.{decLt}
 use native.Mathlib.Omega.{arith}
 use mathlib.Core.Path.{_≡_, refl, sym, ap, _∙_}
 use mathlib.Core.List.{List, [], _∷_}
-use lib.ListN.{length, getD, take, drop, drop-of-length-le}
+use lib.ListN.{length, getD, drop, drop-of-length-le}
 use lib.Seq.{slice}
 use Rattle.text.specs.Text.{parts}
 use Rattle.text.specs.Inner.{PartEnd}
-use Rattle.text.proofs.Fields.{slice-next, drop-take, parts-cut}
+use Rattle.text.proofs.Fields.{slice-next, parts-cut}
 use Rattle.console.specs.Sheet.{dropEmpty, linesOf}
 use Rattle.console.proofs.LineEnds.{LineEnd}
-
--- a slice, as the code takes it
-pub slice-taken : (s : List ℕ) (from e : ℕ) → from ≤ e → take (e - from) (drop from s) ≡ slice from e s
-slice-taken s from e h =
-    let k : from + (e - from) ≡ e = omega arith in
-    sym (drop-take from (e - from) s) ∙ ap (λ (n : ℕ). slice from n s) k
 
 -- the text is at its end
 pub lines-none : (s : List ℕ) (from : ℕ) → length s ≤ from → linesOf (drop from s) ≡ []

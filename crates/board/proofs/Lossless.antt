@@ -15,6 +15,7 @@ use Rattle.records.specs.declared.Program.{Program}
 use Rattle.records.specs.declared.Resource.{Resource}
 use Rattle.records.specs.declared.Why.{Why}
 use Rattle.records.specs.declared.Why.the-variants.{Nothing, Tracks, Son, Lock, Number}
+use Rattle.tracks.specs.Tracks.{places, tableAt}
 use Rattle.tables.specs.declared.Tables.{Tables}
 use Rattle.tables.specs.Tables.{Arrays}
 use Rattle.board.specs.Packed.{inBytes, ofBytes, figureAt, kindOf, countOf, whyOf, packProgram, programAt, packResource, resourceAt, packed, unpacked, programsPlace, resourcesPlace}
@@ -143,7 +144,7 @@ program-back s r o rest F whole =
 tables-parts : (t : Tables)
     → packed t
     ≡ inBytes 8 (t .ledger .clock .ticks) ++ (inBytes 2 (t .ledger .tracks .count) ++ (inBytes 2 (t .ledger .tracks .system) ++ ((t .ledger .numbers .count ∷ [])
-    ++ (t .ledger .tracks .holders ++ (join (map packResource (t .ledger .numbers .resources)) ++ (t .links ++ join (map packProgram (t .ledger .programs))))))))
+    ++ (places (t .ledger .tracks) ++ (join (map packResource (t .ledger .numbers .resources)) ++ (t .links ++ join (map packProgram (t .ledger .programs))))))))
 unfolding packed
 tables-parts t = simp append-assoc
 
@@ -155,7 +156,7 @@ lossless t A F =
     let rs = t .ledger .numbers .resources in
     let l = t .links ++ join (map packProgram ps) in
     let r = join (map packResource rs) ++ l in
-    let h = t .ledger .tracks .holders ++ r in
+    let h = places (t .ledger .tracks) ++ r in
     let n = (t .ledger .numbers .count ∷ []) ++ h in
     let y = inBytes 2 (t .ledger .tracks .system) ++ n in
     let x = inBytes 2 (t .ledger .tracks .count) ++ y in
@@ -164,7 +165,7 @@ lossless t A F =
     let p₁₀ : drop 10 s ≡ y = behind s 8 10 (inBytes 2 (t .ledger .tracks .count)) refl p₈ in
     let p₁₂ : drop 12 s ≡ n = behind s 10 12 (inBytes 2 (t .ledger .tracks .system)) refl p₁₀ in
     let p₁₃ : drop 13 s ≡ h = behind s 12 13 (t .ledger .numbers .count ∷ []) refl p₁₂ in
-    let p₂₆₉ : drop 269 s ≡ r = behind s 13 269 (t .ledger .tracks .holders) (omega (arith, A .holders)) p₁₃ in
+    let p₂₆₉ : drop 269 s ≡ r = behind s 13 269 (places (t .ledger .tracks)) (omega (arith, A .holders)) p₁₃ in
     let p₃₀₁ : drop 301 s ≡ l = behind s 269 301 (join (map packResource rs)) (omega (arith, A .resources, resources-length rs)) p₂₆₉ in
     let p₃₄₁ : drop 341 s ≡ join (map packProgram ps) = behind s 301 341 (t .links) (omega (arith, A .links)) p₃₀₁ in
     λ i. record {
@@ -174,11 +175,9 @@ lossless t A F =
             ∙ items-back FitProgram packProgram 28 (λ r f. program-length r (f .name)) s (λ i. programsPlace + 28 * i) (λ i. omega arith) (programAt s) (program-back s) ps 0 [] (F .programs) (p₃₄₁ ∙ sym (append-nil (join (map packProgram ps)))))
             i;
         clock = record { ticks = number-at s 0 8 (t .ledger .clock .ticks) x (F .clock) p₀ i };
-        tracks = record {
-          count = number-at s 8 2 (t .ledger .tracks .count) y (F .tracks) p₈ i;
-          system = number-at s 10 2 (t .ledger .tracks .system) n (F .system) p₁₀ i;
-          holders = list-at s 13 256 (t .ledger .tracks .holders) r (A .holders) p₁₃ i;
-        };
+        tracks =
+            tableAt (number-at s 8 2 (t .ledger .tracks .count) y (F .tracks) p₈ i) (number-at s 10 2 (t .ledger .tracks .system) n (F .system) p₁₀ i)
+            (list-at s 13 256 (places (t .ledger .tracks)) r (A .holders) p₁₃ i);
         numbers = record {
           count = byte-at s 12 p₁₂ i;
           resources =

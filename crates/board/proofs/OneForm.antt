@@ -53,6 +53,10 @@ filled-whole {l} {x} w e =
     let h : length l ≤ length x = omega arith in
     wrote-front w (omega arith) ∙ ap (λ (r : List ℕ). x ++ r) (drop-of-length-le l h) ∙ append-nil x
 
+-- k bytes from place o on, put where as many stood
+pub part-whole : (o k : ℕ) (s : List ℕ) {l l′ : List ℕ} {n : ℕ} → o + k ≤ length s → length l ≡ k → Wrote l 0 (take k (drop o s)) l′ n → l′ ≡ take k (drop o s)
+part-whole o k s h e w = filled-whole w (length-take-le k (drop o s) (omega (arith, length-drop o s)) ∙ sym e)
+
 -- THE TABLES THAT BYTES SAY
 each-from : {A : Type 0} (P : A → Type 0) (f : ℕ → A) (p n : ℕ) → ((i : ℕ) → i < p + n → P (f i)) → Each P (map f (from p n))
 each-from P f p zero h = tt

@@ -18,6 +18,7 @@ use Rattle.text.proofs.Laws.{Left, left-start, left-step, left-end, wrote-then}
 use Rattle.records.specs.declared.Program.{Program}
 use Rattle.records.specs.declared.Resource.{Resource}
 use Rattle.records.proofs.Program.{the-type}
+use Rattle.tracks.specs.Tracks.{places}
 use Rattle.tables.specs.declared.Tables.{Tables}
 use Rattle.board.specs.Packed.{inBytes, kindOf, countOf, packProgram, packResource, packed}
 
@@ -82,19 +83,19 @@ program-wrote {l₀} {l₁} {l₂} {l₃} {l₄} {l₅} {l₆} {l₇} {l₈} {at
 
 pub tables-wrote : {l₀ l₁ l₂ l₃ l₄ l₅ l₆ l₇ l₈ : List ℕ} {at₀ at₁ at₂ at₃ at₄ at₅ at₆ at₇ at₈ : ℕ} (t : Tables)
     → Wrote l₀ at₀ (inBytes 8 (t .ledger .clock .ticks)) l₁ at₁ → Wrote l₁ at₁ (inBytes 2 (t .ledger .tracks .count)) l₂ at₂ → Wrote l₂ at₂ (inBytes 2 (t .ledger .tracks .system)) l₃ at₃
-    → Wrote l₃ at₃ (t .ledger .numbers .count ∷ []) l₄ at₄ → Wrote l₄ at₄ (t .ledger .tracks .holders) l₅ at₅ → Wrote l₅ at₅ (join (map packResource (t .ledger .numbers .resources))) l₆ at₆
+    → Wrote l₃ at₃ (t .ledger .numbers .count ∷ []) l₄ at₄ → Wrote l₄ at₄ (places (t .ledger .tracks)) l₅ at₅ → Wrote l₅ at₅ (join (map packResource (t .ledger .numbers .resources))) l₆ at₆
     → Wrote l₆ at₆ (t .links) l₇ at₇ → Wrote l₇ at₇ (join (map packProgram (t .ledger .programs))) l₈ at₈ → Wrote l₀ at₀ (packed t) l₈ at₈
 unfolding packed
 tables-wrote t a b c d e f g h =
     let p : List ℕ = inBytes 8 (t .ledger .clock .ticks) ++ inBytes 2 (t .ledger .tracks .count) in
     let q : List ℕ = p ++ inBytes 2 (t .ledger .tracks .system) in
     let r : List ℕ = q ++ (t .ledger .numbers .count ∷ []) in
-    let s : List ℕ = r ++ t .ledger .tracks .holders in
+    let s : List ℕ = r ++ places (t .ledger .tracks) in
     let u : List ℕ = s ++ join (map packResource (t .ledger .numbers .resources)) in
     wrote-then (u ++ t .links) (join (map packProgram (t .ledger .programs)))
     (wrote-then u (t .links)
     (wrote-then s (join (map packResource (t .ledger .numbers .resources)))
-    (wrote-then r (t .ledger .tracks .holders)
+    (wrote-then r (places (t .ledger .tracks))
     (wrote-then q (t .ledger .numbers .count ∷ [])
     (wrote-then p (inBytes 2 (t .ledger .tracks .system))
     (wrote-then (inBytes 8 (t .ledger .clock .ticks)) (inBytes 2 (t .ledger .tracks .count)) a b) c) d) e) f) g) h

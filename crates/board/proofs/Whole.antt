@@ -11,9 +11,8 @@ use borrow.Author.Tests.{leb-true, le-leb, lt-leb}
 use Rattle.tables.specs.declared.Tables.{Tables}
 use Rattle.tables.specs.Tables.{smallest}
 use Rattle.rules.specs.Engine.{front}
-use Rattle.console.specs.Line.{lineOf}
 use Rattle.console.specs.Console.{keyed}
-use Rattle.console.specs.Sheet.{bytesFor, lent, shown, linesOf, printed, sheet}
+use Rattle.console.specs.Sheet.{bytesFor, lent, linesOf, printed, sheet}
 use Rattle.board.specs.Board.{figuresLength, answering, longest, filled, Ran, notRun, ran}
 
 -- what a line prints, and the tables after it

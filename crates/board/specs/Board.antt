@@ -12,7 +12,6 @@ use Rattle.tables.specs.Tables.{smallest}
 use Rattle.tables.specs.Sound.{sound}
 use Rattle.rules.specs.Engine.{front}
 use Rattle.page.specs.Paging.{Written}
-use Rattle.console.specs.Line.{lineOf}
 use Rattle.console.specs.Console.{keyed}
 use Rattle.console.specs.Sheet.{lent, bytesFor, linesOf, sheet}
 use Rattle.board.specs.Packed.{inBytes, packedLength, packed, unpacked}

@@ -1,7 +1,7 @@
 -- Tables as bytes at fixed places, for a caller in another language.
 -- Assumes nothing.
 use Prim.Native.Nat.{ℕ, zero, suc, _+_, _*_, _/_, _%_}
-use mathlib.Core.Bool.{Bool, true, false, cond}
+use mathlib.Core.Bool.{cond}
 use mathlib.Core.List.{List, [], _∷_, _++_, map}
 use lib.ListN.{getD, take, drop}
 use lib.Dec.{ltb, eqb}
@@ -10,6 +10,7 @@ use Rattle.records.specs.declared.Program.{Program}
 use Rattle.records.specs.declared.Resource.{Resource}
 use Rattle.records.specs.declared.Why.{Why}
 use Rattle.records.specs.declared.Why.the-variants.{Nothing, Tracks, Son, Lock, Number}
+use Rattle.tracks.specs.Tracks.{places, tableAt}
 use Rattle.tables.specs.declared.Tables.{Tables}
 
 -- a number in k bytes, the lowest first; and k bytes as a number
@@ -89,7 +90,7 @@ packedLength = 1237
 unfoldable pub packed : Tables → List ℕ
 packed t =
     inBytes 8 (t .ledger .clock .ticks) ++ inBytes 2 (t .ledger .tracks .count) ++ inBytes 2 (t .ledger .tracks .system) ++ (t .ledger .numbers .count ∷ [])
-    ++ t .ledger .tracks .holders ++ join (map packResource (t .ledger .numbers .resources)) ++ t .links
+    ++ places (t .ledger .tracks) ++ join (map packResource (t .ledger .numbers .resources)) ++ t .links
     ++ join (map packProgram (t .ledger .programs))
 
 unfoldable pub unpacked : List ℕ → Tables
@@ -98,7 +99,7 @@ unpacked s = record {
   ledger = record {
     programs = map (λ i. programAt s (programsPlace + 28 * i)) (from 0 32);
     clock = record { ticks = figureAt 8 s 0 };
-    tracks = record { count = figureAt 2 s 8; system = figureAt 2 s 10; holders = take 256 (drop holdersPlace s) };
+    tracks = tableAt (figureAt 2 s 8) (figureAt 2 s 10) (take 256 (drop holdersPlace s));
     numbers = record { count = getD s 12 0; resources = map (λ i. resourceAt s (resourcesPlace + 2 * i)) (from 0 16) };
   };
   links = take 40 (drop linksPlace s);

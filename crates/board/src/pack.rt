@@ -5,6 +5,7 @@ ghost use mathlib.Core.List.{map};
 ghost use lib.ListN.{length, take, drop};
 ghost use Rattle.lists.specs.Lists.{from, join};
 ghost use Rattle.text.specs.Inner.{Wrote};
+ghost use Rattle.tracks.specs.Tracks.{tableAt};
 ghost use Rattle.board.specs.Packed.{inBytes, figureAt, kindOf, countOf, whyOf, packProgram, programAt, packResource, resourceAt, packed, unpacked, programsPlace, resourcesPlace, packedLength};
 ghost use Rattle.board.specs.Board.{isPacked};
 use clock::Clock;
@@ -94,25 +95,23 @@ fn resources_at(s: &[u8]) -> [Resource; 16]
     let mut resources = [free; 16];
     let mut i: usize = 0;
     while i < 16 {
-        let owner = s[269 + 2 * i];
-        let lock = s[270 + 2 * i];
-        resources[i] = Resource { owner, lock };
+        let at = 269 + 2 * i;
+        resources[i] = Resource {
+            owner: s[at],
+            lock: s[at + 1],
+        };
         i += 1;
     }
     resources
 }
 
-fn holders_at(s: &[u8]) -> [u8; 256]
+fn tracks_at(s: &[u8]) -> Tracks
     requires { ⌜ packedLength ≤ length (now s) ⌝ }
-    ensures { λ r. ⌜ r ≡ take 256 (drop 13 (now (s .entry))) ⌝ }
+    ensures { λ r. ⌜ r ≡ tableAt (figureAt 2 (now (s .entry)) 8) (figureAt 2 (now (s .entry)) 10) (take 256 (drop 13 (now (s .entry)))) ⌝ }
 {
     let mut holders = [0u8; 256];
-    let mut i: usize = 0;
-    while i < 256 {
-        holders[i] = s[13 + i];
-        i += 1;
-    }
-    holders
+    text::put_bytes(&mut holders, 0, &s[13..269]);
+    Tracks::from_places(pair_at(s, 8), pair_at(s, 10), holders)
 }
 
 fn links_at(s: &[u8]) -> [u8; 40]
@@ -120,11 +119,7 @@ fn links_at(s: &[u8]) -> [u8; 40]
     ensures { λ r. ⌜ r ≡ take 40 (drop 301 (now (s .entry))) ⌝ }
 {
     let mut links = [0u8; 40];
-    let mut i: usize = 0;
-    while i < 40 {
-        links[i] = s[301 + i];
-        i += 1;
-    }
+    text::put_bytes(&mut links, 0, &s[301..341]);
     links
 }
 
@@ -135,12 +130,7 @@ pub(crate) fn tables_at(s: &[u8]) -> Tables
 {
     let programs = programs_at(s);
     let clock = Clock::from_ticks(long_at(s, 0));
-    let holders = holders_at(s);
-    let tracks = Tracks {
-        count: pair_at(s, 8),
-        system: pair_at(s, 10),
-        holders: holders,
-    };
+    let tracks = tracks_at(s);
     let resources = resources_at(s);
     let numbers = Numbers {
         count: s[12],
@@ -256,7 +246,7 @@ pub(crate) fn put_tables(buf: &mut [u8], tables: Tables) -> usize
     let book = tables.ledger;
     let clock = book.clock;
     let tracks = book.tracks;
-    let holders = tracks.holders;
+    let holders = tracks.places();
     let numbers = book.numbers;
     let resources = numbers.resources;
     let links = tables.links;

@@ -1,9 +1,9 @@
 -- The test of blank entries says what its clause says, both ways.
 -- Assumes nothing.
-use Prim.Native.Nat.{ℕ, zero, suc, _+_, _-_, _≤_, _<_}
+use Prim.Native.Nat.{ℕ, zero, suc, _+_, _-_, _≤_}
 use native.Mathlib.Omega.{arith}
 use mathlib.Core.Path.{_≡_, refl, sym, ap, _∙_}
-use mathlib.Core.Bool.{Bool, true, false, _&&_}
+use mathlib.Core.Bool.{true, _&&_}
 use mathlib.Core.List.{List, [], _∷_}
 use lib.ListN.{getD, drop}
 use lib.Seq.{getD-drop}
@@ -11,8 +11,8 @@ use lib.Dec.{eqb}
 use borrow.Author.Tests.{eq-eqb, eqb-true}
 use Rattle.lists.proofs.Tests.{both, and}
 use Rattle.records.specs.declared.Resource.{Resource}
-use Rattle.records.specs.Numbers.{free, numberAt}
-use Rattle.tracks.specs.Tracks.{nobody}
+use Rattle.records.specs.Numbers.{free}
+use Rattle.tracks.specs.Tracks.{nobody, places}
 use Rattle.ledger.specs.declared.Ledger.{Ledger}
 use Rattle.ledger.specs.Ledger.{Blank, noHolders, noNumbers, testBlank}
 
@@ -52,10 +52,10 @@ behind n i xs d h = getD-drop n xs (i - n) d ∙ ap (λ (k : ℕ). getD xs k d) 
 pub blank-clause : (l : Ledger) → testBlank l ≡ true → Blank l
 unfolding testBlank
 blank-clause l e =
-    let b = both (noHolders (drop (l .tracks .count) (l .tracks .holders))) (noNumbers (drop (l .numbers .count) (l .numbers .resources))) e in
+    let b = both (noHolders (drop (l .tracks .count) (places (l .tracks)))) (noNumbers (drop (l .numbers .count) (l .numbers .resources))) e in
     record {
-      tracks = λ i h. sym (behind (l .tracks .count) i (l .tracks .holders) nobody h)
-          ∙ holders-true (drop (l .tracks .count) (l .tracks .holders)) (b .0) (i - l .tracks .count);
+      tracks = λ i h. sym (behind (l .tracks .count) i (places (l .tracks)) nobody h)
+          ∙ holders-true (drop (l .tracks .count) (places (l .tracks))) (b .0) (i - l .tracks .count);
       numbers = λ r h. sym (behind (l .numbers .count) (r - 1) (l .numbers .resources) free (omega arith))
           ∙ numbers-true (drop (l .numbers .count) (l .numbers .resources)) (b .1) (r - 1 - l .numbers .count);
     }
@@ -64,8 +64,8 @@ pub blank-test : (l : Ledger) → Blank l → testBlank l ≡ true
 unfolding testBlank
 blank-test l B =
     and
-    (holders-is (drop (l .tracks .count) (l .tracks .holders)) (λ i.
-    getD-drop (l .tracks .count) (l .tracks .holders) i nobody ∙ B .tracks (l .tracks .count + i) (omega arith)))
+    (holders-is (drop (l .tracks .count) (places (l .tracks))) (λ i.
+    getD-drop (l .tracks .count) (places (l .tracks)) i nobody ∙ B .tracks (l .tracks .count + i) (omega arith)))
     (numbers-is (drop (l .numbers .count) (l .numbers .resources)) (λ i.
     getD-drop (l .numbers .count) (l .numbers .resources) i free
     ∙ ap (λ (k : ℕ). getD (l .numbers .resources) k free) (omega arith)

@@ -1,7 +1,7 @@
 -- Releases: what a release of the code says of whoever waits, and the marks of the numbers that are set free.
 -- The idea: a release is shown as one of the rules, by its marks; any other that it says the same as wakes the same.
 -- Assumes nothing.
-use Prim.Native.Nat.{ℕ, zero, suc, _+_, _-_, _≤_, _<_}
+use Prim.Native.Nat.{ℕ, _+_, _-_, _≤_, _<_}
 use native.Mathlib.Omega.{arith}
 use native.Mathlib.Decide.{ℕ-discrete, decLe}
 use mathlib.Core.Path.{_≡_, refl, sym, ap, _∙_}
@@ -11,6 +11,7 @@ use mathlib.Core.List.{List}
 use lib.Dec.{ltb, eqb}
 use lib.ListN.{length, getD, set, replicate, length-set, length-replicate, List·getD-eq-default}
 use lib.Seq.{getD-set-same, getD-set-other}
+use borrow.Author.Count.{below-more}
 use borrow.Author.Tests.{eq-eqb, ne-eqb, ltb-true, lt-ltb}
 use Rattle.records.specs.declared.Numbers.{Numbers}
 use Rattle.records.specs.declared.Why.{Why}
@@ -21,6 +22,7 @@ use Rattle.rules.specs.Plans.{awaits}
 use Rattle.rules.specs.Plans as rules
 use Rattle.ledger.specs.declared.Release.{Release}
 use Rattle.ledger.specs.Inner.{Releases}
+use Rattle.ledger.proofs.Rows.{unset}
 
 -- a release as the rules have it, and those that say the same
 abbrev pub shown : Release → rules.Release
@@ -72,17 +74,10 @@ module _ (x : Release) (w : Why) where
   past-told {r} e h l =
       told x w (Lock r) false e (rw (lt-ltb 0 r (omega arith)) (List·getD-eq-default (x .cleared) false {n = r - 1} (omega arith)))
 
-  pub lock-told : {r : ℕ} (k : ℕ) → w ≡ Lock r → r ≢ 0 → k ≡ r → Answer x w (getD (x .cleared) (k - 1) false)
-  lock-told {r} k e h z =
-      told x w (Lock r) (getD (x .cleared) (k - 1) false) e
-      (rw (lt-ltb 0 r (omega (arith, h))) (ap (λ (i : ℕ). getD (x .cleared) (i - 1) false) (sym z)))
+  pub lock-told : {r : ℕ} → w ≡ Lock r → r ≢ 0 → Answer x w (getD (x .cleared) (r - 1) false)
+  lock-told {r} e h = told x w (Lock r) (getD (x .cleared) (r - 1) false) e (rw (lt-ltb 0 r (omega (arith, h))))
 
--- no mark, and one mark
-pub unmarked : (n k : ℕ) → getD (replicate n false) k false ≡ false
-unmarked zero k = refl
-unmarked (suc n) zero = refl
-unmarked (suc n) (suc k) = unmarked n k
-
+-- one mark
 pub marked : (n r s : ℕ) → 1 ≤ r → r ≤ n → 1 ≤ s → getD (set (replicate n false) (r - 1) true) (s - 1) false ≡ eqb r s
 marked n r s a b d = go (ℕ-discrete (s - 1) (r - 1))
   where
@@ -93,7 +88,7 @@ marked n r s a b d = go (ℕ-discrete (s - 1) (r - 1))
         ∙ sym (eq-eqb r s (omega arith))
     go (no w) =
         getD-set-other (replicate n false) (r - 1) (s - 1) true false w
-        ∙ unmarked n (s - 1)
+        ∙ unset false n (s - 1)
         ∙ sym (ne-eqb r s (λ e. w (ap (λ (x : ℕ). x - 1) (sym e))))
 
 -- the first i numbers are marked where p owns or locks them, and the others are not yet
@@ -108,7 +103,7 @@ marks-start t p = record {
   most = omega arith;
   full = length-replicate 16 false;
   so-far = λ k h. absurd (omega arith);
-  rest = λ k h. unmarked 16 k;
+  rest = λ k h. unset false 16 k;
 }
 
 pub marks-step : {t : Numbers} {p : ℕ} {marks : List Bool} {i : ℕ} (b : Bool) → Marks t p marks i → i < t .count → t .count ≤ 16
@@ -116,17 +111,9 @@ pub marks-step : {t : Numbers} {p : ℕ} {marks : List Bool} {i : ℕ} (b : Bool
 marks-step {t} {p} {marks} {i} b M h m e = record {
   most = omega arith;
   full = length-set marks i b ∙ M .full;
-  so-far = λ k l. done k (ℕ-discrete k i) l;
+  so-far = below-more _ _ (λ k l. getD-set-other marks i k b false (λ z. omega arith) ∙ M .so-far k l) (getD-set-same marks i b false (omega (arith, M .full)) ∙ e);
   rest = λ k l. getD-set-other marks i k b false (λ z. omega arith) ∙ M .rest k (omega arith);
 }
-  where
-    done : (k : ℕ) → Dec (k ≡ i) → k < i + 1 → getD (set marks i b) k false ≡ concerns p (getD (t .resources) k free)
-    done k (yes z) l =
-        ap (λ (j : ℕ). getD (set marks i b) j false) z
-        ∙ getD-set-same marks i b false (omega (arith, M .full))
-        ∙ e
-        ∙ ap (λ (j : ℕ). concerns p (getD (t .resources) j free)) (sym z)
-    done k (no w) l = getD-set-other marks i k b false w ∙ M .so-far k (omega (arith, w))
 
 pub marks-end : {t : Numbers} {p : ℕ} {marks : List Bool} {i : ℕ} → Marks t p marks i → i ≡ t .count → 1 ≤ p
     → (r : ℕ) → 1 ≤ r → getD marks (r - 1) false ≡ concerns p (numberAt (resources t) r)

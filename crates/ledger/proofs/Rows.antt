@@ -9,19 +9,32 @@ use mathlib.Core.Bool.{Bool, true, false, cond}
 use mathlib.Core.List.{List}
 use lib.ListN.{length, getD, set, replicate, length-set}
 use lib.Seq.{getD-set-same, getD-set-other}
+use borrow.Author.Count.{below-more}
 use Rattle.lists.proofs.Tests.{clash}
 use Rattle.records.specs.declared.Program.{Program}
 use Rattle.records.specs.Records.{missing}
 use Rattle.rules.specs.Test.{sonOf}
-use Rattle.ledger.specs.Inner.{Tells, fits, nameCode, nameKey, sonKey, stateKey, usedKey, Keyed, Fresh, Ended, Distinct, Apart, Sons, Awaited, Enrolled, slotOf, Marked}
-use Rattle.ledger.proofs.Bools.{tells-no}
+use Rattle.tracks.specs.Inner.{Tells}
+use Rattle.ledger.specs.Inner.{fits, nameCode, nameKey, sonKey, stateKey, usedKey, Keyed, Fresh, Ended, Distinct, Apart, Sons, Awaited, Enrolled, slotOf, Marked}
+use Rattle.tracks.proofs.Tells.{tells-no}
 use Rattle.ledger.proofs.Turns.{fits-parts, unused-son, son-most}
 
 -- nothing is noted at first
-pub unset : (n i : ℕ) → getD (replicate {A = ℕ} n 0) i 0 ≡ 0
-unset zero i = refl
-unset (suc n) zero = refl
-unset (suc n) (suc i) = unset n i
+pub unset : {A : Type 0} (a : A) (n i : ℕ) → getD (replicate n a) i a ≡ a
+unset a zero i = refl
+unset a (suc n) zero = refl
+unset a (suc n) (suc i) = unset a n i
+
+-- a mark that is left stands, and so do those that were left before
+pub mark-left : (xs : List ℕ) (p : ℕ) → p < length xs → getD (set xs p 1) p 0 ≢ 0
+mark-left xs p h z = omega (arith, getD-set-same xs p 1 0 h)
+
+pub mark-stays : (xs : List ℕ) (p k : ℕ) → p < length xs → getD xs k 0 ≢ 0 → getD (set xs p 1) k 0 ≢ 0
+mark-stays xs p k h n = go (ℕ-discrete k p)
+  where
+    go : Dec (k ≡ p) → getD (set xs p 1) k 0 ≢ 0
+    go (yes w) z = mark-left xs p h (ap (λ (y : ℕ). getD (set xs p 1) y 0) (sym w) ∙ z)
+    go (no w) z = n (sym (getD-set-other xs p k 1 0 w) ∙ z)
 
 -- the first i keys, and none from `high` on
 pub record Row (f : Program → ℕ) (ps : List Program) (high i : ℕ) (ks : List ℕ) : Type 0 where
@@ -30,27 +43,18 @@ pub record Row (f : Program → ℕ) (ps : List Program) (high i : ℕ) (ks : Li
   pub rest : (k : ℕ) → high ≤ k → getD ks k 0 ≡ 0
 
 row-start : (f : Program → ℕ) (ps : List Program) → Row f ps 0 0 (replicate 32 0)
-row-start f ps = record { long = refl; each = λ k h. absurd (omega arith); rest = λ k h. unset 32 k }
+row-start f ps = record { long = refl; each = λ k h. absurd (omega arith); rest = λ k h. unset 0 32 k }
 
-row-used : (f : Program → ℕ) (ps : List Program) (high i : ℕ) (ks : List ℕ) (v : ℕ) → Row f ps high i ks → i < 32 → high ≤ i
-    → v ≡ f (getD ps i missing) → Row f ps (i + 1) (i + 1) (set ks i v)
-row-used f ps high i ks v R h m e = record {
-  long = length-set ks i v ∙ R .long;
-  each = λ k l. go k l (ℕ-discrete k i);
-  rest = λ k l. getD-set-other ks i k v 0 (λ z. omega arith) ∙ R .rest k (omega arith);
-}
-  where
-    go : (k : ℕ) → k < i + 1 → Dec (k ≡ i) → getD (set ks i v) k 0 ≡ f (getD ps k missing)
-    go k l (yes w) = rw w (getD-set-same ks i v 0 (omega (arith, R .long)) ∙ e)
-    go k l (no w) = getD-set-other ks i k v 0 w ∙ R .each k (omega (arith, w))
+module _ {f : Program → ℕ} {ps : List Program} {high i : ℕ} {ks : List ℕ} (R : Row f ps high i ks) (m : high ≤ i) where
+  row-used : (v : ℕ) → i < 32 → v ≡ f (getD ps i missing) → Row f ps (i + 1) (i + 1) (set ks i v)
+  row-used v h e = record {
+    long = length-set ks i v ∙ R .long;
+    each = below-more _ _ (λ k l. getD-set-other ks i k v 0 (λ z. omega arith) ∙ R .each k l) (getD-set-same ks i v 0 (omega (arith, R .long)) ∙ e);
+    rest = λ k l. getD-set-other ks i k v 0 (λ z. omega arith) ∙ R .rest k (omega arith);
+  }
 
-row-unused : (f : Program → ℕ) (ps : List Program) (high i : ℕ) (ks : List ℕ) → Row f ps high i ks → high ≤ i
-    → f (getD ps i missing) ≡ 0 → Row f ps high (i + 1) ks
-row-unused f ps high i ks R m e = record { long = R .long; each = λ k l. go k l (ℕ-discrete k i); rest = R .rest }
-  where
-    go : (k : ℕ) → k < i + 1 → Dec (k ≡ i) → getD ks k 0 ≡ f (getD ps k missing)
-    go k l (yes w) = rw w (R .rest i m ∙ sym e)
-    go k l (no w) = R .each k (omega (arith, w))
+  row-unused : f (getD ps i missing) ≡ 0 → Row f ps high (i + 1) ks
+  row-unused e = record { long = R .long; each = below-more _ _ (R .each) (R .rest i m ∙ sym e); rest = R .rest }
 
 -- the pass, before record i
 pub record Noted (c T R : ℕ) (ps : List Program) (ns ks ss us : List ℕ) (high i : ℕ) : Type 0 where
@@ -76,21 +80,9 @@ noted-start c T R ps = record {
 -- notes that are the same
 pub noted-same : {c T R : ℕ} {ps : List Program} {ns ks ss us : List ℕ} {high i : ℕ} → Noted c T R ps ns ks ss us high i → {ms js rs vs : List ℕ} {top : ℕ}
     → ms ≡ ns → js ≡ ks → rs ≡ ss → vs ≡ us → top ≡ high → Noted c T R ps ms js rs vs top i
-noted-same {c} {T} {R} {ps} {ns} {ks} {ss} {us} {high} {i} N {ms} {js} {rs} {vs} {top} a b d e f =
-    subst (λ (t : ℕ). Noted c T R ps ms js rs vs t i) (sym f)
-    (subst (λ (v : List ℕ). Noted c T R ps ms js rs v high i) (sym e)
-    (subst (λ (r : List ℕ). Noted c T R ps ms js r us high i) (sym d)
-    (subst (λ (j : List ℕ). Noted c T R ps ms j ss us high i) (sym b)
-    (subst (λ (m : List ℕ). Noted c T R ps m ks ss us high i) (sym a) N))))
+noted-same N a b d e f = rw (a, b, d, e, f) N
 
 module _ {c T R : ℕ} {ps : List Program} {names sons states used : List ℕ} {high i : ℕ} (N : Noted c T R ps names sons states used high i) (h : i < 32) where
-  fitting-more : fits c T R (i + 1) (getD ps i missing) ≡ true → (k : ℕ) → k < i + 1 → fits c T R (k + 1) (getD ps k missing) ≡ true
-  fitting-more e k l = go (ℕ-discrete k i)
-    where
-      go : Dec (k ≡ i) → fits c T R (k + 1) (getD ps k missing) ≡ true
-      go (yes w) = rw w e
-      go (no w) = N .fitting k (omega (arith, w))
-
   pub noted-used : fits c T R (i + 1) (getD ps i missing) ≡ true → getD ps i missing .used ≡ true → (name son : ℕ)
       → name ≡ nameCode (getD ps i missing .name) → son ≡ sonOf (getD ps i missing .why)
       → Noted c T R ps (set names i name) (set sons i son) (set states i (getD ps i missing .state)) (set used i 1) (i + 1) (i + 1)
@@ -98,11 +90,11 @@ module _ {c T R : ℕ} {ps : List Program} {names sons states used : List ℕ} {
   noted-used e u name son n s = record {
     most = omega arith;
     low = omega arith;
-    fitting = fitting-more e;
-    names = row-used nameKey ps high i names name (N .names) h (N .low) (n ∙ sym (ap (λ (b : Bool). cond b (nameCode (getD ps i missing .name)) 0) u));
-    sons = row-used sonKey ps high i sons son (N .sons) h (N .low) s;
-    states = row-used stateKey ps high i states (getD ps i missing .state) (N .states) h (N .low) (sym (ap (λ (b : Bool). cond b (getD ps i missing .state) 0) u));
-    used = row-used usedKey ps high i used 1 (N .used) h (N .low) (sym (ap (λ (b : Bool). cond b 1 0) u));
+    fitting = below-more _ _ (N .fitting) e;
+    names = row-used (N .names) (N .low) name h (n ∙ sym (ap (λ (b : Bool). cond b (nameCode (getD ps i missing .name)) 0) u));
+    sons = row-used (N .sons) (N .low) son h s;
+    states = row-used (N .states) (N .low) (getD ps i missing .state) h (sym (ap (λ (b : Bool). cond b (getD ps i missing .state) 0) u));
+    used = row-used (N .used) (N .low) 1 h (sym (ap (λ (b : Bool). cond b 1 0) u));
   }
 
   pub noted-unused : fits c T R (i + 1) (getD ps i missing) ≡ true → getD ps i missing .used ≡ false → Noted c T R ps names sons states used high (i + 1)
@@ -110,11 +102,11 @@ module _ {c T R : ℕ} {ps : List Program} {names sons states used : List ℕ} {
   noted-unused e u = record {
     most = omega arith;
     low = omega (arith, N .low);
-    fitting = fitting-more e;
-    names = row-unused nameKey ps high i names (N .names) (N .low) (ap (λ (b : Bool). cond b (nameCode (getD ps i missing .name)) 0) u);
-    sons = row-unused sonKey ps high i sons (N .sons) (N .low) (unused-son c T R (i + 1) (getD ps i missing) u e);
-    states = row-unused stateKey ps high i states (N .states) (N .low) (ap (λ (b : Bool). cond b (getD ps i missing .state) 0) u);
-    used = row-unused usedKey ps high i used (N .used) (N .low) (ap (λ (b : Bool). cond b 1 0) u);
+    fitting = below-more _ _ (N .fitting) e;
+    names = row-unused (N .names) (N .low) (ap (λ (b : Bool). cond b (nameCode (getD ps i missing .name)) 0) u);
+    sons = row-unused (N .sons) (N .low) (unused-son c T R (i + 1) (getD ps i missing) u e);
+    states = row-unused (N .states) (N .low) (ap (λ (b : Bool). cond b (getD ps i missing .state) 0) u);
+    used = row-unused (N .used) (N .low) (ap (λ (b : Bool). cond b 1 0) u);
   }
 
   pub noted-refused : (rest : List ℕ) → fits c T R (i + 1) (getD ps i missing) ≡ false → Enrolled c T R ps false rest
@@ -199,25 +191,15 @@ module _ {ks seen : List ℕ} {i : ℕ} (S : Seen ks seen i) (h : ℕ) (e : h �
   }
 
   pub seen-more : Fresh ks i → Seen ks (set seen h 1) (i + 1)
-  seen-more f = record { long = length-set seen h 1 ∙ S .long; marks = λ k l. mark k (ℕ-discrete k i) l; new = λ k l. new k (ℕ-discrete k i) l }
+  seen-more f = record {
+    long = length-set seen h 1 ∙ S .long;
+    marks = below-more _ _ (λ k l. mark-stays seen h (slotOf (getD ks k 0)) small (S .marks k l))
+        (subst (λ (x : ℕ). getD (set seen h 1) x 0 ≢ 0) e (mark-left seen h small));
+    new = below-more _ _ (S .new) f;
+  }
     where
-      new : (k : ℕ) → Dec (k ≡ i) → k < i + 1 → Fresh ks k
-      new k (yes w) l = rw w f
-      new k (no w) l = S .new k (omega (arith, w))
-
-      other : (k x : ℕ) → k < i → x ≡ slotOf (getD ks k 0) → Dec (x ≡ h) → getD (set seen h 1) x 0 ≢ 0
-      other k x l q (yes w) z =
-          omega (arith, getD-set-same seen h 1 0 (omega (arith, S .long, slot-small (getD ks i 0))), ap (λ (y : ℕ). getD (set seen h 1) y 0) w)
-      other k x l q (no w) z = S .marks k l (ap (λ (y : ℕ). getD seen y 0) (sym q) ∙ sym (getD-set-other seen h x 1 0 w) ∙ z)
-
-      mark : (k : ℕ) → Dec (k ≡ i) → k < i + 1 → getD (set seen h 1) (slotOf (getD ks k 0)) 0 ≢ 0
-      mark k (yes w) l z =
-          omega (
-            arith,
-            getD-set-same seen h 1 0 (omega (arith, S .long, slot-small (getD ks i 0))),
-            ap (λ (y : ℕ). getD (set seen h 1) y 0) (e ∙ ap (λ (y : ℕ). slotOf (getD ks y 0)) (sym w)),
-          )
-      mark k (no w) l z = other k (slotOf (getD ks k 0)) (omega (arith, w)) refl (ℕ-discrete (slotOf (getD ks k 0)) h) z
+      small : h < length seen
+      small = omega (arith, S .long, slot-small (getD ks i 0))
 
 pub seen-end : {ks seen : List ℕ} {i high : ℕ} → Seen ks seen i → Ended ks high → high ≤ i → Distinct ks
 seen-end {ks} {seen} {i} {high} S E h a l n b m o e = go (decLe (suc b) i)
@@ -244,7 +226,7 @@ meeting-start ks states = record {
   live = λ k h. absurd (omega arith);
   new = λ k h. absurd (omega arith);
   marks = λ k h. absurd (omega arith);
-  back = λ p f. unset 32 p;
+  back = λ p f. unset 0 32 p;
 }
 
 module _ {ks states met : List ℕ} {i : ℕ} (M : Meeting ks states met i) where
@@ -252,23 +234,11 @@ module _ {ks states met : List ℕ} {i : ℕ} (M : Meeting ks states met i) wher
   pub meeting-none : getD ks i 0 ≡ 0 → Meeting ks states met (i + 1)
   meeting-none z = record {
     long = M .long;
-    live = λ k l n. live k l n (ℕ-discrete k i);
-    new = λ k l n. new k l n (ℕ-discrete k i);
-    marks = λ k l n. marks k l n (ℕ-discrete k i);
+    live = below-more _ _ (M .live) (λ n. absurd (n z));
+    new = below-more _ _ (M .new) (λ n. absurd (n z));
+    marks = below-more _ _ (M .marks) (λ n. absurd (n z));
     back = λ p f. M .back p (λ k l. f k (omega arith));
   }
-    where
-      live : (k : ℕ) → k < i + 1 → getD ks k 0 ≢ 0 → Dec (k ≡ i) → getD states (getD ks k 0 - 1) 0 ≢ 0
-      live k l n (yes w) = absurd (n (ap (λ (x : ℕ). getD ks x 0) w ∙ z))
-      live k l n (no w) = M .live k (omega (arith, w)) n
-
-      new : (k : ℕ) → k < i + 1 → getD ks k 0 ≢ 0 → Dec (k ≡ i) → (j : ℕ) → j < k → getD ks j 0 ≢ getD ks k 0
-      new k l n (yes w) = absurd (n (ap (λ (x : ℕ). getD ks x 0) w ∙ z))
-      new k l n (no w) = M .new k (omega (arith, w)) n
-
-      marks : (k : ℕ) → k < i + 1 → getD ks k 0 ≢ 0 → Dec (k ≡ i) → getD met (getD ks k 0 - 1) 0 ≢ 0
-      marks k l n (yes w) = absurd (n (ap (λ (x : ℕ). getD ks x 0) w ∙ z))
-      marks k l n (no w) = M .marks k (omega (arith, w)) n
 
   module _ (n : getD ks i 0 ≢ 0) (p : ℕ) (e : p + 1 ≡ getD ks i 0) where
     place : getD ks i 0 - 1 ≡ p
@@ -284,27 +254,16 @@ module _ {ks states met : List ℕ} {i : ℕ} (M : Meeting ks states met i) wher
     pub meeting-more : getD states p 0 ≢ 0 → getD met p 0 ≡ 0 → p < 32 → Meeting ks states (set met p 1) (i + 1)
     meeting-more s m h = record {
       long = length-set met p 1 ∙ M .long;
-      live = λ k l q. live k l q (ℕ-discrete k i);
-      new = λ k l q. new k l q (ℕ-discrete k i);
-      marks = λ k l q. marks k l q (ℕ-discrete (getD ks k 0 - 1) p) (ℕ-discrete k i);
+      live = below-more _ _ (M .live) (λ q z. s (ap (λ (x : ℕ). getD states x 0) (sym place) ∙ z));
+      new = below-more _ _ (M .new) (λ q j o z.
+          M .marks j o (λ v. n (sym z ∙ v)) (ap (λ (x : ℕ). getD met (x - 1) 0) z ∙ ap (λ (x : ℕ). getD met x 0) place ∙ m));
+      marks = below-more _ _ (λ k l q. mark-stays met p (getD ks k 0 - 1) small (M .marks k l q))
+          (λ q. subst (λ (x : ℕ). getD (set met p 1) x 0 ≢ 0) (sym place) (mark-left met p small));
       back = λ q f. back q f (ℕ-discrete q p);
     }
       where
-        live : (k : ℕ) → k < i + 1 → getD ks k 0 ≢ 0 → Dec (k ≡ i) → getD states (getD ks k 0 - 1) 0 ≢ 0
-        live k l q (yes w) z = s (ap (λ (x : ℕ). getD states x 0) (sym place ∙ ap (λ (x : ℕ). getD ks x 0 - 1) (sym w)) ∙ z)
-        live k l q (no w) z = M .live k (omega (arith, w)) q z
-
-        new : (k : ℕ) → k < i + 1 → getD ks k 0 ≢ 0 → Dec (k ≡ i) → (j : ℕ) → j < k → getD ks j 0 ≢ getD ks k 0
-        new k l q (yes w) j o z =
-            let y : getD ks j 0 ≡ getD ks i 0 = z ∙ ap (λ (x : ℕ). getD ks x 0) w in
-            M .marks j (omega arith) (λ v. n (sym y ∙ v)) (ap (λ (x : ℕ). getD met (x - 1) 0) y ∙ ap (λ (x : ℕ). getD met x 0) place ∙ m)
-        new k l q (no w) j o z = M .new k (omega (arith, w)) q j o z
-
-        marks : (k : ℕ) → k < i + 1 → getD ks k 0 ≢ 0 → Dec (getD ks k 0 - 1 ≡ p) → Dec (k ≡ i) → getD (set met p 1) (getD ks k 0 - 1) 0 ≢ 0
-        marks k l q (yes w) d z =
-            omega (arith, getD-set-same met p 1 0 (omega (arith, M .long)), ap (λ (x : ℕ). getD (set met p 1) x 0) w)
-        marks k l q (no w) (yes v) z = w (ap (λ (x : ℕ). getD ks x 0 - 1) v ∙ place)
-        marks k l q (no w) (no v) z = M .marks k (omega (arith, v)) q (sym (getD-set-other met p (getD ks k 0 - 1) 1 0 w) ∙ z)
+        small : p < length met
+        small = omega (arith, M .long)
 
         back : (q : ℕ) → ((k : ℕ) → k < i + 1 → getD ks k 0 ≢ q + 1) → Dec (q ≡ p) → getD (set met p 1) q 0 ≡ 0
         back q f (yes w) = absurd (f i (omega arith) (omega arith))

@@ -23,8 +23,8 @@ use Rattle.rules.proofs.shared.Places.{known-true}
 use Rattle.rules.proofs.tests.Agree.{yes-or-no}
 use Rattle.ledger.specs.declared.Ledger.{Ledger}
 use Rattle.ledger.specs.Ledger.{bookOf}
-use Rattle.ledger.specs.Inner.{timed, trim, stateFits, reasonFits, fits, Records, nameKey, sonKey, stateKey, Apart, Roster}
-use Rattle.ledger.proofs.Facts.{trim-is}
+use Rattle.ledger.specs.Inner.{timed, trim, stateFits, reasonFits, fits, nameKey, sonKey, stateKey, Apart, Roster}
+use Rattle.ledger.proofs.Facts.{Trim, trim-true, trim-is}
 
 -- the record at i
 abbrev pub held : Ledger → ℕ → Program
@@ -74,33 +74,41 @@ nothing-is (Son k) e = false-true e
 nothing-is (Lock r) e = false-true e
 nothing-is Number e = false-true e
 
-zeros-why : (r : Program) → zeros r ≡ true → r .why ≡ Nothing
-zeros-why r e =
-    let b5 = both (alike (r .name) (unused .name) && eqb (r .priority) 0 && eqb (r .state) 0 && nothing (r .why) && eqb (r .due) 0) (eqb (r .interval) 0) e in
-    let b4 = both (alike (r .name) (unused .name) && eqb (r .priority) 0 && eqb (r .state) 0 && nothing (r .why)) (eqb (r .due) 0) (b5 .0) in
-    nothing-is (r .why) ((both (alike (r .name) (unused .name) && eqb (r .priority) 0 && eqb (r .state) 0) (nothing (r .why)) (b4 .0)) .1)
+-- what holds zeros
+record Zeros (r : Program) : Type 0 where
+  priority : r .priority ≡ 0
+  state : eqb (r .state) 0 ≡ true
+  why : r .why ≡ Nothing
+  due : r .due ≡ 0
+  interval : r .interval ≡ 0
 
--- the test of an unused record is that it holds zeros
-zeros-fit : (c T R p : ℕ) (r : Program) → r .used ≡ false → zeros r ≡ true → fits c T R p r ≡ true
-zeros-fit c T R p r u e =
+zeros-true : (r : Program) → zeros r ≡ true → Zeros r
+zeros-true r e =
     let b5 = both (alike (r .name) (unused .name) && eqb (r .priority) 0 && eqb (r .state) 0 && nothing (r .why) && eqb (r .due) 0) (eqb (r .interval) 0) e in
     let b4 = both (alike (r .name) (unused .name) && eqb (r .priority) 0 && eqb (r .state) 0 && nothing (r .why)) (eqb (r .due) 0) (b5 .0) in
     let b3 = both (alike (r .name) (unused .name) && eqb (r .priority) 0 && eqb (r .state) 0) (nothing (r .why)) (b4 .0) in
     let b2 = both (alike (r .name) (unused .name) && eqb (r .priority) 0) (eqb (r .state) 0) (b3 .0) in
-    let b1 = both (alike (r .name) (unused .name)) (eqb (r .priority) 0) (b2 .0) in
-    let w = nothing-is (r .why) (b3 .1) in
-    let d = eqb-true (r .due) 0 (b4 .1) in
-    let t = eqb-true (r .interval) 0 (b5 .1) in
-    let o = eqb-true (r .priority) 0 (b1 .1) in
+    record {
+      priority = eqb-true (r .priority) 0 ((both (alike (r .name) (unused .name)) (eqb (r .priority) 0) (b2 .0)) .1);
+      state = b2 .1;
+      why = nothing-is (r .why) (b3 .1);
+      due = eqb-true (r .due) 0 (b4 .1);
+      interval = eqb-true (r .interval) 0 (b5 .1);
+    }
+
+-- the test of an unused record is that it holds zeros
+zeros-fit : (c T R p : ℕ) (r : Program) → r .used ≡ false → zeros r ≡ true → fits c T R p r ≡ true
+zeros-fit c T R p r u e =
+    let z = zeros-true r e in
     fits-is c T R p r
     (trim-is c r (record {
       named = λ v. clash v u;
       empty = λ v. e;
-      priority = omega (arith, o);
-      timed = record { timeless = λ z. t; above = λ n. absurd (n d); near = λ n. absurd (n d); steps = omega (arith, t) };
+      priority = omega (arith, z .priority);
+      timed = record { timeless = λ n. z .interval; above = λ n. absurd (n (z .due)); near = λ n. absurd (n (z .due)); steps = omega (arith, z .interval) };
     }))
-    (ap (λ (x : Why). stateFits x (r .state)) w ∙ ap (λ (x : Bool). x || eqb (r .state) 1 || eqb (r .state) 6) (b2 .1))
-    (ap (reasonFits T R p) w)
+    (ap (λ (x : Why). stateFits x (r .state)) (z .why) ∙ ap (λ (x : Bool). x || eqb (r .state) 1 || eqb (r .state) 6) (z .state))
+    (ap (reasonFits T R p) (z .why))
 
 zeros-miss : (c T R p : ℕ) (r : Program) → r .used ≡ false → zeros r ≡ false → false ≡ fits c T R p r
 unfolding trim
@@ -115,7 +123,7 @@ unused-fits c T R p r u =
 -- the son of an unused record
 pub unused-son : (c T R p : ℕ) (r : Program) → r .used ≡ false → fits c T R p r ≡ true → sonKey r ≡ 0
 unfolding sonKey
-unused-son c T R p r u e = ap sonOf (zeros-why r (unused-fits c T R p r u ∙ e))
+unused-son c T R p r u e = ap sonOf (zeros-true r (unused-fits c T R p r u ∙ e) .why)
 
 -- a son is a program
 pub son-most : (T R p : ℕ) (w : Why) → reasonFits T R p w ≡ true → sonOf w ≤ 32
@@ -138,26 +146,25 @@ suits-of b p s (Son k) e r f =
 suits-of b p s (Lock n) e r f = and e r
 suits-of b p s Number e r f = e
 
-suits-fits : (b : Book) (p s : ℕ) (w : Why) → suits b p s w ≡ true → (stateFits w s ≡ true) × (reasonFits (b .tracks) (b .numbers) p w ≡ true)
-suits-fits b p s Nothing e = (e, refl)
-suits-fits b p s (Tracks n) e = both (eqb s 5) (upTo 1 (b .tracks) n) e
-suits-fits b p s (Son k) e =
+son-parts : (b : Book) (p s k : ℕ) → suits b p s (Son k) ≡ true
+    → ((eqb s 3 ≡ true) × (known k ≡ true)) × ((at b k .used ≡ true) × (stateOf b k ≢ 0)) × (not (eqb k p) ≡ true)
+son-parts b p s k e =
     let b4 = both (eqb s 3 && known k && at b k .used && not (eqb (stateOf b k) 0)) (not (eqb k p)) e in
     let b3 = both (eqb s 3 && known k && at b k .used) (not (eqb (stateOf b k) 0)) (b4 .0) in
     let b2 = both (eqb s 3 && known k) (at b k .used) (b3 .0) in
-    let b1 = both (eqb s 3) (known k) (b2 .0) in
-    (b1 .0, and (b1 .1) (b4 .1))
+    (both (eqb s 3) (known k) (b2 .0), (b2 .1, eqb-false (stateOf b k) 0 (not-true (eqb (stateOf b k) 0) (b3 .1))), b4 .1)
+
+suits-fits : (b : Book) (p s : ℕ) (w : Why) → suits b p s w ≡ true → (stateFits w s ≡ true) × (reasonFits (b .tracks) (b .numbers) p w ≡ true)
+suits-fits b p s Nothing e = (e, refl)
+suits-fits b p s (Tracks n) e = both (eqb s 5) (upTo 1 (b .tracks) n) e
+suits-fits b p s (Son k) e = let q = son-parts b p s k e in (q .0 .0, and (q .0 .1) (q .2))
 suits-fits b p s (Lock n) e = both (eqb s 3) (upTo 1 (b .numbers) n) e
 suits-fits b p s Number e = (e, refl)
 
 suits-son : (b : Book) (p s : ℕ) (w : Why) → suits b p s w ≡ true → sonOf w ≢ 0 → (at b (sonOf w) .used ≡ true) × (stateOf b (sonOf w) ≢ 0)
 suits-son b p s Nothing e n = absurd (n refl)
 suits-son b p s (Tracks k) e n = absurd (n refl)
-suits-son b p s (Son k) e n =
-    let b4 = both (eqb s 3 && known k && at b k .used && not (eqb (stateOf b k) 0)) (not (eqb k p)) e in
-    let b3 = both (eqb s 3 && known k && at b k .used) (not (eqb (stateOf b k) 0)) (b4 .0) in
-    let b2 = both (eqb s 3 && known k) (at b k .used) (b3 .0) in
-    (b2 .1, eqb-false (stateOf b k) 0 (not-true (eqb (stateOf b k) 0) (b3 .1)))
+suits-son b p s (Son k) e n = son-parts b p s k e .1
 suits-son b p s (Lock k) e n = absurd (n refl)
 suits-son b p s Number e n = absurd (n refl)
 
@@ -174,25 +181,31 @@ key-state : (r : Program) → r .used ≡ true → r .state ≢ 0 → stateKey r
 unfolding stateKey
 key-state r u n e = n (sym (ap (λ (b : Bool). cond b (r .state) 0) u) ∙ e)
 
--- the roster is what is asked of the records
-pub records-of : (l : Ledger) → Roster (l .clock .ticks) (l .tracks .count) (l .numbers .count) (l .programs) → Records l
-unfolding sonKey
-records-of l S i h =
-    let f = fits-parts (l .clock .ticks) (l .tracks .count) (l .numbers .count) (i + 1) (held l i) (S .fitting i h) in
-    and (f .0) (suits-of (bookOf l) (i + 1) (held l i .state) (held l i .why) (f .1) (f .2) (λ n.
-    state-key (held l (sonOf (held l i .why) - 1)) (S .live i h n)))
+-- what the roster says of a record: it is sound but for its why, and that fits
+module _ (l : Ledger) (S : Roster (l .clock .ticks) (l .tracks .count) (l .numbers .count) (l .programs)) (i : ℕ) (h : i < 32) where
+  parts : (trim (l .clock .ticks) (held l i) ≡ true) × (stateFits (held l i .why) (held l i .state) ≡ true)
+      × (reasonFits (l .tracks .count) (l .numbers .count) (i + 1) (held l i .why) ≡ true)
+  parts = fits-parts (l .clock .ticks) (l .tracks .count) (l .numbers .count) (i + 1) (held l i) (S .fitting i h)
 
-pub roster-of : (l : Ledger) → Records l → Apart nameKey (l .programs) → Apart sonKey (l .programs)
+  pub roster-trim : Trim (l .clock .ticks) (held l i)
+  roster-trim = trim-true (l .clock .ticks) (held l i) (parts .0)
+
+  pub roster-suits : suits (bookOf l) (i + 1) (held l i .state) (held l i .why) ≡ true
+  unfolding sonKey
+  roster-suits =
+      suits-of (bookOf l) (i + 1) (held l i .state) (held l i .why) (parts .1) (parts .2) (λ n.
+      state-key (held l (sonOf (held l i .why) - 1)) (S .live i h n))
+
+-- and back
+pub roster-of : (l : Ledger) → ((i : ℕ) → i < 32 → Trim (l .clock .ticks) (held l i))
+    → ((i : ℕ) → i < 32 → suits (bookOf l) (i + 1) (held l i .state) (held l i .why) ≡ true) → Apart nameKey (l .programs) → Apart sonKey (l .programs)
     → Roster (l .clock .ticks) (l .tracks .count) (l .numbers .count) (l .programs)
 unfolding sonKey
-roster-of l A names sons = record {
-  fitting = λ i h. let f = suits-fits (bookOf l) (i + 1) (held l i .state) (held l i .why) ((parts i h) .1) in
-      fits-is (l .clock .ticks) (l .tracks .count) (l .numbers .count) (i + 1) (held l i) ((parts i h) .0) (f .0) (f .1);
+roster-of l t w names sons = record {
+  fitting = λ i h. let f = suits-fits (bookOf l) (i + 1) (held l i .state) (held l i .why) (w i h) in
+      fits-is (l .clock .ticks) (l .tracks .count) (l .numbers .count) (i + 1) (held l i) (trim-is (l .clock .ticks) (held l i) (t i h)) (f .0) (f .1);
   names = names;
-  live = λ i h n. let s = suits-son (bookOf l) (i + 1) (held l i .state) (held l i .why) ((parts i h) .1) n in
+  live = λ i h n. let s = suits-son (bookOf l) (i + 1) (held l i .state) (held l i .why) (w i h) n in
       key-state (held l (sonOf (held l i .why) - 1)) (s .0) (s .1);
   sons = sons;
 }
-  where
-    parts : (i : ℕ) → i < 32 → (trim (l .clock .ticks) (held l i) ≡ true) × (suits (bookOf l) (i + 1) (held l i .state) (held l i .why) ≡ true)
-    parts i h = both (trim (l .clock .ticks) (held l i)) (suits (bookOf l) (i + 1) (held l i .state) (held l i .why)) (A i h)

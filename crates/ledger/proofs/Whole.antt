@@ -11,36 +11,33 @@ use lib.Seq.{getD-take}
 use lib.Dec.{eqb}
 use borrow.Author.Tests.{eq-eqb, eqb-true}
 use Rattle.lists.proofs.Tests.{both, and, unless, implies, otherwise, or}
-use Rattle.clock.specs.Clock.{farthest}
 use Rattle.records.specs.declared.Program.{Program}
+use Rattle.records.specs.declared.Resource.{Resource}
 use Rattle.records.specs.declared.Why.{Why}
 use Rattle.records.specs.declared.Why.the-variants.{Son}
-use Rattle.records.specs.Names.{legal}
-use Rattle.records.specs.Records.{Known, known}
+use Rattle.records.specs.Records.{Known}
 use Rattle.records.specs.Numbers.{free, numberAt}
-use Rattle.tracks.specs.Tracks.{nobody, system}
-use Rattle.rules.specs.Book.{Book, at, stateOf, whyOf, holderOf}
+use Rattle.tracks.specs.Tracks.{nobody, system, places}
+use Rattle.tracks.specs.Inner.{Held}
+use Rattle.rules.specs.Book.{at, stateOf, whyOf, holderOf}
 use Rattle.rules.specs.Sound.{Ours, suits, Names, Whys, System, Users, Unlocked, Limits, Dues}
 use Rattle.rules.specs.Test.{sonOf, zeros, testNames, testZeros, testWhys, testSystem, testUsers, testUnlocked, testLimits, testDues}
-use Rattle.rules.proofs.shared.Places.{known-true, known-is}
 use Rattle.rules.proofs.tests.Agree.{program-in, program-is, yes-or-no, names-clause, names-test, whys-clause, whys-test, dues-clause, dues-test, son-known}
 use Rattle.rules.proofs.tests.AgreeTables.{system-clause, system-test, users-clause, users-test, unlocked-clause, unlocked-test, limits-clause, limits-test}
 use Rattle.ledger.specs.declared.Ledger.{Ledger}
 use Rattle.ledger.specs.Ledger.{bookOf, Blank, testBlank}
-use Rattle.ledger.specs.Inner.{testBook, sized, trim, Records, nameCode, nameKey, sonKey, Apart, user, Places, Counts}
+use Rattle.ledger.specs.Inner.{testBook, Sized, Roster, nameCode, nameKey, sonKey, Apart, User, Sits, Numbered}
 use Rattle.ledger.proofs.Agree.{blank-clause, blank-test}
-use Rattle.ledger.proofs.Turns.{held}
+use Rattle.ledger.proofs.Turns.{held, roster-trim, roster-suits, roster-of}
 use Rattle.ledger.proofs.Codes.{code-name, used-key, code-some, key-used, key-son, apart-one}
-use Rattle.ledger.proofs.Facts.{Sized, sized-true, sized-is, Trim, trim-true, trim-is, Placed, placed-true, placed-is, Counted, counted-true, counted-is}
+use Rattle.ledger.proofs.Facts.{Trim}
 
 -- what the code tests
 pub record Passed (l : Ledger) : Type 0 where
-  pub sizes : sized (l .tracks .count) (l .tracks .system) (l .numbers .count) (l .clock .ticks) ≡ true
-  pub records : Records l
-  pub names : Apart nameKey (l .programs)
-  pub sons : Apart sonKey (l .programs)
-  pub places : Places l
-  pub counts : Counts l
+  pub sizes : Sized (l .tracks .count) (l .tracks .system) (l .numbers .count) (l .clock .ticks)
+  pub roster : Roster (l .clock .ticks) (l .tracks .count) (l .numbers .count) (l .programs)
+  pub places : Held (User (bookOf l)) (l .tracks)
+  pub counts : Numbered (l .numbers .count) (User (bookOf l)) (l .numbers .resources)
 
 -- what soundness asks
 record Clauses (l : Ledger) : Type 0 where
@@ -93,154 +90,124 @@ test-of l c =
     (limits-test b (c .limits)))
     (dues-test b (c .dues))
 
--- the record of program i + 1 stands at i
-module _ (l : Ledger) (i : ℕ) where
-  next : at (bookOf l) (i + 1) ≡ held l i
-  next = let e : i + 1 - 1 ≡ i = omega arith in ap (held l) e
+-- what holds of every program's place holds of every place
+places-from : (F : ℕ → Type 0) → ((p : ℕ) → Known p → F (p - 1)) → (i : ℕ) → i < 32 → F i
+places-from F f i h = let e : i + 1 - 1 ≡ i = omega arith in subst F e (f (i + 1) (omega arith, omega arith))
 
 -- holders and numbers stand in the arrays
-holder-at : (l : Ledger) (i : ℕ) → i < l .tracks .count → holderOf (bookOf l) i ≡ getD (l .tracks .holders) i nobody
-holder-at l i h = getD-take (l .tracks .count) (l .tracks .holders) i nobody h
-
-number-at : (l : Ledger) (i : ℕ) → i < l .numbers .count → numberAt (bookOf l .resources) (i + 1) ≡ getD (l .numbers .resources) i free
-number-at l i h =
-    let e : i + 1 - 1 ≡ i = omega arith in
-    ap (λ (k : ℕ). getD (bookOf l .resources) k free) e ∙ getD-take (l .numbers .count) (l .numbers .resources) i free h
+holder-at : (l : Ledger) (i : ℕ) → i < l .tracks .count → holderOf (bookOf l) i ≡ getD (places (l .tracks)) i nobody
+holder-at l i h = getD-take (l .tracks .count) (places (l .tracks)) i nobody h
 
 number-of : (l : Ledger) (r : ℕ) → Ours (bookOf l) r → numberAt (bookOf l .resources) r ≡ getD (l .numbers .resources) (r - 1) free
 number-of l r o = getD-take (l .numbers .count) (l .numbers .resources) (r - 1) free (omega arith)
 
--- who is told to be a user
-user-true : (b : Book) (p : ℕ) → user p (at b p .used) ≡ true → Known p → at b p .used ≡ true
-user-true b p e P = unless (known p) (at b p .used) e (known-is p P)
-
-user-is : (b : Book) (p : ℕ) → (Known p → at b p .used ≡ true) → user p (at b p .used) ≡ true
-user-is b p h = implies (known p) (at b p .used) (λ k. h (known-true p k))
-
 -- from what soundness asks to what the code tests
 module _ (l : Ledger) (c : Clauses l) where
-  tidy-at : (i : ℕ) → i < 32 → ((held l i .used || zeros (held l i)) ≡ true) × ((not (eqb (held l i .due) 0) || eqb (held l i .interval) 0) ≡ true)
+  tidy : (p : ℕ) → Known p → ((at (bookOf l) p .used || zeros (at (bookOf l) p)) ≡ true)
+      × ((not (eqb (at (bookOf l) p .due) 0) || eqb (at (bookOf l) p .interval) 0) ≡ true)
   unfolding testZeros
-  tidy-at i h =
-      both (held l i .used || zeros (held l i)) (not (eqb (held l i .due) 0) || eqb (held l i .interval) 0)
-      (subst (λ (r : Program). ((r .used || zeros r) && (not (eqb (r .due) 0) || eqb (r .interval) 0)) ≡ true) (next l i)
-      (program-in (bookOf l) (λ p r. (r .used || zeros r) && (not (eqb (r .due) 0) || eqb (r .interval) 0)) (c .zeros) (i + 1) (omega arith, omega arith)))
+  tidy p P =
+      both (at (bookOf l) p .used || zeros (at (bookOf l) p)) (not (eqb (at (bookOf l) p .due) 0) || eqb (at (bookOf l) p .interval) 0)
+      (program-in (bookOf l) (λ p r. (r .used || zeros r) && (not (eqb (r .due) 0) || eqb (r .interval) 0)) (c .zeros) p P)
 
-  lawful : (i : ℕ) → i < 32 → held l i .used ≡ true → legal (held l i .name) ≡ true
-  lawful i h = rw (next l i) at (c .names .lawful (i + 1) (omega arith, omega arith))
+  trim-in : (p : ℕ) → Known p → Trim (l .clock .ticks) (at (bookOf l) p)
+  trim-in p P = let r = at (bookOf l) p in record {
+    named = c .names .lawful p P;
+    empty = otherwise (r .used) (zeros r) ((tidy p P) .0);
+    priority = c .limits .priority p P;
+    timed = record {
+      timeless = λ z. eqb-true (r .interval) 0 (unless (eqb (r .due) 0) (eqb (r .interval) 0) ((tidy p P) .1) (eq-eqb (r .due) 0 z));
+      above = c .dues .above p P;
+      near = c .dues .near p P;
+      steps = c .dues .steps p P;
+    };
+  }
 
-  trim-at : (i : ℕ) → i < 32 → Trim (l .clock .ticks) (held l i)
-  trim-at i h =
-      let K : Known (i + 1) = (omega arith, omega arith) in
-      let d = held l i .due in
-      record {
-        named = lawful i h;
-        empty = otherwise (held l i .used) (zeros (held l i)) ((tidy-at i h) .0);
-        priority = subst (λ (r : Program). r .priority ≤ 32767) (next l i) (c .limits .priority (i + 1) K);
-        timed = record {
-          timeless = λ z. eqb-true (held l i .interval) 0 (unless (eqb d 0) (eqb (held l i .interval) 0) ((tidy-at i h) .1) (eq-eqb d 0 z));
-          above = subst (λ (r : Program). r .due ≢ 0 → l .clock .ticks < r .due) (next l i) (c .dues .above (i + 1) K);
-          near = subst (λ (r : Program). r .due ≢ 0 → r .due ≤ l .clock .ticks + farthest) (next l i) (c .dues .near (i + 1) K);
-          steps = subst (λ (r : Program). r .interval ≤ farthest) (next l i) (c .dues .steps (i + 1) K);
-        };
-      }
+  suits-in : (p : ℕ) → Known p → suits (bookOf l) (p - 1 + 1) (stateOf (bookOf l) p) (whyOf (bookOf l) p) ≡ true
+  suits-in p P =
+      let e : p ≡ p - 1 + 1 = omega arith in
+      subst (λ (q : ℕ). suits (bookOf l) q (stateOf (bookOf l) p) (whyOf (bookOf l) p) ≡ true) e (c .whys .fitting p P)
 
-  records-in : Records l
-  records-in i h =
-      and (trim-is (l .clock .ticks) (held l i) (trim-at i h))
-      (subst (λ (r : Program). suits (bookOf l) (i + 1) (r .state) (r .why) ≡ true) (next l i) (c .whys .fitting (i + 1) (omega arith, omega arith)))
+  -- keys are apart that tell their programs
+  apart-in : (f : Program → ℕ)
+      → ((p q : ℕ) → Known p → Known q → f (at (bookOf l) p) ≢ 0 → f (at (bookOf l) q) ≡ f (at (bookOf l) p) → p ≡ q) → Apart f (l .programs)
+  apart-in f one i h n j k m e =
+      let a : i + 1 - 1 ≡ i = omega arith in
+      let b : j + 1 - 1 ≡ j = omega arith in
+      let x = ap (λ (y : ℕ). f (held l y)) a in
+      omega (arith, one (i + 1) (j + 1) (omega arith, omega arith) (omega arith, omega arith) (λ z. n (sym x ∙ z)) (ap (λ (y : ℕ). f (held l y)) b ∙ e ∙ sym x))
 
-  -- programs i + 1 and j + 1
   names-in : Apart nameKey (l .programs)
-  names-in i h n j k m e =
-      let u = key-used (held l i) n in
-      let w = key-used (held l j) (λ z. n (sym e ∙ z)) in
-      let same : held l i .name ≡ held l j .name = code-name (held l i .name) (held l j .name) (lawful i h u) (lawful j k w)
-      (sym (used-key (held l i) u) ∙ sym e ∙ used-key (held l j) w) in
-      let one : i + 1 ≡ j + 1 = c .names .distinct (i + 1) (j + 1) (omega arith, omega arith) (omega arith, omega arith)
-      (ap (λ (r : Program). r .used) (next l i) ∙ u) (ap (λ (r : Program). r .used) (next l j) ∙ w)
-      (ap (λ (r : Program). r .name) (next l i) ∙ same ∙ sym (ap (λ (r : Program). r .name) (next l j))) in
-      omega arith
+  names-in = apart-in nameKey (λ p q P Q n e.
+      let u = key-used (at (bookOf l) p) n in
+      let w = key-used (at (bookOf l) q) (λ z. n (sym e ∙ z)) in
+      c .names .distinct p q P Q u w
+      (code-name (at (bookOf l) p .name) (at (bookOf l) q .name) (c .names .lawful p P u) (c .names .lawful q Q w)
+      (sym (used-key (at (bookOf l) p) u) ∙ sym e ∙ used-key (at (bookOf l) q) w)))
 
   sons-in : Apart sonKey (l .programs)
   unfolding sonKey
-  sons-in i h n j k m e =
-      let a = key-son (held l i .why) n in
-      let b = key-son (held l j .why) (λ z. n (sym e ∙ z)) in
-      let one : i + 1 ≡ j + 1 = c .whys .once (i + 1) (j + 1) (sonOf (held l i .why)) (omega arith, omega arith) (omega arith, omega arith)
-      (ap (λ (r : Program). r .why) (next l i) ∙ a) (ap (λ (r : Program). r .why) (next l j) ∙ b ∙ ap Son e) in
-      omega arith
+  sons-in = apart-in sonKey (λ p q P Q n e.
+      c .whys .once p q (sonOf (whyOf (bookOf l) p)) P Q (key-son (whyOf (bookOf l) p) n) (key-son (whyOf (bookOf l) q) (λ z. n (sym e ∙ z)) ∙ ap Son e))
 
-  places-in : Places l
-  places-in i h =
-      let x = getD (l .tracks .holders) i nobody in
-      placed-is (l .tracks .count) (l .tracks .system) i x (at (bookOf l) x .used)
-      (record {
-        own = λ a b. sym (holder-at l i a) ∙ c .system .below i a b;
-        other = λ a b. other a b;
-        user = λ a. user-is (bookOf l) x (rw (holder-at l i a) at (c .users .hold i a));
-        blank = c .blank .tracks i;
-      })
+  places-in : Held (User (bookOf l)) (l .tracks)
+  places-in = record {
+    own = λ i k. let a : i < l .tracks .count = omega (arith, c .limits .first) in sym (holder-at l i a) ∙ c .system .below i a k;
+    others = λ i a b. subst (User (bookOf l)) (holder-at l i a) (record { low = other i a b (decLe (suc (holderOf (bookOf l) i)) system); used = c .users .hold i a });
+    blank = λ i h k. c .blank .tracks i k;
+  }
     where
-      other : i < l .tracks .count → l .tracks .system ≤ i → getD (l .tracks .holders) i nobody < system
-      other a b =
-          let e = holder-at l i a in
-          let k = c .limits .holder i a in
-          go (decLe (suc (getD (l .tracks .holders) i nobody)) system) e k
-        where
-          go : Dec (getD (l .tracks .holders) i nobody < system) → holderOf (bookOf l) i ≡ getD (l .tracks .holders) i nobody → holderOf (bookOf l) i ≤ system
-              → getD (l .tracks .holders) i nobody < system
-          go (yes y) e k = y
-          go (no y) e k = absurd (omega (arith, c .system .just i a (omega (arith, y))))
+      other : (i : ℕ) → i < l .tracks .count → l .tracks .system ≤ i → Dec (holderOf (bookOf l) i < system) → holderOf (bookOf l) i < system
+      other i a b (yes y) = y
+      other i a b (no y) = absurd (omega (arith, c .system .just i a (omega (arith, y, c .limits .holder i a))))
 
-  counts-in : Counts l
-  counts-in i h =
-      let x = getD (l .numbers .resources) i free in
-      counted-is (l .numbers .count) i x (at (bookOf l) (x .owner) .used) (at (bookOf l) (x .lock) .used)
-      (record {
-        owner = λ a. rw (number-at l i a) at (c .limits .owner (i + 1) (omega arith, omega arith));
-        locker = λ a. rw (number-at l i a) at (c .limits .locker (i + 1) (omega arith, omega arith));
-        clear = λ a. rw (number-at l i a) at (c .unlocked .clear (i + 1) (omega arith, omega arith));
-        owning = λ a. user-is (bookOf l) (x .owner) (rw (number-at l i a) at (c .users .own (i + 1) (omega arith, omega arith)));
-        locking = λ a. user-is (bookOf l) (x .lock) (rw (number-at l i a) at (c .users .lock (i + 1) (omega arith, omega arith)));
-        blank = λ a. let e : i + 1 - 1 ≡ i = omega arith in
-            ap (λ (k : ℕ). getD (l .numbers .resources) k free) (sym e) ∙ c .blank .numbers (i + 1) (omega arith);
-      })
+  numbers-in : Numbered (l .numbers .count) (User (bookOf l)) (l .numbers .resources)
+  numbers-in = record {
+    ours = λ i a.
+        let o : Ours (bookOf l) (i + 1) = (omega arith, omega arith) in
+        let e : i + 1 - 1 ≡ i = omega arith in
+        subst (Sits (User (bookOf l))) (number-of l (i + 1) o ∙ ap (λ (k : ℕ). getD (l .numbers .resources) k free) e)
+        (record {
+          owner = record { low = omega (arith, c .limits .owner (i + 1) o); used = c .users .own (i + 1) o };
+          locker = record { low = omega (arith, c .limits .locker (i + 1) o); used = c .users .lock (i + 1) o };
+          program = λ z. omega (arith, c .limits .locker (i + 1) o);
+          clear = c .unlocked .clear (i + 1) o;
+        });
+    rest = λ i h k.
+        let e : i + 1 - 1 ≡ i = omega arith in
+        let f = ap (λ (k : ℕ). getD (l .numbers .resources) k free) (sym e) ∙ c .blank .numbers (i + 1) (omega arith) in
+        (ap (λ (y : Resource). y .owner) f, ap (λ (y : Resource). y .lock) f);
+  }
 
   passed : Passed l
   passed = record {
-    sizes = sized-is (l .tracks .count) (l .tracks .system) (l .numbers .count) (l .clock .ticks)
-        (record { some = c .limits .some; most = c .limits .most; first = c .limits .first; few = c .limits .few; time = c .limits .time });
-    records = records-in;
-    names = names-in;
-    sons = sons-in;
+    sizes = record {
+      tracks = record { least = c .limits .some; most = c .limits .most; part = c .limits .first };
+      few = c .limits .few;
+      time = c .limits .time;
+    };
+    roster = roster-of l (places-from (λ i. Trim (l .clock .ticks) (held l i)) trim-in)
+        (places-from (λ i. suits (bookOf l) (i + 1) (held l i .state) (held l i .why) ≡ true) suits-in) names-in sons-in;
     places = places-in;
-    counts = counts-in;
+    counts = numbers-in;
   }
 
 -- and back, for arrays of their lengths
-module _ (l : Ledger) (H : length (l .tracks .holders) ≡ 256) (N : length (l .numbers .resources) ≡ 16) (t : Passed l) where
-  sizes : Sized (l .tracks .count) (l .tracks .system) (l .numbers .count) (l .clock .ticks)
-  sizes = sized-true (l .tracks .count) (l .tracks .system) (l .numbers .count) (l .clock .ticks) (t .sizes)
-
-  record-at : (p : ℕ) → Known p → (trim (l .clock .ticks) (at (bookOf l) p) ≡ true) × (suits (bookOf l) (p - 1 + 1) (stateOf (bookOf l) p) (whyOf (bookOf l) p) ≡ true)
-  record-at p P =
-      both (trim (l .clock .ticks) (at (bookOf l) p)) (suits (bookOf l) (p - 1 + 1) (stateOf (bookOf l) p) (whyOf (bookOf l) p)) (t .records (p - 1) (omega arith))
-
+module _ (l : Ledger) (H : length (places (l .tracks)) ≡ 256) (N : length (l .numbers .resources) ≡ 16) (t : Passed l) where
   is-trim : (p : ℕ) → Known p → Trim (l .clock .ticks) (at (bookOf l) p)
-  is-trim p P = trim-true (l .clock .ticks) (at (bookOf l) p) ((record-at p P) .0)
+  is-trim p P = roster-trim l (t .roster) (p - 1) (omega arith)
 
   fitting : (p : ℕ) → Known p → suits (bookOf l) p (stateOf (bookOf l) p) (whyOf (bookOf l) p) ≡ true
   fitting p P =
       let e : p - 1 + 1 ≡ p = omega arith in
-      subst (λ (q : ℕ). suits (bookOf l) q (stateOf (bookOf l) p) (whyOf (bookOf l) p) ≡ true) e ((record-at p P) .1)
+      subst (λ (q : ℕ). suits (bookOf l) q (stateOf (bookOf l) p) (whyOf (bookOf l) p) ≡ true) e (roster-suits l (t .roster) (p - 1) (omega arith))
 
   names-of : Names (bookOf l)
   names-of = record {
     lawful = λ p P. is-trim p P .named;
     distinct = λ p q P Q u w n.
         let k = used-key (at (bookOf l) p) u in
-        let one : p - 1 ≡ q - 1 = apart-one nameKey (l .programs) (t .names) (p - 1) (q - 1) (omega arith) (omega arith)
+        let one : p - 1 ≡ q - 1 = apart-one nameKey (l .programs) (t .roster .names) (p - 1) (q - 1) (omega arith) (omega arith)
         (λ z. code-some (at (bookOf l) p .name) (sym k ∙ z))
         (k ∙ ap nameCode n ∙ sym (used-key (at (bookOf l) q) w)) in
         omega arith;
@@ -264,85 +231,50 @@ module _ (l : Ledger) (H : length (l .tracks .holders) ≡ 256) (N : length (l .
         (subst (λ (w : Why). suits (bookOf l) p (stateOf (bookOf l) p) w ≡ true) h (fitting p P)) in
         let sp : sonOf (whyOf (bookOf l) p) ≡ k = ap sonOf h in
         let sq : sonOf (whyOf (bookOf l) q) ≡ k = ap sonOf j in
-        let one : p - 1 ≡ q - 1 = apart-one sonKey (l .programs) (t .sons) (p - 1) (q - 1) (omega arith) (omega arith) (λ z. omega (arith, K .0)) (sp ∙ sym sq) in
+        let one : p - 1 ≡ q - 1 = apart-one sonKey (l .programs) (t .roster .sons) (p - 1) (q - 1) (omega arith) (omega arith) (λ z. omega (arith, K .0)) (sp ∙ sym sq) in
         omega arith;
   }
 
-  place : (i : ℕ) → i < l .tracks .count
-      → Placed (l .tracks .count) (l .tracks .system) i (getD (l .tracks .holders) i nobody) (at (bookOf l) (getD (l .tracks .holders) i nobody) .used)
-  place i h =
-      placed-true (l .tracks .count) (l .tracks .system) i (getD (l .tracks .holders) i nobody) (at (bookOf l) (getD (l .tracks .holders) i nobody) .used)
-      (t .places i (omega (arith, sizes .most)))
-
+  -- a track is the system's, or held by one who may
   system-of : System (bookOf l)
-  system-of = record {
-    below = λ i h k. holder-at l i h ∙ place i h .own h k;
-    just = λ i h k. go i h k (decLe (suc i) (l .tracks .system));
-  }
+  system-of = record { below = λ i h k. holder-at l i h ∙ t .places .own i k; just = λ i h k. go i h k (decLe (suc i) (l .tracks .system)) }
     where
       go : (i : ℕ) → i < l .tracks .count → holderOf (bookOf l) i ≡ system → Dec (i < l .tracks .system) → i < l .tracks .system
       go i h k (yes y) = y
-      go i h k (no y) = absurd (omega (arith, place i h .other h (omega (arith, y)), holder-at l i h))
+      go i h k (no y) = absurd (omega (arith, t .places .others i h (omega (arith, y)) .low, holder-at l i h))
 
-  holder-in : (i : ℕ) → i < l .tracks .count → holderOf (bookOf l) i ≤ system
+  holder-in : (i : ℕ) → i < l .tracks .count → (holderOf (bookOf l) i ≤ system) × (Known (holderOf (bookOf l) i) → at (bookOf l) (holderOf (bookOf l) i) .used ≡ true)
   holder-in i h = go (decLe (suc i) (l .tracks .system))
     where
-      go : Dec (i < l .tracks .system) → holderOf (bookOf l) i ≤ system
-      go (yes y) = omega (arith, place i h .own h y, holder-at l i h)
-      go (no y) = omega (arith, place i h .other h (omega (arith, y)), holder-at l i h)
+      go : Dec (i < l .tracks .system) → (holderOf (bookOf l) i ≤ system) × (Known (holderOf (bookOf l) i) → at (bookOf l) (holderOf (bookOf l) i) .used ≡ true)
+      go (yes y) = let e = holder-at l i h ∙ t .places .own i y in (omega arith, λ P. absurd (omega (arith, P .1)))
+      go (no y) = let u = subst (User (bookOf l)) (sym (holder-at l i h)) (t .places .others i h (omega (arith, y))) in (omega (arith, u .low), u .used)
 
-  number : (r : ℕ) → Ours (bookOf l) r
-      → Counted (l .numbers .count) (r - 1) (getD (l .numbers .resources) (r - 1) free)
-      (at (bookOf l) (getD (l .numbers .resources) (r - 1) free .owner) .used) (at (bookOf l) (getD (l .numbers .resources) (r - 1) free .lock) .used)
-  number r o =
-      counted-true (l .numbers .count) (r - 1) (getD (l .numbers .resources) (r - 1) free)
-      (at (bookOf l) (getD (l .numbers .resources) (r - 1) free .owner) .used) (at (bookOf l) (getD (l .numbers .resources) (r - 1) free .lock) .used)
-      (t .counts (r - 1) (omega (arith, sizes .few)))
-
-  users-of : Users (bookOf l)
-  users-of = record {
-    hold = λ i h. rw (holder-at l i h) (user-true (bookOf l) (getD (l .tracks .holders) i nobody) (place i h .user h));
-    own = λ r o. rw (number-of l r o) (user-true (bookOf l) (getD (l .numbers .resources) (r - 1) free .owner) (number r o .owning (omega arith)));
-    lock = λ r o. rw (number-of l r o) (user-true (bookOf l) (getD (l .numbers .resources) (r - 1) free .lock) (number r o .locking (omega arith)));
-  }
-
-  unlocked-of : Unlocked (bookOf l)
-  unlocked-of = record { clear = λ r o. rw (number-of l r o) (number r o .clear (omega arith)) }
+  number : (r : ℕ) → Ours (bookOf l) r → Sits (User (bookOf l)) (numberAt (bookOf l .resources) r)
+  number r o = subst (Sits (User (bookOf l))) (sym (number-of l r o)) (t .counts .ours (r - 1) (omega arith))
 
   blank-of : Blank l
   blank-of = record { tracks = λ i h. tracks i h (decLe (suc i) 256); numbers = λ r h. numbers r h (decLe r 16) }
     where
-      tracks : (i : ℕ) → l .tracks .count ≤ i → Dec (i < 256) → getD (l .tracks .holders) i nobody ≡ nobody
-      tracks i h (yes y) =
-          placed-true (l .tracks .count) (l .tracks .system) i (getD (l .tracks .holders) i nobody) (at (bookOf l) (getD (l .tracks .holders) i nobody) .used)
-          (t .places i y) .blank h
-      tracks i h (no y) = List·getD-eq-default (l .tracks .holders) nobody {n = i} (omega (arith, y))
+      tracks : (i : ℕ) → l .tracks .count ≤ i → Dec (i < 256) → getD (places (l .tracks)) i nobody ≡ nobody
+      tracks i h (yes y) = t .places .blank i y h
+      tracks i h (no y) = List·getD-eq-default (places (l .tracks)) nobody {n = i} (omega (arith, y))
 
       numbers : (r : ℕ) → l .numbers .count < r → Dec (r ≤ 16) → numberAt (l .numbers .resources) r ≡ free
-      numbers r h (yes y) =
-          counted-true (l .numbers .count) (r - 1) (getD (l .numbers .resources) (r - 1) free)
-          (at (bookOf l) (getD (l .numbers .resources) (r - 1) free .owner) .used) (at (bookOf l) (getD (l .numbers .resources) (r - 1) free .lock) .used)
-          (t .counts (r - 1) (omega arith)) .blank (omega arith)
+      numbers r h (yes y) = let e = t .counts .rest (r - 1) (omega arith) (omega arith) in λ i. record { owner = e .0 i; lock = e .1 i }
       numbers r h (no y) = List·getD-eq-default (l .numbers .resources) free {n = r - 1} (omega (arith, y))
 
   limits-of : Limits (bookOf l)
   limits-of = record {
-    some = sizes .some;
-    most = sizes .most;
-    first = sizes .first;
-    few = sizes .few;
-    time = sizes .time;
+    some = t .sizes .tracks .least;
+    most = t .sizes .tracks .most;
+    first = t .sizes .tracks .part;
+    few = t .sizes .few;
+    time = t .sizes .time;
     priority = λ p P. is-trim p P .priority;
-    holder = holder-in;
-    owner = λ r o. rw (number-of l r o) (number r o .owner (omega arith));
-    locker = λ r o. rw (number-of l r o) (number r o .locker (omega arith));
-  }
-
-  dues-of : Dues (bookOf l)
-  dues-of = record {
-    above = λ p P. is-trim p P .timed .above;
-    near = λ p P. is-trim p P .timed .near;
-    steps = λ p P. is-trim p P .timed .steps;
+    holder = λ i h. (holder-in i h) .0;
+    owner = λ r o. omega (arith, number r o .owner .low);
+    locker = λ r o. omega (arith, number r o .locker .low, number r o .program);
   }
 
   pub book-yes : true ≡ testBook l
@@ -351,11 +283,19 @@ module _ (l : Ledger) (H : length (l .tracks .holders) ≡ 256) (N : length (l .
     zeros = zeros-of;
     whys = whys-of;
     system = system-of;
-    users = users-of;
-    unlocked = unlocked-of;
+    users = record {
+      hold = λ i h. (holder-in i h) .1;
+      own = λ r o. number r o .owner .used;
+      lock = λ r o. number r o .locker .used;
+    };
+    unlocked = record { clear = λ r o. number r o .clear };
     blank = blank-of;
     limits = limits-of;
-    dues = dues-of;
+    dues = record {
+      above = λ p P. is-trim p P .timed .above;
+      near = λ p P. is-trim p P .timed .near;
+      steps = λ p P. is-trim p P .timed .steps;
+    };
   }))
 
 pub book-no : (l : Ledger) → (Passed l → ⊥) → false ≡ testBook l

@@ -6,10 +6,10 @@ use mathlib.Core.Bool.{Bool, false, _&&_, true, cond, not, _||_}
 use mathlib.Core.List.{List}
 use lib.ListN.{getD, take}
 use lib.Dec.{eqb, leb, ltb}
-use Rattle.lists.specs.Lists.{count, any, from, upTo}
+use Rattle.lists.specs.Lists.{count, upTo}
 use Rattle.records.specs.declared.Numbers.{Numbers}
 use Rattle.records.specs.Records.{Known, known, missing}
-use Rattle.records.specs.Numbers.{resources, numberAt, concerns, globally, free}
+use Rattle.records.specs.Numbers.{resources, globally, free}
 use Rattle.ledger.specs.declared.Release.{Release}
 use Rattle.rules.specs.Test.{testNames, testZeros, testWhys, testSystem, testUsers, testUnlocked, testLimits, testDues, sonOf, zeros}
 use mathlib.Core.Logic.{_≢_}
@@ -19,9 +19,9 @@ use Rattle.records.specs.declared.Resource.{Resource}
 use Rattle.records.specs.declared.Why.{Why}
 use Rattle.records.specs.declared.Why.the-variants.{Nothing, Tracks, Son, Lock, Number}
 use Rattle.records.specs.Names.{legal}
-use Rattle.tracks.specs.Tracks.{nobody, system}
-use Rattle.rules.specs.Book.{at}
-use Rattle.rules.specs.Sound.{suits}
+use Rattle.tracks.specs.Tracks.{system}
+use Rattle.tracks.specs.Inner.{Sizes, Tells}
+use Rattle.rules.specs.Book.{Book, at}
 use Rattle.ledger.specs.declared.Ledger.{Ledger}
 use Rattle.ledger.specs.Ledger.{bookOf, testBlank}
 use Rattle.rules.specs.Plans as rules
@@ -50,14 +50,11 @@ pub record Listed (ids : List ℕ) (len : ℕ) : Type 0 where
   pub known : (z : ℕ) → 1 ≤ count z (take len ids) → Known z
   pub once : (z : ℕ) → count z (take len ids) ≤ 1
 
--- an answer says whether A holds
-pub record Tells (r : Bool) (A : Type 0) : Type 0 where
-  pub yes : r ≡ true → A
-  pub nay : r ≡ false → A → ⊥
-
 -- T, S, R and the clock
-unfoldable pub sized : ℕ → ℕ → ℕ → ℕ → Bool
-sized T S R c = upTo 1 256 T && leb S T && leb R 16 && leb c ceiling
+pub record Sized (T S R c : ℕ) : Type 0 where
+  pub tracks : Sizes T S
+  pub few : R ≤ 16
+  pub time : c ≤ ceiling
 
 -- due and interval, at a clock
 unfoldable pub timed : ℕ → ℕ → ℕ → Bool
@@ -86,12 +83,6 @@ reasonFits T R p Number = true
 -- a record by itself
 unfoldable pub fits : ℕ → ℕ → ℕ → ℕ → Program → Bool
 fits c T R p r = trim c r && stateFits (r .why) (r .state) && reasonFits T R p (r .why)
-
--- every record
-abbrev pub Records : Ledger → Type 0
-Records l = (i : ℕ) → i < 32
-    → (trim (l .clock .ticks) (getD (l .programs) i missing)
-    && suits (bookOf l) (i + 1) (getD (l .programs) i missing .state) (getD (l .programs) i missing .why)) ≡ true
 
 -- a name as a number, another for each, and never 0; and 0 where the record is unused
 abbrev pub joined : ℕ → ℕ → ℕ → ℕ → ℕ → ℕ
@@ -170,77 +161,24 @@ pub record Strangers (used marks : List ℕ) : Type 0 where
   pub program : (k : ℕ) → k < 32 → getD marks (k + 1) 0 ≡ strange (getD used k 0)
   pub other : (h : ℕ) → 33 < h → h < 256 → getD marks h 0 ≡ 1
 
--- r is the byte x
-pub record Byte (x r : ℕ) : Type 0 where
-  pub same : r ≡ x
-  pub small : r < 256
+-- who may hold a track, own a number or lock it: nobody, GLOBAL, or a used program
+pub record User (b : Book) (h : ℕ) : Type 0 where
+  pub low : h < system
+  pub used : Known h → at b h .used ≡ true
 
--- r is no less than a and b, and 0 where they are
-pub record Larger (a b r : ℕ) : Type 0 where
-  pub left : a ≤ r
-  pub right : b ≤ r
-  pub none : a ≡ 0 → b ≡ 0 → r ≡ 0
-
--- the tracks: T in all, the first S the system's
-pub record Limits (T S : ℕ) : Type 0 where
-  pub most : T ≤ 256
-  pub first : S ≤ T
-
-abbrev pub SystemHolds : ℕ → List ℕ → Type 0
-SystemHolds S hs = (i : ℕ) → i < S → getD hs i 0 ≡ 34
-
-pub record Serves (marks : List ℕ) (h : ℕ) : Type 0 where
-  pub small : h < 256
-  pub unmarked : getD marks h 0 ≡ 0
-
-abbrev pub OthersHold : ℕ → ℕ → List ℕ → List ℕ → Type 0
-OthersHold S T hs marks = (i : ℕ) → i < T → S ≤ i → Serves marks (getD hs i 0)
-
-abbrev pub NoneHolds : ℕ → List ℕ → Type 0
-NoneHolds T hs = (i : ℕ) → i < 256 → T ≤ i → getD hs i 0 ≡ 0
-
-pub record Held (T S : ℕ) (hs marks : List ℕ) : Type 0 where
-  pub own : SystemHolds S hs
-  pub others : OthersHold S T hs marks
-  pub blank : NoneHolds T hs
-
--- a number of ours; all of them; those behind; and both
-pub record Sits (marks : List ℕ) (x : Resource) : Type 0 where
-  pub owner : Serves marks (x .owner)
-  pub locker : Serves marks (x .lock)
-  pub program : x .lock ≢ 33
+-- a number of ours, by who may own or lock it; all of them; those behind; and both
+pub record Sits (May : ℕ → Type 0) (x : Resource) : Type 0 where
+  pub owner : May (x .owner)
+  pub locker : May (x .lock)
+  pub program : x .lock ≢ globally
   pub clear : x .owner ≡ 0 → x .lock ≡ 0
 
-abbrev pub Seated : ℕ → List Resource → List ℕ → Type 0
-Seated R rs marks = (i : ℕ) → i < R → Sits marks (getD rs i free)
+abbrev pub Seated : ℕ → (ℕ → Type 0) → List Resource → Type 0
+Seated R May rs = (i : ℕ) → i < R → Sits May (getD rs i free)
 
 abbrev pub Unowned : ℕ → List Resource → Type 0
 Unowned R rs = (i : ℕ) → i < 16 → R ≤ i → (getD rs i free .owner ≡ 0) × (getD rs i free .lock ≡ 0)
 
-pub record Numbered (R : ℕ) (rs : List Resource) (marks : List ℕ) : Type 0 where
-  pub ours : Seated R rs marks
+pub record Numbered (R : ℕ) (May : ℕ → Type 0) (rs : List Resource) : Type 0 where
+  pub ours : Seated R May rs
   pub rest : Unowned R rs
-
--- who is no program, or is used
-abbrev pub user : ℕ → Bool → Bool
-user p u = not (known p) || u
-
--- the holder h of place i, T being tracks and S the system's; u tells whether program h is used
-unfoldable pub placed : ℕ → ℕ → ℕ → ℕ → Bool → Bool
-placed T S i h u = cond (ltb i T) (cond (ltb i S) (eqb h system) (ltb h system && user h u)) (eqb h nobody)
-
-abbrev pub Places : Ledger → Type 0
-Places l = (i : ℕ) → i < 256
-    → placed (l .tracks .count) (l .tracks .system) i (getD (l .tracks .holders) i nobody) (at (bookOf l) (getD (l .tracks .holders) i nobody) .used) ≡ true
-
--- the number at place i, R being ours; u and v tell whether owner and locker are used
-unfoldable pub owned : ℕ → ℕ → Bool → Bool → Bool
-owned o k u v = leb o globally && leb k 32 && (not (eqb o 0) || eqb k 0) && user o u && user k v
-
-unfoldable pub counted : ℕ → ℕ → Resource → Bool → Bool → Bool
-counted R i x u v = cond (ltb i R) (owned (x .owner) (x .lock) u v) (eqb (x .owner) 0 && eqb (x .lock) 0)
-
-abbrev pub Counts : Ledger → Type 0
-Counts l = (i : ℕ) → i < 16
-    → counted (l .numbers .count) i (getD (l .numbers .resources) i free)
-    (at (bookOf l) (getD (l .numbers .resources) i free .owner) .used) (at (bookOf l) (getD (l .numbers .resources) i free .lock) .used) ≡ true

@@ -1,6 +1,6 @@
 -- The ledger and the book: the arrays behind T tracks and R numbers hold blanks (OUTLINE, "The tables").
 -- Assumes nothing.
-use Prim.Native.Nat.{ℕ, _+_, _-_, _≤_, _<_}
+use Prim.Native.Nat.{ℕ, _≤_, _<_}
 use mathlib.Core.Path.{_≡_}
 use mathlib.Core.Bool.{Bool, true, _&&_}
 use mathlib.Core.List.{List, [], _∷_}
@@ -37,7 +37,7 @@ ledgerOf b = record {
 
 -- entries at T and above, or above R, are blank
 pub record Blank (l : Ledger) : Type 0 where
-  pub tracks : (i : ℕ) → l .tracks .count ≤ i → getD (l .tracks .holders) i nobody ≡ nobody
+  pub tracks : (i : ℕ) → l .tracks .count ≤ i → getD (tracks.places (l .tracks)) i nobody ≡ nobody
   pub numbers : (r : ℕ) → l .numbers .count < r → numberAt (l .numbers .resources) r ≡ free
 
 -- all are blank
@@ -49,4 +49,4 @@ noNumbers [] = true
 noNumbers (x ∷ xs) = eqb (x .owner) 0 && eqb (x .lock) 0 && noNumbers xs
 
 unfoldable pub testBlank : Ledger → Bool
-testBlank l = noHolders (drop (l .tracks .count) (l .tracks .holders)) && noNumbers (drop (l .numbers .count) (l .numbers .resources))
+testBlank l = noHolders (drop (l .tracks .count) (tracks.places (l .tracks))) && noNumbers (drop (l .numbers .count) (l .numbers .resources))

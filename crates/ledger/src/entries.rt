@@ -12,18 +12,6 @@ ghost use Rattle.records.specs.Records.{known, unused};
 ghost use Rattle.rules.specs.Test.{nothing, sonOf, zeros};
 ghost use Rattle.ledger.specs.Inner.{timed, trim, stateFits, reasonFits, fits};
 
-fn wide(x: u8) -> usize
-    ensures { λ r. ⌜ r ≡ x ⌝ }
-{
-    x as usize
-}
-
-fn broad(x: u16) -> usize
-    ensures { λ r. ⌜ r ≡ x ⌝ }
-{
-    x as usize
-}
-
 fn one_to(high: usize, n: usize) -> bool
     ensures { λ r. ⌜ r ≡ upTo 1 high n ⌝ }
 {
@@ -145,10 +133,10 @@ fn state_fits(w: Why, state: u8) -> bool
 fn son_fits(p: usize, k: u8) -> bool
     ensures { λ r. ⌜ r ≡ (known k && not (eqb k p)) ⌝ }
 {
-    if !one_to(32, wide(k)) {
+    if !one_to(32, k as usize) {
         return false;
     }
-    wide(k) != p
+    k as usize != p
 }
 
 fn reason_fits(all: u16, numbers: u8, p: usize, w: Why) -> bool
@@ -156,9 +144,9 @@ fn reason_fits(all: u16, numbers: u8, p: usize, w: Why) -> bool
 {
     match w {
         Why::Nothing => true,
-        Why::Tracks(n) => one_to(broad(all), broad(n)),
+        Why::Tracks(n) => one_to(all as usize, n as usize),
         Why::Son(k) => son_fits(p, k),
-        Why::Lock(r) => one_to(wide(numbers), wide(r)),
+        Why::Lock(r) => one_to(numbers as usize, r as usize),
         Why::Number => true,
     }
 }

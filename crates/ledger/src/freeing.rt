@@ -15,12 +15,6 @@ use records::Numbers;
 use records::Program;
 use records::Why;
 
-fn wide(x: u8) -> usize
-    ensures { λ r. ⌜ r ≡ x ⌝ }
-{
-    x as usize
-}
-
 impl Release {
     // n tracks are given back.
     pub fn of_tracks(n: usize) -> Release
@@ -56,7 +50,7 @@ impl Release {
         ensures { λ x. ⌜ Releases x (endingOf numbers p n) ⌝ }
     {
         let mut cleared = [false; 16];
-        let count = wide(numbers.count);
+        let count = numbers.count as usize;
         let mut i: usize = 0;
         while i < count {
             let x = numbers.resources[i];
@@ -80,7 +74,7 @@ impl Release {
             Why::Tracks(_) => false,
             Why::Son(k) => k != 0 && k == self.ended,
             Why::Lock(r) => {
-                let k = wide(r);
+                let k = r as usize;
                 if k == 0 {
                     return false;
                 }
@@ -126,7 +120,7 @@ pub fn sift(programs: [Program; 32], list: Listing, release: Release) -> Listing
     let mut i: usize = 0;
     while i < n {
         let q = list.ids[i];
-        let k = wide(q) - 1;
+        let k = q as usize - 1;
         let r = programs[k];
         let why = r.why;
         if release.awaited(why) {

@@ -1,39 +1,15 @@
-// Every place of the tracks and of the numbers, the blank ones too.
+// Who may hold tracks and own or lock numbers; and every place of the numbers, the blank ones too.
 use records::Numbers;
 use records::Resource;
-use tracks::Tracks;
-ghost use Prim.Native.Nat.{_≤_, _<_};
+ghost use Prim.Native.Nat.{_≤_};
 ghost use mathlib.Core.Path.{_≡_};
-ghost use Rattle.ledger.specs.Inner.{
-  Tells,
-  strange,
-  Strangers,
-  Larger,
-  SystemHolds,
-  OthersHold,
-  NoneHolds,
-  Held,
-  Limits,
-  Sits,
-  Seated,
-  Unowned,
-  Numbered,
-  Byte,
-};
+ghost use Rattle.tracks.specs.Inner.{Tells, Byte, Serves};
+ghost use Rattle.ledger.specs.Inner.{strange, Strangers, Sits, Seated, Unowned, Numbered};
 
 fn wide(x: u8) -> usize
     ensures { λ r. ⌜ Byte x r ⌝ }
 {
     x as usize
-}
-
-fn larger(a: u8, b: u8) -> u8
-    ensures { λ r. ⌜ Larger a b r ⌝ }
-{
-    if a < b {
-        return b;
-    }
-    a
 }
 
 // The mark of a program that is not used.
@@ -61,66 +37,9 @@ pub fn strangers(used: &[u8; 32]) -> [u8; 256]
     marks
 }
 
-// The first tracks are the system's.
-fn own_ok(own: usize, holders: &[u8; 256]) -> bool
-    requires { ⌜ own ≤ 256 ⌝ }
-    ensures { λ r. ⌜ Tells r (SystemHolds own (now (holders .entry))) ⌝ }
-{
-    let mut i: usize = 0;
-    while i < own {
-        if holders[i] != Tracks::SYSTEM {
-            return false;
-        }
-        i += 1;
-    }
-    true
-}
-
-// No stranger holds any other track: the marks of the holders sum up to 0.
-fn others_ok(own: usize, all: usize, holders: &[u8; 256], marks: &[u8; 256]) -> bool
-    requires { ⌜ Limits all own ⌝ }
-    ensures { λ r. ⌜ Tells r (OthersHold own all (now (holders .entry)) (now (marks .entry))) ⌝ }
-{
-    let mut sum: usize = 0;
-    let mut i = own;
-    while i < all {
-        sum += wide(marks[wide(holders[i])]);
-        i += 1;
-    }
-    sum == 0
-}
-
-// Nobody holds a place behind the tracks: the largest holder is 0.
-fn blank_ok(all: usize, holders: &[u8; 256]) -> bool
-    requires { ⌜ all ≤ 256 ⌝ }
-    ensures { λ r. ⌜ Tells r (NoneHolds all (now (holders .entry))) ⌝ }
-{
-    let mut most: u8 = Tracks::FREE;
-    let mut i = all;
-    while i < 256 {
-        most = larger(most, holders[i]);
-        i += 1;
-    }
-    most == Tracks::FREE
-}
-
-// Every place of the tracks.
-pub fn tracks_ok(all: usize, own: usize, holders: &[u8; 256], marks: &[u8; 256]) -> bool
-    requires { ⌜ Limits all own ⌝ }
-    ensures { λ r. ⌜ Tells r (Held all own (now (holders .entry)) (now (marks .entry))) ⌝ }
-{
-    if !own_ok(own, holders) {
-        return false;
-    }
-    if !others_ok(own, all, holders, marks) {
-        return false;
-    }
-    blank_ok(all, holders)
-}
-
 // A number of ours: no stranger owns or locks it, no lock is GLOBAL, and a free one is clear.
 fn number_fits(x: Resource, marks: &[u8; 256]) -> bool
-    ensures { λ r. ⌜ Tells r (Sits (now (marks .entry)) x) ⌝ }
+    ensures { λ r. ⌜ Tells r (Sits (Serves (now (marks .entry))) x) ⌝ }
 {
     let lock = x.lock;
     if marks[wide(x.owner)] != 0 {
@@ -140,7 +59,7 @@ fn number_fits(x: Resource, marks: &[u8; 256]) -> bool
 
 fn ours_ok(count: usize, resources: [Resource; 16], marks: &[u8; 256]) -> bool
     requires { ⌜ count ≤ 16 ⌝ }
-    ensures { λ r. ⌜ Tells r (Seated count resources (now (marks .entry))) ⌝ }
+    ensures { λ r. ⌜ Tells r (Seated count (Serves (now (marks .entry))) resources) ⌝ }
 {
     let mut i: usize = 0;
     while i < count {
@@ -153,25 +72,25 @@ fn ours_ok(count: usize, resources: [Resource; 16], marks: &[u8; 256]) -> bool
     true
 }
 
+// Nobody owns or locks a number behind them: owners and locks sum up to 0.
 fn rest_ok(count: usize, resources: [Resource; 16]) -> bool
     requires { ⌜ count ≤ 16 ⌝ }
     ensures { λ r. ⌜ Tells r (Unowned count resources) ⌝ }
 {
-    let mut most: u8 = 0;
+    let mut sum: usize = 0;
     let mut i = count;
     while i < 16 {
         let x = resources[i];
-        let here = larger(x.owner, x.lock);
-        most = larger(most, here);
+        sum += wide(x.owner) + wide(x.lock);
         i += 1;
     }
-    most == 0
+    sum == 0
 }
 
 // Every place of the numbers.
 pub fn numbers_ok(count: usize, resources: [Resource; 16], marks: &[u8; 256]) -> bool
     requires { ⌜ count ≤ 16 ⌝ }
-    ensures { λ r. ⌜ Tells r (Numbered count resources (now (marks .entry))) ⌝ }
+    ensures { λ r. ⌜ Tells r (Numbered count (Serves (now (marks .entry))) resources) ⌝ }
 {
     if !ours_ok(count, resources, marks) {
         return false;

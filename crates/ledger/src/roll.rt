@@ -4,18 +4,13 @@ use super::entries::son_of;
 use records::Program;
 ghost use Prim.Native.Nat.{_<_};
 ghost use mathlib.Core.Path.{_≡_};
-ghost use Rattle.ledger.specs.Inner.{Tells, joined, nameCode, slotOf, Fresh, Ended, Distinct, Marked, Sons, Awaited, Enrolled};
+ghost use Rattle.tracks.specs.Inner.{Tells};
+ghost use Rattle.ledger.specs.Inner.{joined, nameCode, slotOf, Fresh, Ended, Distinct, Marked, Sons, Awaited, Enrolled};
 
 // Whether the records are sound, and a mark for each used one.
 pub struct Roll {
     pub ok: bool,
     pub used: [u8; 32],
-}
-
-fn wide(x: u8) -> usize
-    ensures { λ r. ⌜ r ≡ x ⌝ }
-{
-    x as usize
 }
 
 fn join(a: u8, b: u8, c: u8, d: u8, e: u8) -> u64
@@ -88,7 +83,7 @@ fn sons_ok(sons: &[u8; 32], states: &[u8; 32], high: usize) -> bool
     while i < high {
         let son = sons[i];
         if son != 0 {
-            let k = wide(son) - 1;
+            let k = son as usize - 1;
             if states[k] == 0 {
                 return false;
             }

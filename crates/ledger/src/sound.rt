@@ -3,38 +3,19 @@
 use super::Ledger;
 use super::places::numbers_ok;
 use super::places::strangers;
-use super::places::tracks_ok;
 use super::roll::enrolled;
 use clock::Clock;
 ghost use mathlib.Core.Path.{_≡_};
-ghost use Rattle.lists.specs.Lists.{upTo};
-ghost use Rattle.ledger.specs.Inner.{testBook, sized};
-
-fn wide(x: u8) -> usize
-    ensures { λ r. ⌜ r ≡ x ⌝ }
-{
-    x as usize
-}
-
-fn broad(x: u16) -> usize
-    ensures { λ r. ⌜ r ≡ x ⌝ }
-{
-    x as usize
-}
-
-fn one_to(high: usize, n: usize) -> bool
-    ensures { λ r. ⌜ r ≡ upTo 1 high n ⌝ }
-{
-    if n == 0 {
-        return false;
-    }
-    n <= high
-}
+ghost use Rattle.tracks.specs.Inner.{Tells};
+ghost use Rattle.ledger.specs.Inner.{testBook, Sized};
 
 fn is_sized(all: u16, own: u16, numbers: u8, ticks: u64) -> bool
-    ensures { λ r. ⌜ r ≡ sized all own numbers ticks ⌝ }
+    ensures { λ r. ⌜ Tells r (Sized all own numbers ticks) ⌝ }
 {
-    if !one_to(256, broad(all)) {
+    if all == 0 {
+        return false;
+    }
+    if 256 < all {
         return false;
     }
     if all < own {
@@ -51,9 +32,8 @@ pub fn book_sound(l: Ledger) -> bool
     ensures { λ r. ⌜ r ≡ testBook l ⌝ }
 {
     let all = l.tracks.count;
-    let own = l.tracks.system;
     let numbers = l.numbers.count;
-    if !is_sized(all, own, numbers, l.clock.ticks) {
+    if !is_sized(all, l.tracks.system, numbers, l.clock.ticks) {
         return false;
     }
     let programs = l.programs;
@@ -63,10 +43,9 @@ pub fn book_sound(l: Ledger) -> bool
     }
     let used = roll.used;
     let marks = strangers(&used);
-    let holders = l.tracks.holders;
-    if !tracks_ok(broad(all), broad(own), &holders, &marks) {
+    if !l.tracks.held_soundly(&marks) {
         return false;
     }
     let resources = l.numbers.resources;
-    numbers_ok(wide(numbers), resources, &marks)
+    numbers_ok(numbers as usize, resources, &marks)
 }

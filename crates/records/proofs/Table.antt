@@ -74,15 +74,9 @@ module _ (t : Numbers) (xs : List Resource) (F : Fit t) (e : length xs ≡ lengt
   pub fit-of : Fit (tableOf (t .count) xs)
   fit-of = record { most = F .most; formed = ap (tableOf (t .count)) (sym resources-of) }
 
--- the same of a table made anew; a fresh one
+-- the same of a table made anew, and of a fresh one
 pub resources-made : (n : ℕ) (xs : List Resource) → length xs ≡ n → resources (tableOf n xs) ≡ xs
 resources-made n xs e = take-at xs (behind n) n e
-
-pub fit-made : (n : ℕ) (xs : List Resource) → n ≤ 16 → length xs ≡ n → Fit (tableOf n xs)
-fit-made n xs h e = record { most = h; formed = ap (tableOf n) (sym (resources-made n xs e)) }
-
-pub fit-fresh : (n : ℕ) → n ≤ 16 → Fit (tableOf n (replicate n free))
-fit-fresh n h = fit-made n (replicate n free) h (length-replicate n free)
 
 pub fresh-list : (n : ℕ) → n ≤ 16 → replicate 16 free ≡ replicate n free ++ behind n
 fresh-list n h =

@@ -1,8 +1,8 @@
 -- Resource numbers 1 to R: free, or owned by a program or globally; an owned one is clear or locked by one program (OUTLINE, "The tables").
 -- Assumes nothing.
 use Prim.Native.Nat.{ℕ, _-_}
-use mathlib.Core.Bool.{Bool, true, false, cond, _||_}
-use mathlib.Core.List.{List, [], _∷_, _++_}
+use mathlib.Core.Bool.{Bool, cond, _||_}
+use mathlib.Core.List.{List, _++_}
 use lib.ListN.{getD, set, take, replicate}
 use lib.Dec.{eqb}
 use Rattle.records.specs.declared.Resource.{Resource}

@@ -287,21 +287,29 @@ impl Numbers {
         self.resources[i]
     }
 
-    // The lowest free number, or 0.
-    pub fn lowest_free(self) -> usize
+    // The lowest number that p owns, or 0; nobody owns a free one.
+    fn lowest_of(self, p: u8) -> usize
         requires { ⌜ Fit self ⌝ }
-        ensures { λ n. ⌜ n ≡ first (λ r. eqb (numberAt (resources self) r .owner) 0) (from 1 (self .count)) ⌝ }
+        ensures { λ n. ⌜ n ≡ first (λ r. eqb (numberAt (resources self) r .owner) p) (from 1 (self .count)) ⌝ }
     {
         let count = wide(self.count);
         let mut r: usize = 1;
         while r <= count {
             let x = self.number(r);
-            if x.owner == 0 {
+            if x.owner == p {
                 return r;
             }
             r += 1;
         }
         0
+    }
+
+    // The lowest free number, or 0.
+    pub fn lowest_free(self) -> usize
+        requires { ⌜ Fit self ⌝ }
+        ensures { λ n. ⌜ n ≡ first (λ r. eqb (numberAt (resources self) r .owner) 0) (from 1 (self .count)) ⌝ }
+    {
+        self.lowest_of(0)
     }
 
     pub fn with_number(mut self, r: usize, owner: u8, lock: u8) -> Numbers
@@ -336,16 +344,7 @@ impl Numbers {
         requires { ⌜ Fit self ⌝ }
         ensures { λ b. ⌜ b ≡ any (λ r. eqb (numberAt (resources self) r .owner) p) (from 1 (self .count)) ⌝ }
     {
-        let count = wide(self.count);
-        let mut r: usize = 1;
-        while r <= count {
-            let x = self.number(r);
-            if x.owner == p {
-                return true;
-            }
-            r += 1;
-        }
-        false
+        0 < self.lowest_of(p)
     }
 
     // Whether p owns or locks number r; past the last it does neither, and 0 is taken for 1.

@@ -1,14 +1,13 @@
 -- A table of as many holders as it has tracks is a fit one, its holders are those, and what the functions make of one is so again. Only lengths matter: the table is cut where its holders end.
 -- Assumes nothing.
 use Prim.Native.Nat.{ℕ, _-_, _≤_}
-use native.Mathlib.Omega.{arith}
 use mathlib.Core.Path.{_≡_, refl, sym, ap, _∙_}
 use mathlib.Core.List.{List, _++_}
-use lib.ListN.{length, replicate, length-append, length-replicate}
-use lib.Seq.{take-at, length-take-le}
+use lib.ListN.{length, replicate}
+use lib.Seq.{take-at}
 use Rattle.tracks.specs.declared.Tracks.{Tracks}
-use Rattle.tracks.specs.Tracks.{nobody, system, holders, tableOf, filled, replaced}
-use Rattle.tracks.specs.Inner.{Fit, Sizes}
+use Rattle.tracks.specs.Tracks.{nobody, holders, tableOf, filled, replaced}
+use Rattle.tracks.specs.Inner.{Fit}
 use Rattle.tracks.proofs.Runs.{filled-long, replaced-long}
 
 pub holders-of : (T S : ℕ) (xs : List ℕ) → length xs ≡ T → holders (tableOf T S xs) ≡ xs
@@ -40,13 +39,6 @@ holds r T S xs e l m =
       own = refl;
       held = holders-of T S xs l;
     })
-
-pub fresh-long : (T S : ℕ) → S ≤ T → length (replicate S system ++ replicate (T - S) nobody) ≡ T
-fresh-long T S m = simp (length-append, length-replicate) (omega arith)
-
-pub fresh-holds : (r : Tracks) (T S : ℕ) → Sizes T S → r ≡ tableOf T S (replicate S system ++ replicate (T - S) nobody)
-    → Holds r T S (replicate S system ++ replicate (T - S) nobody)
-fresh-holds r T S s e = holds r T S (replicate S system ++ replicate (T - S) nobody) e (fresh-long T S (s .part)) (s .most)
 
 module _ (r t : Tracks) (f : Fit t) where
   pub filled-holds : (i n h : ℕ) → r ≡ tableOf (t .count) (t .system) (filled i n h (holders t)) → Holds r (t .count) (t .system) (filled i n h (holders t))

@@ -184,20 +184,6 @@ count-freed i (suc n) h xs w r =
       count-freed i n h xs w (record { within = omega (arith, r .within); held = λ k m. r .held k (omega arith) }),
     )
 
--- free tracks that are given to a holder are free no more, and none else
-pub count-taken : (i n h : ℕ) (xs : List ℕ) → h ≢ nobody → FreeRun xs i n → count nobody (filled i n h xs) + n ≡ count nobody xs
-count-taken i zero h xs w r = omega arith
-count-taken i (suc n) h xs w r =
-    let was : getD (filled i n h xs) (i + n) nobody ≡ nobody = filled-out i n h xs (i + n) (λ l. omega arith) ∙ r .free n (omega arith) in
-    omega (
-      arith,
-      count-set nobody (filled i n h xs) (i + n) h (omega (arith, filled-long i n h xs, r .within)),
-      ap (same nobody) was,
-      same-ne nobody h (λ e. w (sym e)),
-      same-refl nobody,
-      count-taken i n h xs w (record { within = omega (arith, r .within); free = λ k m. r .free k (omega arith) }),
-    )
-
 pub count-replaced : (p : ℕ) (xs : List ℕ) → p ≢ nobody → count nobody (replaced p nobody xs) ≡ count nobody xs + count p xs
 count-replaced p [] w = omega arith
 count-replaced p (x ∷ xs) w = go (eqb x p) refl (count-replaced p xs w)

@@ -2,12 +2,14 @@
 -- Assumes nothing.
 use Prim.Native.Nat.{ℕ, _+_, _≤_, _<_}
 use mathlib.Core.Path.{_≡_}
+use mathlib.Core.Bool.{Bool, true, false}
+use mathlib.Core.List.{List}
 use mathlib.Core.Option.{Option, none, some}
-use lib.ListN.{length}
+use lib.ListN.{length, getD}
 use Rattle.tracks.specs.declared.Tracks.{Tracks}
 use Rattle.tracks.specs.declared.Found.{Found}
 use Rattle.tracks.specs.declared.Found.the-variants.{At, Nothing}
-use Rattle.tracks.specs.Tracks.{holders, tableOf}
+use Rattle.tracks.specs.Tracks.{nobody, system, places, holders, tableOf}
 
 -- a table as the rules know it: told by its count, its system's tracks and its holders
 pub record Fit (t : Tracks) : Type 0 where
@@ -34,3 +36,40 @@ pub record Sizes (T S : ℕ) : Type 0 where
 abbrev pub foundIs : Found → Option ℕ
 foundIs (At i) = some i
 foundIs Nothing = none
+
+-- an answer says whether A holds
+pub record Tells (r : Bool) (A : Type 0) : Type 0 where
+  pub yes : r ≡ true → A
+  pub nay : r ≡ false → A → ⊥
+
+-- r is the byte x
+pub record Byte (x r : ℕ) : Type 0 where
+  pub same : r ≡ x
+  pub small : r < 256
+
+-- r is no less than a and b, and 0 where they are
+pub record Larger (a b r : ℕ) : Type 0 where
+  pub left : a ≤ r
+  pub right : b ≤ r
+  pub none : a ≡ 0 → b ≡ 0 → r ≡ 0
+
+-- h is a byte that has no mark
+pub record Serves (marks : List ℕ) (h : ℕ) : Type 0 where
+  pub small : h < 256
+  pub unmarked : getD marks h 0 ≡ 0
+
+-- the system holds the first S places; who may hold tracks those from S to T; nobody those from T on
+abbrev pub SystemHolds : ℕ → List ℕ → Type 0
+SystemHolds S hs = (i : ℕ) → i < S → getD hs i nobody ≡ system
+
+abbrev pub OthersHold : ℕ → ℕ → (ℕ → Type 0) → List ℕ → Type 0
+OthersHold S T May hs = (i : ℕ) → i < T → S ≤ i → May (getD hs i nobody)
+
+abbrev pub NoneHolds : ℕ → List ℕ → Type 0
+NoneHolds T hs = (i : ℕ) → i < 256 → T ≤ i → getD hs i nobody ≡ nobody
+
+-- every place is held as it should be
+pub record Held (May : ℕ → Type 0) (t : Tracks) : Type 0 where
+  pub own : SystemHolds (t .system) (places t)
+  pub others : OthersHold (t .system) (t .count) May (places t)
+  pub blank : NoneHolds (t .count) (places t)

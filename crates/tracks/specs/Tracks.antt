@@ -19,12 +19,19 @@ everybody = 33
 abbrev pub system : ℕ
 system = 34
 
+-- who holds each of the 256 places, a place behind the tracks too; and the table of those places
+abbrev pub places : Tracks → List ℕ
+places t = t .holders
+
+abbrev pub tableAt : ℕ → ℕ → List ℕ → Tracks
+tableAt T S xs = record { count = T; system = S; holders = xs }
+
 -- who holds tracks 0 to T - 1; and the table of T tracks with those holders, S of them the system's, blank behind
 abbrev pub holders : Tracks → List ℕ
-holders t = take (t .count) (t .holders)
+holders t = take (t .count) (places t)
 
 abbrev pub tableOf : ℕ → ℕ → List ℕ → Tracks
-tableOf T S xs = record { count = T; system = S; holders = xs ++ replicate (256 - T) nobody }
+tableOf T S xs = tableAt T S (xs ++ replicate (256 - T) nobody)
 
 -- the first n are all h's
 abbrev pub run : ℕ → ℕ → List ℕ → Bool

@@ -1,5 +1,7 @@
-// The disc tracks: who holds each.
+// The disc tracks: who holds each. Other crates reach the array by functions of this one alone.
 mod held;
+mod places;
+mod sound;
 
 pub use held::Run;
 ghost use Prim.Native.Nat.{_-_};

@@ -16,18 +16,6 @@ use Rattle.board.proofs.Agreed.{boarded-other, boarded-short, boarded-d
 use Rattle.board.proofs.board_ask.Statement.{statement}
 use Rattle.board.proofs.board_ask.Tie as tie
 
-is-packed-requires : tie.Need-is-packed-requires
-is-packed-requires c κs = search needs
-
-tell-requires : tie.Need-tell-requires
-tell-requires c κs = search needs
-
-same-length : tie.Need-same-length
-same-length c = search needs
-
-same-length-2 : tie.Need-same-length-2
-same-length-2 c = search needs
-
 returns : tie.Need-returns
 returns c =
     let w = c .before .before in
@@ -47,12 +35,6 @@ form c = sym (c .before .is-packed .ensures) ∙ not-false (c .before .is-packed
 tables-at-requires : tie.Need-tables-at-requires
 tables-at-requires c κs = let l = is-length (Begun (c .before) .args .tables .now) (form (c .before)) in search needs
 
-is-sound-requires : tie.Need-is-sound-requires
-is-sound-requires c κs = search needs
-
-same-length-3 : tie.Need-same-length-3
-same-length-3 c = search needs
-
 returns-2 : tie.Need-returns-2
 returns-2 c =
     let i = c .before in
@@ -62,9 +44,6 @@ returns-2 c =
     boarded-short (a .tables .now) (a .line .now) (a .page .now) (a .answer .now) (form e) (t .tables-at .result) true (i .before .if2 .taken) (t .tables-at .ensures)
     (sym (i .is-sound .ensures) ∙ c .if3 .taken)
 
-same-length-4 : tie.Need-same-length-4
-same-length-4 c = search needs
-
 returns-3 : tie.Need-returns-3
 returns-3 c =
     let i = c .before in
@@ -73,9 +52,6 @@ returns-3 c =
     let a = Begun e .args in
     boarded-short (a .tables .now) (a .line .now) (a .page .now) (a .answer .now) (form e) (t .tables-at .result) false (i .before .if2 .taken) (t .tables-at .ensures)
     (sym (i .is-sound .ensures) ∙ c .if3 .left)
-
-key-line-requires : tie.Need-key-line-requires
-key-line-requires c κs = search needs
 
 -- the tables after the line
 arrays : (c : tie.After-key-line) → Arrays (c .key-line .result .tables)
@@ -96,18 +72,6 @@ put-tables-requires c κs =
     let e = c .before .before .before .before .before .before .before .before .before in
     let l = is-length (Begun e .args .tables .now) (form e) in search needs
 
-tell-requires-2 : tie.Need-tell-requires-2
-tell-requires-2 c κs = search needs
-
-same-length-5 : tie.Need-same-length-5
-same-length-5 c = search needs
-
-same-length-6 : tie.Need-same-length-6
-same-length-6 c = search needs
-
-same-length-7 : tie.Need-same-length-7
-same-length-7 c = search needs
-
 returns-4 : tie.Need-returns-4
 returns-4 c =
     let w = c .before .before in
@@ -125,21 +89,21 @@ pub board-ask-spec : {M : Type 1} → statement M
 board-ask-spec =
     tie.close
     (tie.spec
-    is-packed-requires
-    tell-requires
-    same-length
-    same-length-2
+    (λ c κs. search needs)
+    (λ c κs. search needs)
+    (λ c. search needs)
+    (λ c. search needs)
     returns
     tables-at-requires
-    is-sound-requires
-    same-length-3
+    (λ c κs. search needs)
+    (λ c. search needs)
     returns-2
-    same-length-4
+    (λ c. search needs)
     returns-3
-    key-line-requires
+    (λ c κs. search needs)
     put-tables-requires
-    tell-requires-2
-    same-length-5
-    same-length-6
-    same-length-7
+    (λ c κs. search needs)
+    (λ c. search needs)
+    (λ c. search needs)
+    (λ c. search needs)
     returns-4)

@@ -13,9 +13,7 @@ use borrow.Author.Needs.{needs}
 use Rattle.lists.proofs.Tests.{clash}
 use Rattle.tables.specs.declared.Tables.{Tables}
 use Rattle.console.specs.Sheet.{room}
-use Rattle.console.proofs.LineEnds.{LineEnd, line-end}
-use Rattle.board.proofs.Lines.{slice-taken}
-use Rattle.board.specs.Board.{Ran}
+use Rattle.console.proofs.LineEnds.{LineEnd, line-end, line-taken}
 use Rattle.board.proofs.Answered.{answering-not}
 use Rattle.board.proofs.Whole.{ran-over, ran-short}
 use Rattle.board.proofs.Running.{made-smallest, Shows, line-printed, Run, run-as, run-start, Turn, needed-small, run-keep, put-room, run-put, run-end}
@@ -28,12 +26,6 @@ Inv-loop text out₀ answer tables₀ space₀ from₀ used₀ needed₀ is-full
 
 abbrev μ-loop : tie.MeasureT-loop
 μ-loop text out₀ answer tables₀ space₀ from₀ used₀ needed₀ is-full₀ out tables space from used needed is-full = length text - from
-
-tell-requires : tie.Need-tell-requires Inv-loop μ-loop
-tell-requires c κs = search needs
-
-same-length : tie.Need-same-length Inv-loop μ-loop
-same-length c = search needs
 
 returns : tie.Need-returns Inv-loop μ-loop
 returns c =
@@ -49,17 +41,11 @@ returns-2 c =
     ap (λ (x : List ℕ). record { number = 12; buffer = a .out .now; answer = x }) (sym (answering-not 12 (0 ∷ []) (a .answer .now) (c .if2 .taken)))
     ∙ sym (ran-short (a .text .now) (a .out .now) (a .answer .now) (e .if1 .left) (c .if2 .taken))
 
-fresh-requires : tie.Need-fresh-requires Inv-loop μ-loop
-fresh-requires c κs = search needs
-
 loop-holds : tie.Need-loop-holds Inv-loop μ-loop
 loop-holds c =
     let f = c .before in
     let a = f .before .before .before .before .before .before .args in
     (run-start (a .text .now) (a .out .now) (f .fresh .result .tables) (made-smallest (f .fresh .result) (f .fresh .ensures)), length-replicate {A = ℕ} 8192 0)
-
-line-end-requires : tie.Need-line-end-requires Inv-loop μ-loop
-line-end-requires c κs = search needs
 
 -- back from where a line's end was found to where its turn began, and to the start
 abbrev Turned : tie.After-line-end Inv-loop μ-loop → tie.At-loop Inv-loop μ-loop
@@ -88,12 +74,6 @@ part-print-line-end c = ends c .high
 
 slice-aggregate-print-line : tie.Need-slice-aggregate-print-line Inv-loop μ-loop
 slice-aggregate-print-line c = sym (Turned (c .before .before) .loop .inv .1)
-
-print-line-requires : tie.Need-print-line-requires Inv-loop μ-loop
-print-line-requires c κs = search needs
-
-bytes-printed-requires : tie.Need-bytes-printed-requires Inv-loop μ-loop
-bytes-printed-requires c κs = search needs
 
 -- back from where a line is printed to where its end was found, to where its turn began, and to the start
 abbrev Ended : tie.After-bytes-printed Inv-loop μ-loop → tie.After-line-end Inv-loop μ-loop
@@ -125,7 +105,7 @@ shows c =
     let p = c .before .before .before .print-line in
     let s = S c .args .text .now in
     let e = Ended c .line-end .result in
-    subst (λ (x : List ℕ). Shows (l .tables) x (N c) (After c) (Space c)) (slice-taken s (l .from) e (low (Ended c)))
+    subst (λ (x : List ℕ). Shows (l .tables) x (N c) (After c) (Space c)) (line-taken s (l .from) e (low (Ended c)))
     (line-printed (l .tables) (take (e - l .from) (drop (l .from) s)) (l .space) (omega (arith, l .inv .1)) (p .result) (N c) (Space c) (p .ensures) (c .bytes-printed .ensures)
     (space-same c ∙ sym (l .inv .1)))
 
@@ -133,9 +113,6 @@ turn : (c : tie.After-bytes-printed Inv-loop μ-loop)
     → Turn (S c .args .text .now) (S c .args .out .now) (Begun c .loop .out) (Begun c .loop .tables) (Begun c .loop .from) (Begun c .loop .used) (Begun c .loop .needed) (Begun c .loop .is-full)
     (Ended c .line-end .result) (N c) (After c) (Space c)
 turn c = record { run = Begun c .loop .inv .0; more = Ended c .before .loop-test .taken; ends = ends (Ended c); shows = shows c; long = space-same c }
-
-add-needed : tie.Need-add-needed Inv-loop μ-loop
-add-needed c = omega (arith, needed-small (turn c), ends (Ended c) .high)
 
 sub-if3 : tie.Need-sub-if3 Inv-loop μ-loop
 sub-if3 c = let r = Begun c .loop .inv .0 in omega (arith, r .fits, r .left .same)
@@ -189,14 +166,8 @@ loop-again c =
       space-same (j .before),
     )
 
-put-counts-requires : tie.Need-put-counts-requires Inv-loop μ-loop
-put-counts-requires c κs = search needs
-
 same-length-2 : tie.Need-same-length-2 Inv-loop μ-loop
 same-length-2 c = c .before .before .before .before .before .loop .inv .0 .left .same
-
-same-length-3 : tie.Need-same-length-3 Inv-loop μ-loop
-same-length-3 c = search needs
 
 returns-3 : tie.Need-returns-3 Inv-loop μ-loop
 returns-3 c =
@@ -214,20 +185,20 @@ board-run-spec =
     (tie.spec
     Inv-loop
     μ-loop
-    tell-requires
-    same-length
+    (λ c κs. search needs)
+    (λ c. search needs)
     returns
     returns-2
-    fresh-requires
+    (λ c κs. search needs)
     loop-holds
-    line-end-requires
+    (λ c κs. search needs)
     sub-print-line
     part-print-line-start
     part-print-line-end
     slice-aggregate-print-line
-    print-line-requires
-    bytes-printed-requires
-    add-needed
+    (λ c κs. search needs)
+    (λ c κs. search needs)
+    (λ c. omega (arith, needed-small (turn c), ends (Ended c) .high))
     sub-if3
     array-share-prefix-space
     slice-aggregate-put-bytes
@@ -235,7 +206,7 @@ board-run-spec =
     add-from
     loop-less
     loop-again
-    put-counts-requires
+    (λ c κs. search needs)
     same-length-2
-    same-length-3
+    (λ c. search needs)
     returns-3)

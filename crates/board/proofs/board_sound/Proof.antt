@@ -9,9 +9,6 @@ use Rattle.board.proofs.Agreed.{soundly-other, soundly-is}
 use Rattle.board.proofs.board_sound.Statement.{statement}
 use Rattle.board.proofs.board_sound.Tie as tie
 
-is-packed-requires : tie.Need-is-packed-requires
-is-packed-requires c κs = search needs
-
 returns : tie.Need-returns
 returns c =
     let p = c .before in
@@ -23,9 +20,6 @@ form c = sym (c .before .is-packed .ensures) ∙ not-false (c .before .is-packed
 
 tables-at-requires : tie.Need-tables-at-requires
 tables-at-requires c κs = let l = is-length (c .before .before .before .args .tables .now) (form c) in search needs
-
-is-sound-requires : tie.Need-is-sound-requires
-is-sound-requires c κs = search needs
 
 returns-2 : tie.Need-returns-2
 returns-2 c =
@@ -41,4 +35,4 @@ returns-3 c =
 
 pub board-sound-spec : {M : Type 1} → statement M
 board-sound-spec =
-    tie.close (tie.spec is-packed-requires returns tables-at-requires is-sound-requires returns-2 returns-3)
+    tie.close (tie.spec (λ c κs. search needs) returns tables-at-requires (λ c κs. search needs) returns-2 returns-3)

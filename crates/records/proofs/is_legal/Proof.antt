@@ -16,12 +16,6 @@ Inv-loop name i₀ i = legal name ≡ rest (drop i name)
 abbrev μ-loop : tie.MeasureT-loop
 μ-loop name i₀ i = 5 - i
 
-array-read-is-letter : tie.Need-array-read-is-letter Inv-loop μ-loop
-array-read-is-letter c = search needs
-
-is-letter-requires : tie.Need-is-letter-requires Inv-loop μ-loop
-is-letter-requires c κs = search needs
-
 returns : tie.Need-returns Inv-loop μ-loop
 returns c =
     let h = c .before in
@@ -32,15 +26,6 @@ loop-holds c =
     let h = c .before in
     legal-rest (h .before .args .t1) (omega arith) (sym (h .is-letter .ensures) ∙ not-false (h .is-letter .result) (c .if1 .left))
 
-array-read-is-letter-or-digit : tie.Need-array-read-is-letter-or-digit Inv-loop μ-loop
-array-read-is-letter-or-digit c = omega arith
-
-is-letter-or-digit-requires : tie.Need-is-letter-or-digit-requires Inv-loop μ-loop
-is-letter-or-digit-requires c κs = search needs
-
-is-blank-from-requires : tie.Need-is-blank-from-requires Inv-loop μ-loop
-is-blank-from-requires c κs = search needs
-
 returns-2 : tie.Need-returns-2 Inv-loop μ-loop
 returns-2 c =
     let h = c .before .before in
@@ -49,12 +34,6 @@ returns-2 c =
     c .is-blank-from .ensures
     ∙ sym (rest-blank (b .before .before .before .args .t1) (b .loop .i) (omega arith) (sym (k .ensures) ∙ not-true (k .result) (c .before .if2 .taken)))
     ∙ sym (b .loop .inv)
-
-add-i : tie.Need-add-i Inv-loop μ-loop
-add-i c = omega arith
-
-loop-less : tie.Need-loop-less Inv-loop μ-loop
-loop-less c = omega arith
 
 loop-again : tie.Need-loop-again Inv-loop μ-loop
 loop-again c =
@@ -74,15 +53,15 @@ is-legal-spec =
     (tie.spec
     Inv-loop
     μ-loop
-    array-read-is-letter
-    is-letter-requires
+    (λ c. search needs)
+    (λ c κs. search needs)
     returns
     loop-holds
-    array-read-is-letter-or-digit
-    is-letter-or-digit-requires
-    is-blank-from-requires
+    (λ c. omega arith)
+    (λ c κs. search needs)
+    (λ c κs. search needs)
     returns-2
-    add-i
-    loop-less
+    (λ c. omega arith)
+    (λ c. omega arith)
     loop-again
     returns-3)

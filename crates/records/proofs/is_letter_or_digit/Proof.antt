@@ -6,16 +6,10 @@ use Rattle.records.specs.Names.{digit}
 use Rattle.records.proofs.is_letter_or_digit.Statement.{statement}
 use Rattle.records.proofs.is_letter_or_digit.Tie as tie
 
-is-letter-requires : tie.Need-is-letter-requires
-is-letter-requires c κs = search needs
-
 returns : tie.Need-returns
 returns c =
     let h = c .before in
     sym (ap (λ (b : Bool). b || digit (h .before .args .c)) (sym (h .is-letter .ensures) ∙ c .if1 .taken))
-
-is-digit-requires : tie.Need-is-digit-requires
-is-digit-requires c κs = search needs
 
 returns-2 : tie.Need-returns-2
 returns-2 c =
@@ -23,4 +17,4 @@ returns-2 c =
     c .is-digit .ensures ∙ sym (ap (λ (b : Bool). b || digit (h .before .args .c)) (sym (h .is-letter .ensures) ∙ c .before .if1 .left))
 
 pub is-letter-or-digit-spec : {M : Type 1} → statement M
-is-letter-or-digit-spec = tie.close (tie.spec is-letter-requires returns is-digit-requires returns-2)
+is-letter-or-digit-spec = tie.close (tie.spec (λ c κs. search needs) returns (λ c κs. search needs) returns-2)

@@ -10,21 +10,6 @@ use Rattle.board.proofs.pack.is_packed.Tie as tie
 returns : tie.Need-returns
 returns c = packed-other (c .before .before .args .s .now) (c .if1 .taken)
 
-tables-at-requires : tie.Need-tables-at-requires
-tables-at-requires c κs = search needs
-
-slice-aggregate-put-tables : tie.Need-slice-aggregate-put-tables
-slice-aggregate-put-tables c = search needs
-
-put-tables-requires : tie.Need-put-tables-requires
-put-tables-requires c κs = search needs
-
-slice-aggregate-is-word : tie.Need-slice-aggregate-is-word
-slice-aggregate-is-word c = search needs
-
-is-word-requires : tie.Need-is-word-requires
-is-word-requires c κs = search needs
-
 returns-2 : tie.Need-returns-2
 returns-2 c =
     let p = c .before .before .before in
@@ -38,9 +23,9 @@ is-packed-spec =
     tie.close
     (tie.spec
     returns
-    tables-at-requires
-    slice-aggregate-put-tables
-    put-tables-requires
-    slice-aggregate-is-word
-    is-word-requires
+    (λ c κs. search needs)
+    (λ c. search needs)
+    (λ c κs. search needs)
+    (λ c. search needs)
+    (λ c κs. search needs)
     returns-2)

@@ -19,32 +19,8 @@ Inv-loop s programs₀ i₀ programs i = Filled 32 (listed (at s)) i programs
 abbrev μ-loop : tie.MeasureT-loop
 μ-loop s programs₀ i₀ programs i = 32 - i
 
-unused-record-requires : tie.Need-unused-record-requires Inv-loop μ-loop
-unused-record-requires c κs = search needs
-
 loop-holds : tie.Need-loop-holds Inv-loop μ-loop
 loop-holds c = filled-start 32 (listed (at (c .before .before .args .s .now))) _ refl refl
-
-mul-program-at : tie.Need-mul-program-at Inv-loop μ-loop
-mul-program-at c = omega arith
-
-add-program-at : tie.Need-add-program-at Inv-loop μ-loop
-add-program-at c = omega arith
-
-program-at-requires : tie.Need-program-at-requires Inv-loop μ-loop
-program-at-requires c κs = omega arith
-
-mul-programs : tie.Need-mul-programs Inv-loop μ-loop
-mul-programs c = omega arith
-
-array-set-from-programs : tie.Need-array-set-from-programs Inv-loop μ-loop
-array-set-from-programs c = omega arith
-
-add-i : tie.Need-add-i Inv-loop μ-loop
-add-i c = omega arith
-
-loop-less : tie.Need-loop-less Inv-loop μ-loop
-loop-less c = omega arith
 
 loop-again : tie.Need-loop-again Inv-loop μ-loop
 loop-again c =
@@ -60,14 +36,14 @@ programs-at-spec =
     (tie.spec
     Inv-loop
     μ-loop
-    unused-record-requires
+    (λ c κs. search needs)
     loop-holds
-    mul-program-at
-    add-program-at
-    program-at-requires
-    mul-programs
-    array-set-from-programs
-    add-i
-    loop-less
+    (λ c. omega arith)
+    (λ c. omega arith)
+    (λ c κs. omega arith)
+    (λ c. omega arith)
+    (λ c. omega arith)
+    (λ c. omega arith)
+    (λ c. omega arith)
     loop-again
     returns)

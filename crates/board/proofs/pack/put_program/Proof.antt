@@ -21,29 +21,8 @@ long s = search needs
 used : (c : tie.Joined1) → c .if1 .used ≡ hit (c .before .before .before .args .r .used)
 used c = ⊎-elim (λ w. w .1 ∙ ap hit (sym (w .0 .taken))) (λ w. w .1 ∙ ap hit (sym (w .0 .left))) (c .if1 .came)
 
-put-byte-requires : tie.Need-put-byte-requires
-put-byte-requires c κs = search needs
-
-slice-aggregate-put-bytes : tie.Need-slice-aggregate-put-bytes
-slice-aggregate-put-bytes c = search needs
-
-put-bytes-requires : tie.Need-put-bytes-requires
-put-bytes-requires c κs = omega (arith, long (c .before .before .before .before .before .before .before .before .before))
-
-put-pair-requires : tie.Need-put-pair-requires
-put-pair-requires c κs = omega (arith, long (begun (c .before .before .before)))
-
-put-byte-requires-2 : tie.Need-put-byte-requires-2
-put-byte-requires-2 c κs = omega (arith, long (begun (c .before .before .before .before .before .before .before)))
-
-kind-of-requires : tie.Need-kind-of-requires
-kind-of-requires c κs = search needs
-
 put-byte-requires-3 : tie.Need-put-byte-requires-3
 put-byte-requires-3 c κs = omega (arith, long (begun (c .before .before .before .before .before .before .before .before .before .before .before .before)))
-
-count-of-requires : tie.Need-count-of-requires
-count-of-requires c κs = search needs
 
 put-pair-requires-2 : tie.Need-put-pair-requires-2
 put-pair-requires-2 c κs = omega (arith, long (begun (c .before .before .before .before .before .before .before .before .before .before .before .before .before .before .before .before .before)))
@@ -51,12 +30,6 @@ put-pair-requires-2 c κs = omega (arith, long (begun (c .before .before .before
 -- there is room for the two numbers that are left
 room : (c : tie.After-put-pair2) → c .put-pair2 .result + 16 ≤ length (c .put-pair2 .last .0)
 room c = omega (arith, long (begun (c .before .before .before .before .before .before .before .before .before .before .before .before .before .before .before .before .before .before)))
-
-put-long-requires : tie.Need-put-long-requires
-put-long-requires c κs = omega (arith, room (c .before .before .before))
-
-put-long-requires-2 : tie.Need-put-long-requires-2
-put-long-requires-2 c κs = omega (arith, room (c .before .before .before .before .before .before .before))
 
 returns : tie.Need-returns
 returns c =
@@ -80,16 +53,16 @@ pub put-program-spec : {M : Type 1} → statement M
 put-program-spec =
     tie.close
     (tie.spec
-    put-byte-requires
-    slice-aggregate-put-bytes
-    put-bytes-requires
-    put-pair-requires
-    put-byte-requires-2
-    kind-of-requires
+    (λ c κs. search needs)
+    (λ c. search needs)
+    (λ c κs. omega (arith, long (c .before .before .before .before .before .before .before .before .before)))
+    (λ c κs. omega (arith, long (begun (c .before .before .before))))
+    (λ c κs. omega (arith, long (begun (c .before .before .before .before .before .before .before))))
+    (λ c κs. search needs)
     put-byte-requires-3
-    count-of-requires
+    (λ c κs. search needs)
     put-pair-requires-2
-    put-long-requires
-    put-long-requires-2
+    (λ c κs. omega (arith, room (c .before .before .before)))
+    (λ c κs. omega (arith, room (c .before .before .before .before .before .before .before)))
     same-length
     returns)

@@ -20,20 +20,8 @@ long s = s .good .1 .1 .0 .1 .0 .1
 loop-holds : tie.Need-loop-holds Inv-loop μ-loop
 loop-holds c = items-start packProgram 28 _
 
-mul-r : tie.Need-mul-r Inv-loop μ-loop
-mul-r c = omega arith
-
-array-copy-out-r : tie.Need-array-copy-out-r Inv-loop μ-loop
-array-copy-out-r c = omega (arith, long (c .before .before .before))
-
 put-program-requires : tie.Need-put-program-requires Inv-loop μ-loop
 put-program-requires c κs = omega (arith, long (c .before .before .before .before .before), c .before .before .before .loop .inv .left .same)
-
-add-i : tie.Need-add-i Inv-loop μ-loop
-add-i c = omega (arith, long (c .before .before .before .before .before .before .before .before))
-
-loop-less : tie.Need-loop-less Inv-loop μ-loop
-loop-less c = omega (arith, long (c .before .before .before .before .before .before .before .before))
 
 loop-again : tie.Need-loop-again Inv-loop μ-loop
 loop-again c =
@@ -58,11 +46,11 @@ put-programs-spec =
     Inv-loop
     μ-loop
     loop-holds
-    mul-r
-    array-copy-out-r
+    (λ c. omega arith)
+    (λ c. omega (arith, long (c .before .before .before)))
     put-program-requires
-    add-i
-    loop-less
+    (λ c. omega (arith, long (c .before .before .before .before .before .before .before .before)))
+    (λ c. omega (arith, long (c .before .before .before .before .before .before .before .before)))
     loop-again
     same-length
     returns)

@@ -22,12 +22,6 @@ long s = s .good .1 .1 .0 .1 .0 .1
 loop-holds : tie.Need-loop-holds Inv-loop μ-loop
 loop-holds c = items-start packResource 2 _
 
-mul-x : tie.Need-mul-x Inv-loop μ-loop
-mul-x c = omega arith
-
-array-copy-out-x : tie.Need-array-copy-out-x Inv-loop μ-loop
-array-copy-out-x c = omega (arith, long (c .before .before .before))
-
 put-byte-requires : tie.Need-put-byte-requires Inv-loop μ-loop
 put-byte-requires c κs = omega (arith, long (c .before .before .before .before .before), c .before .before .before .loop .inv .left .same)
 
@@ -62,8 +56,8 @@ put-resources-spec =
     Inv-loop
     μ-loop
     loop-holds
-    mul-x
-    array-copy-out-x
+    (λ c. omega arith)
+    (λ c. omega (arith, long (c .before .before .before)))
     put-byte-requires
     put-byte-requires-2
     add-i

@@ -1,20 +1,24 @@
 -- `board::pack::put_tables` meets its contract: its eight writes are the tables (`tables-wrote`), whose arrays are as long as their types say. Assumes nothing.
 use Prim.Native.Nat.{_+_, _≤_}
 use native.Mathlib.Omega.{arith}
-use mathlib.Core.Path.{sym, _∙_}
+use mathlib.Core.Path.{_≡_, sym, ap, _∙_}
 use borrow.Author.Needs.{needs}
 use lib.ListN.{length, length-map}
 use Rattle.text.proofs.Laws.{wrote-length}
 use Rattle.records.proofs.Program as program
 use Rattle.records.proofs.Resource as resource
 use Rattle.tables.specs.Tables.{Arrays}
+use Rattle.page.proofs.Writing.{wrote-as}
 use Rattle.board.proofs.Pieces.{resources-length, tables-wrote}
 use Rattle.board.proofs.pack.put_tables.Statement.{statement}
 use Rattle.board.proofs.pack.put_tables.Tie as tie
 
--- where the function began, seen from behind the write of the numbers' count
+-- where the places of the tracks were read, seen from behind the write of the numbers' count; and where the function began
+abbrev read : tie.After-put-byte → tie.After-places
+read c = c .before .before .before .before .before .before .before .before .before .before .before .before .before .before .before .before .before .before
+
 abbrev begun : tie.After-put-byte → tie.Start
-begun c = c .before .before .before .before .before .before .before .before .before .before .before .before .before .before .before .before .before .before .before .before .before .before .before
+begun c = read c .before .before .before .before .before
 
 arrays : (s : tie.Start) → Arrays (s .args .tables)
 arrays s = record {
@@ -24,30 +28,16 @@ arrays s = record {
   resources = sym (length-map (s .args .tables .ledger .numbers .resources) (resource.the-field .into)) ∙ s .good .1 .0 .1 .1 .0 .1 .1 .1 .1 .1 .0 .1 .1 .1 .0 .1 .0 .1;
 }
 
-put-long-requires : tie.Need-put-long-requires
-put-long-requires c κs = search needs
-
-put-pair-requires : tie.Need-put-pair-requires
-put-pair-requires c κs = search needs
-
-put-pair-requires-2 : tie.Need-put-pair-requires-2
-put-pair-requires-2 c κs = search needs
-
-put-byte-requires : tie.Need-put-byte-requires
-put-byte-requires c κs = search needs
+-- there are as many places as there should be
+long : (c : tie.After-put-byte) → length (read c .places .result) ≡ 256
+long c = ap length (read c .places .ensures) ∙ arrays (begun c) .holders
 
 slice-aggregate-put-bytes : tie.Need-slice-aggregate-put-bytes
-slice-aggregate-put-bytes c = sym (arrays (begun (c .before .before .before .before)) .holders)
-
-put-bytes-requires : tie.Need-put-bytes-requires
-put-bytes-requires c κs = omega (arith, arrays (begun (c .before .before .before .before)))
+slice-aggregate-put-bytes c = sym (long (c .before .before .before .before))
 
 -- there is room for what stands behind the holders
 room : (c : tie.After-put-bytes) → c .put-bytes .result + 968 ≤ length (c .put-bytes .last .0)
-room c = omega (arith, arrays (begun (c .before .before .before .before .before)))
-
-put-resources-requires : tie.Need-put-resources-requires
-put-resources-requires c κs = omega (arith, room (c .before .before .before))
+room c = omega (arith, long (c .before .before .before .before .before))
 
 slice-aggregate-put-bytes-2 : tie.Need-slice-aggregate-put-bytes-2
 slice-aggregate-put-bytes-2 c = sym (arrays (begun (c .before .before .before .before .before .before .before .before .before .before .before .before .before)) .links)
@@ -76,7 +66,7 @@ returns c =
     let a = x .before .before .before .before in
     tables-wrote (begun d .args .tables)
     (a .put-long .ensures) (x .put-pair .ensures) (y .put-pair2 .ensures) (d .put-byte .ensures)
-    (e .put-bytes .ensures) (f .put-resources .ensures) (g .put-bytes2 .ensures) (h .put-programs .ensures)
+    (wrote-as (sym (read d .places .ensures)) (e .put-bytes .ensures)) (f .put-resources .ensures) (g .put-bytes2 .ensures) (h .put-programs .ensures)
 
 same-length : tie.Need-same-length
 same-length c = wrote-length (returns c)
@@ -85,13 +75,14 @@ pub put-tables-spec : {M : Type 1} → statement M
 put-tables-spec =
     tie.close
     (tie.spec
-    put-long-requires
-    put-pair-requires
-    put-pair-requires-2
-    put-byte-requires
+    (λ c κs. search needs)
+    (λ c κs. search needs)
+    (λ c κs. search needs)
+    (λ c κs. search needs)
+    (λ c κs. search needs)
     slice-aggregate-put-bytes
-    put-bytes-requires
-    put-resources-requires
+    (λ c κs. omega (arith, long (c .before .before .before .before)))
+    (λ c κs. omega (arith, room (c .before .before .before)))
     slice-aggregate-put-bytes-2
     put-bytes-requires-2
     put-programs-requires

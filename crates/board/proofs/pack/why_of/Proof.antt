@@ -28,15 +28,9 @@ returns-2 : tie.Need-returns-2
 unfolding whyOf
 returns-2 c = simp (miss0 (c .before), eq-eqb (c .before .before .args .kind) 1 (c .if2 .taken))
 
-cast-t5 : tie.Need-cast-t5
-cast-t5 c = search needs
-
 returns-3 : tie.Need-returns-3
 unfolding whyOf
 returns-3 c = simp (miss0 (c .before .before), miss1 (c .before), eq-eqb (c .before .before .before .args .kind) 2 (c .if3 .taken))
-
-cast-t7 : tie.Need-cast-t7
-cast-t7 c = search needs
 
 returns-4 : tie.Need-returns-4
 unfolding whyOf
@@ -47,4 +41,4 @@ unfolding whyOf
 returns-5 c = simp (miss0 (c .before .before .before), miss1 (c .before .before), miss2 (c .before), miss3 c)
 
 pub why-of-spec : {M : Type 1} → statement M
-why-of-spec = tie.close (tie.spec returns returns-2 cast-t5 returns-3 cast-t7 returns-4 returns-5)
+why-of-spec = tie.close (tie.spec returns returns-2 (λ c. search needs) returns-3 (λ c. search needs) returns-4 returns-5)

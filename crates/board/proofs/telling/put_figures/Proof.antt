@@ -7,21 +7,6 @@ use Rattle.board.proofs.Answered.{five, five-one, figures-wrote}
 use Rattle.board.proofs.telling.put_figures.Statement.{statement}
 use Rattle.board.proofs.telling.put_figures.Tie as tie
 
-number-of-requires : tie.Need-number-of-requires
-number-of-requires c κs = search needs
-
-put-long-requires : tie.Need-put-long-requires
-put-long-requires c κs = search needs
-
-enum-known-answer : tie.Need-enum-known-answer
-enum-known-answer c = search needs
-
-put-five-requires : tie.Need-put-five-requires
-put-five-requires c κs = search needs
-
-same-length : tie.Need-same-length
-same-length c = search needs
-
 returns : tie.Need-returns
 returns c =
     let w = c .before .before in
@@ -29,15 +14,6 @@ returns c =
     let p = a .before .before .before .before in
     let s = p .before .before .before .before in
     figures-wrote (s .args .answer) (p .before .number-of .result) _ (p .before .number-of .ensures) (sym (ap five (a .answer .given .1))) (p .put-long .ensures) (w .put-five .ensures)
-
-first-value-requires : tie.Need-first-value-requires
-first-value-requires c κs = search needs
-
-put-five-requires-2 : tie.Need-put-five-requires-2
-put-five-requires-2 c κs = search needs
-
-same-length-2 : tie.Need-same-length-2
-same-length-2 c = search needs
 
 returns-2 : tie.Need-returns-2
 returns-2 c =
@@ -53,13 +29,13 @@ pub put-figures-spec : {M : Type 1} → statement M
 put-figures-spec =
     tie.close
     (tie.spec
-    number-of-requires
-    put-long-requires
-    enum-known-answer
-    put-five-requires
-    same-length
+    (λ c κs. search needs)
+    (λ c κs. search needs)
+    (λ c. search needs)
+    (λ c κs. search needs)
+    (λ c. search needs)
     returns
-    first-value-requires
-    put-five-requires-2
-    same-length-2
+    (λ c κs. search needs)
+    (λ c κs. search needs)
+    (λ c. search needs)
     returns-2)

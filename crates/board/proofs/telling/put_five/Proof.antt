@@ -4,24 +4,6 @@ use Rattle.board.proofs.Answered.{five-wrote}
 use Rattle.board.proofs.telling.put_five.Statement.{statement}
 use Rattle.board.proofs.telling.put_five.Tie as tie
 
-put-long-requires : tie.Need-put-long-requires
-put-long-requires c κs = search needs
-
-put-long-requires-2 : tie.Need-put-long-requires-2
-put-long-requires-2 c κs = search needs
-
-put-long-requires-3 : tie.Need-put-long-requires-3
-put-long-requires-3 c κs = search needs
-
-put-long-requires-4 : tie.Need-put-long-requires-4
-put-long-requires-4 c κs = search needs
-
-put-long-requires-5 : tie.Need-put-long-requires-5
-put-long-requires-5 c κs = search needs
-
-same-length : tie.Need-same-length
-same-length c = search needs
-
 returns : tie.Need-returns
 returns c =
     let z = c .before .before in
@@ -36,10 +18,10 @@ pub put-five-spec : {M : Type 1} → statement M
 put-five-spec =
     tie.close
     (tie.spec
-    put-long-requires
-    put-long-requires-2
-    put-long-requires-3
-    put-long-requires-4
-    put-long-requires-5
-    same-length
+    (λ c κs. search needs)
+    (λ c κs. search needs)
+    (λ c κs. search needs)
+    (λ c κs. search needs)
+    (λ c κs. search needs)
+    (λ c. search needs)
     returns)

@@ -1,47 +1,20 @@
 -- `ledger::Release::awaited` meets its contract: an answer for each why, and for a lock that is none, or past the last. Assumes nothing.
-use mathlib.Core.Path.{sym, _∙_}
-use native.Mathlib.Omega.{arith}
 use borrow.Author.Needs.{needs}
 use Rattle.ledger.proofs.Releasing.{nothing-told, tracks-told, number-told, no-son-told, son-told, no-lock-told, past-told, lock-told}
 use Rattle.ledger.proofs.Release.awaited.Statement.{statement}
 use Rattle.ledger.proofs.Release.awaited.Tie as tie
 
-enum-told : tie.Need-enum-told
-enum-told c = search needs
-
-enum-told-2 : tie.Need-enum-told-2
-enum-told-2 c = search needs
-
-enum-known-why : tie.Need-enum-known-why
-enum-known-why c = search needs
-
-enum-known-why-2 : tie.Need-enum-known-why-2
-enum-known-why-2 c = search needs
-
-wide-requires : tie.Need-wide-requires
-wide-requires c κs = search needs
-
 returns : tie.Need-returns
 returns c =
-    let l = c .before .before .before in
+    let l = c .before .before in
     let s = l .before .before in
-    no-lock-told (s .args .t1) (s .args .why) (l .why2 .given .1) (sym (c .before .wide .ensures) ∙ c .if2 .taken)
+    no-lock-told (s .args .t1) (s .args .why) (l .why2 .given .1) (c .if2 .taken)
 
 returns-2 : tie.Need-returns-2
 returns-2 c =
-    let w = c .before .before in
-    let l = w .before .before in
+    let l = c .before .before .before in
     let s = l .before .before in
-    past-told (s .args .t1) (s .args .why) (l .why2 .given .1) (omega (arith, w .wide .ensures, c .if3 .taken)) (search needs)
-
-sub-i : tie.Need-sub-i
-sub-i c = search needs
-
-element-copy-out-result : tie.Need-element-copy-out-result
-element-copy-out-result c = search needs
-
-enum-told-3 : tie.Need-enum-told-3
-enum-told-3 c = search needs
+    past-told (s .args .t1) (s .args .why) (l .why2 .given .1) (c .if3 .taken) (search needs)
 
 returns-3 : tie.Need-returns-3
 returns-3 c = nothing-told (c .before .before .args .t1) (c .before .before .args .why) (c .enum-told .given .1)
@@ -63,11 +36,10 @@ returns-6 c =
 
 returns-7 : tie.Need-returns-7
 returns-7 c =
-    let w = c .before .before .before in
-    let l = w .before .before in
+    let e = c .before .before in
+    let l = e .before .before in
     let s = l .before .before in
-    lock-told (s .args .t1) (s .args .why) (w .wide .result) (l .why2 .given .1) (λ z. c .before .before .if2 .left (w .wide .ensures ∙ z))
-    (w .wide .ensures)
+    lock-told (s .args .t1) (s .args .why) (l .why2 .given .1) (e .if2 .left)
 
 returns-8 : tie.Need-returns-8
 returns-8 c = number-told (c .before .before .args .t1) (c .before .before .args .why) (c .enum-told3 .given .1)
@@ -76,16 +48,16 @@ pub awaited-spec : {M : Type 1} → statement M
 awaited-spec =
     tie.close
     (tie.spec
-    enum-told
-    enum-told-2
-    enum-known-why
-    enum-known-why-2
-    wide-requires
+    (λ c. search needs)
+    (λ c. search needs)
+    (λ c. search needs)
+    (λ c. search needs)
+    (λ c. search needs)
     returns
     returns-2
-    sub-i
-    element-copy-out-result
-    enum-told-3
+    (λ c. search needs)
+    (λ c. search needs)
+    (λ c. search needs)
     returns-3
     returns-4
     returns-5

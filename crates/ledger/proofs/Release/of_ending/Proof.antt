@@ -14,37 +14,13 @@ Inv-loop p n numbers cleared₀ count i₀ cleared i = Marks numbers p cleared i
 abbrev μ-loop : tie.MeasureT-loop
 μ-loop p n numbers cleared₀ count i₀ cleared i = count - i
 
-wide-requires : tie.Need-wide-requires Inv-loop μ-loop
-wide-requires c κs = search needs
-
 loop-holds : tie.Need-loop-holds Inv-loop μ-loop
-loop-holds c = marks-start (c .before .args .t1) (c .before .args .p)
-
-mul-x : tie.Need-mul-x Inv-loop μ-loop
-mul-x c = omega arith
-
-element-copy-out-x : tie.Need-element-copy-out-x Inv-loop μ-loop
-element-copy-out-x c = omega arith
-
-concerns-requires : tie.Need-concerns-requires Inv-loop μ-loop
-concerns-requires c κs = search needs
-
-array-write-cleared : tie.Need-array-write-cleared Inv-loop μ-loop
-array-write-cleared c = omega arith
-
-add-i : tie.Need-add-i Inv-loop μ-loop
-add-i c = omega arith
-
-loop-less : tie.Need-loop-less Inv-loop μ-loop
-loop-less c = omega arith
+loop-holds c = marks-start (c .args .t1) (c .args .p)
 
 loop-again : tie.Need-loop-again Inv-loop μ-loop
 loop-again c =
     let b = c .before .before .before in
-    marks-step (c .concerns .result) (b .loop .inv) (omega arith) (b .before .before .pre .0 .most) (c .concerns .ensures)
-
-owns-any-requires : tie.Need-owns-any-requires Inv-loop μ-loop
-owns-any-requires c κs = search needs
+    marks-step (c .concerns .result) (b .loop .inv) (omega arith) (b .before .pre .0 .most) (c .concerns .ensures)
 
 returns : tie.Need-returns Inv-loop μ-loop
 unfolding endsIn
@@ -53,7 +29,7 @@ returns c =
     record {
       ended = refl;
       tracks = refl;
-      cleared = marks-end (b .loop .inv) (omega arith) (b .before .before .pre .1);
+      cleared = marks-end (b .loop .inv) (omega arith) (b .before .pre .1);
       dealt = c .owns-any .ensures;
     }
 
@@ -63,14 +39,14 @@ of-ending-spec =
     (tie.spec
     Inv-loop
     μ-loop
-    wide-requires
+    (λ c. search needs)
     loop-holds
-    mul-x
-    element-copy-out-x
-    concerns-requires
-    array-write-cleared
-    add-i
-    loop-less
+    (λ c. omega arith)
+    (λ c. omega arith)
+    (λ c κs. search needs)
+    (λ c. omega arith)
+    (λ c. omega arith)
+    (λ c. omega arith)
     loop-again
-    owns-any-requires
+    (λ c κs. search needs)
     returns)

@@ -6,15 +6,9 @@ use Rattle.ledger.proofs.Releasing.{marked}
 use Rattle.ledger.proofs.Release.of_number.Statement.{statement}
 use Rattle.ledger.proofs.Release.of_number.Tie as tie
 
-sub-cleared : tie.Need-sub-cleared
-sub-cleared c = search needs
-
-array-write-cleared : tie.Need-array-write-cleared
-array-write-cleared c = search needs
-
 returns : tie.Need-returns
 unfolding clears
 returns c = record { ended = refl; tracks = refl; cleared = λ s h. marked 16 (c .args .r) s (c .pre .0) (c .pre .1) h; dealt = refl }
 
 pub of-number-spec : {M : Type 1} → statement M
-of-number-spec = tie.close (tie.spec sub-cleared array-write-cleared returns)
+of-number-spec = tie.close (tie.spec (λ c. search needs) (λ c. search needs) returns)

@@ -6,12 +6,6 @@ use borrow.Author.Needs.{needs}
 use Rattle.ledger.proofs.entries.holds_zeros.Statement.{statement}
 use Rattle.ledger.proofs.entries.holds_zeros.Tie as tie
 
-is-unnamed-requires : tie.Need-is-unnamed-requires
-is-unnamed-requires c κs = search needs
-
-is-nothing-requires : tie.Need-is-nothing-requires
-is-nothing-requires c κs = search needs
-
 returns : tie.Need-returns
 returns c =
     let q = c .before .before in
@@ -20,4 +14,4 @@ returns c =
     ap₂ (λ (a b : Bool). a && eqb (r .priority) 0 && eqb (r .state) 0 && b && eqb (r .due) 0 && eqb (r .interval) 0) (n .is-unnamed .ensures) (q .is-nothing .ensures)
 
 pub holds-zeros-spec : {M : Type 1} → statement M
-holds-zeros-spec = tie.close (tie.spec is-unnamed-requires is-nothing-requires returns)
+holds-zeros-spec = tie.close (tie.spec (λ c κs. search needs) (λ c κs. search needs) returns)

@@ -9,9 +9,6 @@ use Rattle.ledger.specs.Inner.{trim}
 use Rattle.ledger.proofs.entries.is_trim.Statement.{statement}
 use Rattle.ledger.proofs.entries.is_trim.Tie as tie
 
-is-named-requires : tie.Need-is-named-requires
-is-named-requires c κs = search needs
-
 returns : tie.Need-returns
 unfolding trim
 returns c = simp (sym (c .before .is-named .ensures) ∙ not-true (c .before .is-named .result) (c .if1 .taken))
@@ -24,12 +21,9 @@ returns-2 : tie.Need-returns-2
 unfolding trim
 returns-2 c = simp (named (c .before .before), lt-leb _ _ (c .if2 .taken))
 
-is-timed-requires : tie.Need-is-timed-requires
-is-timed-requires c κs = search needs
-
 returns-3 : tie.Need-returns-3
 unfolding trim
 returns-3 c = simp (named (c .before .before .before), le-leb _ _ (c .before .if2 .left)) (c .is-timed .ensures)
 
 pub is-trim-spec : {M : Type 1} → statement M
-is-trim-spec = tie.close (tie.spec is-named-requires returns returns-2 is-timed-requires returns-3)
+is-trim-spec = tie.close (tie.spec (λ c κs. search needs) returns returns-2 (λ c κs. search needs) returns-3)

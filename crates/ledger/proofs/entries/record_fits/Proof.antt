@@ -10,24 +10,15 @@ use borrow.Author.Needs.{needs}
 use Rattle.ledger.proofs.entries.record_fits.Statement.{statement}
 use Rattle.ledger.proofs.entries.record_fits.Tie as tie
 
-holds-zeros-requires : tie.Need-holds-zeros-requires
-holds-zeros-requires c κs = search needs
-
 returns : tie.Need-returns
 returns c =
     let a = c .before .before .before .args in
     c .holds-zeros .ensures ∙ unused-fits (a .ticks) (a .all) (a .numbers) (a .p) (a .r) (not-true (a .r .used) (c .before .if1 .taken))
 
-is-trim-requires : tie.Need-is-trim-requires
-is-trim-requires c κs = search needs
-
 returns-2 : tie.Need-returns-2
 returns-2 c =
     let t = c .before in
     trim-fails _ _ _ _ _ (sym (t .is-trim .ensures) ∙ not-true (t .is-trim .result) (c .if2 .taken))
-
-state-fits-requires : tie.Need-state-fits-requires
-state-fits-requires c κs = search needs
 
 -- the record is trim, and its state is that of its why
 trimmed : (c : tie.Else2) → let a = c .before .before .before .before .args in trim (a .ticks) (a .r) ≡ true
@@ -42,9 +33,6 @@ returns-3 c =
     sym (ap₂ (λ (x y : Bool). x && y && reasonFits (a .all) (a .numbers) (a .p) (a .r .why)) (trimmed t)
     (sym (s .state-fits .ensures) ∙ not-true (s .state-fits .result) (c .if3 .taken)))
 
-reason-fits-requires : tie.Need-reason-fits-requires
-reason-fits-requires c κs = search needs
-
 returns-4 : tie.Need-returns-4
 unfolding fits
 returns-4 c =
@@ -57,11 +45,11 @@ pub record-fits-spec : {M : Type 1} → statement M
 record-fits-spec =
     tie.close
     (tie.spec
-    holds-zeros-requires
+    (λ c κs. search needs)
     returns
-    is-trim-requires
+    (λ c κs. search needs)
     returns-2
-    state-fits-requires
+    (λ c κs. search needs)
     returns-3
-    reason-fits-requires
+    (λ c κs. search needs)
     returns-4)

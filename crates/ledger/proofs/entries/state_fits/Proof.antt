@@ -6,24 +6,6 @@ use borrow.Author.Needs.{needs}
 use Rattle.ledger.proofs.entries.state_fits.Statement.{statement}
 use Rattle.ledger.proofs.entries.state_fits.Tie as tie
 
-enum-told : tie.Need-enum-told
-enum-told c = search needs
-
-is-at-rest-requires : tie.Need-is-at-rest-requires
-is-at-rest-requires c κs = search needs
-
-enum-told-2 : tie.Need-enum-told-2
-enum-told-2 c = search needs
-
-enum-told-3 : tie.Need-enum-told-3
-enum-told-3 c = search needs
-
-enum-told-4 : tie.Need-enum-told-4
-enum-told-4 c = search needs
-
-enum-told-5 : tie.Need-enum-told-5
-enum-told-5 c = search needs
-
 returns : tie.Need-returns
 returns c =
     let s = c .before .before .before .args .state in
@@ -45,12 +27,12 @@ pub state-fits-spec : {M : Type 1} → statement M
 state-fits-spec =
     tie.close
     (tie.spec
-    enum-told
-    is-at-rest-requires
-    enum-told-2
-    enum-told-3
-    enum-told-4
-    enum-told-5
+    (λ c. search needs)
+    (λ c κs. search needs)
+    (λ c. search needs)
+    (λ c. search needs)
+    (λ c. search needs)
+    (λ c. search needs)
     returns
     returns-2
     returns-3

@@ -1,8 +1,8 @@
 -- `ledger::sift` meets its contract. The invariant is `Sifted`, by whether the release, as shown, is awaited; any other that it says keeps the same. The measure is what
 -- is yet to be read. Assumes nothing.
-use Prim.Native.Nat.{ℕ, _-_}
+use Prim.Native.Nat.{_-_}
 use native.Mathlib.Omega.{arith}
-use mathlib.Core.Path.{sym, ap, _∙_}
+use mathlib.Core.Path.{sym, _∙_}
 use mathlib.Core.Logic.{⊎-elim}
 use lib.ListN.{getD, take}
 use borrow.Author.Needs.{needs}
@@ -25,52 +25,19 @@ loop-holds c =
     let a = c .args in
     sifted-start (λ q. awaits (shown (a .release)) (recordAt (a .t1) q .why)) (a .t2 .ids) (a .t2 .len) (search needs) (c .pre .most)
 
-element-copy-out-q : tie.Need-element-copy-out-q Inv-loop μ-loop
-element-copy-out-q c = omega arith
-
-wide-requires : tie.Need-wide-requires Inv-loop μ-loop
-wide-requires c κs = search needs
-
 -- the program that is read is known
-known : (c : tie.After-wide Inv-loop μ-loop) → Known (getD (c .before .before .before .before .args .t2 .ids) (c .before .before .before .loop .i) 0)
+known : (c : tie.After-q Inv-loop μ-loop) → Known (getD (c .before .before .before .args .t2 .ids) (c .before .before .loop .i) 0)
 known c =
-    let b = c .before .before .before in
+    let b = c .before .before in
     let s = b .before in
     listed-known (s .args .t2 .ids) (s .args .t2 .len) (b .loop .i) (s .pre) (omega arith) (omega arith)
-
-sub-k : tie.Need-sub-k Inv-loop μ-loop
-sub-k c = omega (arith, known c)
-
-mul-r : tie.Need-mul-r Inv-loop μ-loop
-mul-r c = omega (arith, known c)
-
-array-copy-out-r : tie.Need-array-copy-out-r Inv-loop μ-loop
-array-copy-out-r c = omega (arith, known c)
-
-awaited-requires : tie.Need-awaited-requires Inv-loop μ-loop
-awaited-requires c κs = search needs
-
-array-write-ids : tie.Need-array-write-ids Inv-loop μ-loop
-array-write-ids c = omega arith
-
-add-len : tie.Need-add-len Inv-loop μ-loop
-add-len c = omega arith
-
-add-i : tie.Need-add-i Inv-loop μ-loop
-add-i c = omega arith
-
-loop-less : tie.Need-loop-less Inv-loop μ-loop
-loop-less c = omega arith
 
 loop-again : tie.Need-loop-again Inv-loop μ-loop
 loop-again c =
     let t = c .before in
-    let w = t .before .before in
-    let b = w .before .before .before in
+    let b = t .before .before .before .before in
     let a = b .before .args in
-    let same =
-    ap (λ (k : ℕ). awaits (shown (a .release)) (recordAt (a .t1) k .why)) (sym (w .wide .ensures))
-    ∙ sym (t .awaited .ensures (shown (a .release)) (shown-is (a .release))) in
+    let same = sym (t .awaited .ensures (shown (a .release)) (shown-is (a .release))) in
     ⊎-elim
     (λ e. sifted-in (b .loop .inv) (omega arith) (same ∙ e .0 .taken) (e .1) (e .2))
     (λ e. sifted-out (b .loop .inv) (omega arith) (same ∙ e .0 .left) (e .1) (e .2))
@@ -90,15 +57,15 @@ sift-spec =
     Inv-loop
     μ-loop
     loop-holds
-    element-copy-out-q
-    wide-requires
-    sub-k
-    mul-r
-    array-copy-out-r
-    awaited-requires
-    array-write-ids
-    add-len
-    add-i
-    loop-less
+    (λ c. omega arith)
+    (λ c. search needs)
+    (λ c. omega (arith, known c))
+    (λ c. omega (arith, known c))
+    (λ c. omega (arith, known c))
+    (λ c κs. search needs)
+    (λ c. omega arith)
+    (λ c. omega arith)
+    (λ c. omega arith)
+    (λ c. omega arith)
     loop-again
     returns)

@@ -4,17 +4,12 @@ use mathlib.Core.Path.{_≡_, sym, ap, _∙_}
 use denote.Ref.{now}
 use native.Mathlib.Omega.{arith}
 use lib.ListN.{getD}
+use Rattle.tracks.specs.Inner.{Serves}
 use Rattle.ledger.specs.Inner.{Sits}
-use Rattle.ledger.proofs.Bools.{tells-yes, tells-no, tells-eq}
+use Rattle.tracks.proofs.Tells.{tells-yes, tells-no, tells-eq}
 use borrow.Author.Needs.{needs}
 use Rattle.ledger.proofs.places.number_fits.Statement.{statement}
 use Rattle.ledger.proofs.places.number_fits.Tie as tie
-
-wide-requires : tie.Need-wide-requires
-wide-requires c κs = search needs
-
-element-copy-out-if1 : tie.Need-element-copy-out-if1
-element-copy-out-if1 c = search needs
 
 -- the marks that are read are those of owner and locker
 owner : (c : tie.After-wide) → let a = c .before .args in getD (now (a .marks)) (c .wide .result) 0 ≡ getD (now (a .marks)) (a .x .owner) 0
@@ -22,12 +17,6 @@ owner c = ap (λ (i : ℕ). getD (now (c .before .args .marks)) i 0) (c .wide .e
 
 returns : tie.Need-returns
 returns c = tells-no (λ S. c .if1 .taken (owner (c .before .before) ∙ S .owner .unmarked))
-
-wide-requires-2 : tie.Need-wide-requires-2
-wide-requires-2 c κs = search needs
-
-element-copy-out-if2 : tie.Need-element-copy-out-if2
-element-copy-out-if2 c = search needs
 
 lock : (c : tie.After-wide2) → let a = c .before .before .before .before .args in getD (now (a .marks)) (c .wide2 .result) 0 ≡ getD (now (a .marks)) (a .x .lock) 0
 lock c = ap (λ (i : ℕ). getD (now (c .before .before .before .before .args .marks)) i 0) (c .wide2 .ensures .same)
@@ -39,7 +28,7 @@ returns-3 : tie.Need-returns-3
 returns-3 c = tells-no (λ S. S .program (c .if3 .taken))
 
 -- what has passed so far, but for a free number
-sits : (c : tie.Else3) → let a = c .before .before .before .before .before .before .before .args in (a .x .owner ≡ 0 → a .x .lock ≡ 0) → Sits (now (a .marks)) (a .x)
+sits : (c : tie.Else3) → let a = c .before .before .before .before .before .before .before .args in (a .x .owner ≡ 0 → a .x .lock ≡ 0) → Sits (Serves (now (a .marks))) (a .x)
 sits c f =
     let d = c .before in
     let w = d .before .before in
@@ -61,11 +50,11 @@ pub number-fits-spec : {M : Type 1} → statement M
 number-fits-spec =
     tie.close
     (tie.spec
-    wide-requires
-    element-copy-out-if1
+    (λ c κs. search needs)
+    (λ c. search needs)
     returns
-    wide-requires-2
-    element-copy-out-if2
+    (λ c κs. search needs)
+    (λ c. search needs)
     returns-2
     returns-3
     returns-4

@@ -5,14 +5,8 @@ use borrow.Author.Needs.{needs}
 use Rattle.ledger.proofs.places.numbers_ok.Statement.{statement}
 use Rattle.ledger.proofs.places.numbers_ok.Tie as tie
 
-ours-ok-requires : tie.Need-ours-ok-requires
-ours-ok-requires c κs = search needs
-
 returns : tie.Need-returns
 returns c = let r = c .before .ours-ok in record { yes = λ e. false-true e; nay = λ e N. r .ensures .nay (not-true (r .result) (c .if1 .taken)) (N .ours) }
-
-rest-ok-requires : tie.Need-rest-ok-requires
-rest-ok-requires c κs = search needs
 
 returns-2 : tie.Need-returns-2
 returns-2 c =
@@ -24,4 +18,4 @@ returns-2 c =
     }
 
 pub numbers-ok-spec : {M : Type 1} → statement M
-numbers-ok-spec = tie.close (tie.spec ours-ok-requires returns rest-ok-requires returns-2)
+numbers-ok-spec = tie.close (tie.spec (λ c κs. search needs) returns (λ c κs. search needs) returns-2)

@@ -5,14 +5,15 @@ use borrow.Author.Count.{below-more}
 use borrow.Author.Tests.{not-true, not-false}
 use lib.ListN.{getD}
 use Rattle.records.specs.Numbers.{free}
+use Rattle.tracks.specs.Inner.{Serves}
 use Rattle.ledger.specs.Inner.{Sits}
-use Rattle.ledger.proofs.Bools.{tells-yes, tells-no}
+use Rattle.tracks.proofs.Tells.{tells-yes, tells-no}
 use borrow.Author.Needs.{needs}
 use Rattle.ledger.proofs.places.ours_ok.Statement.{statement}
 use Rattle.ledger.proofs.places.ours_ok.Tie as tie
 
 abbrev Inv-loop : tie.InvT-loop
-Inv-loop count marks resources i₀ i = (k : ℕ) → k < i → Sits marks (getD resources k free)
+Inv-loop count marks resources i₀ i = (k : ℕ) → k < i → Sits (Serves marks) (getD resources k free)
 
 abbrev μ-loop : tie.MeasureT-loop
 μ-loop count marks resources i₀ i = count - i
@@ -20,26 +21,11 @@ abbrev μ-loop : tie.MeasureT-loop
 loop-holds : tie.Need-loop-holds Inv-loop μ-loop
 loop-holds c = λ k h. absurd (omega arith)
 
-mul-x : tie.Need-mul-x Inv-loop μ-loop
-mul-x c = omega arith
-
-array-copy-out-x : tie.Need-array-copy-out-x Inv-loop μ-loop
-array-copy-out-x c = omega arith
-
-number-fits-requires : tie.Need-number-fits-requires Inv-loop μ-loop
-number-fits-requires c κs = search needs
-
 returns : tie.Need-returns Inv-loop μ-loop
 returns c =
     let r = c .before .number-fits in
     let b = c .before .before .before .before in
     tells-no (λ S. r .ensures .nay (not-true (r .result) (c .if1 .taken)) (S (b .loop .i) (omega arith)))
-
-add-i : tie.Need-add-i Inv-loop μ-loop
-add-i c = omega arith
-
-loop-less : tie.Need-loop-less Inv-loop μ-loop
-loop-less c = omega arith
 
 loop-again : tie.Need-loop-again Inv-loop μ-loop
 loop-again c =
@@ -57,11 +43,11 @@ ours-ok-spec =
     Inv-loop
     μ-loop
     loop-holds
-    mul-x
-    array-copy-out-x
-    number-fits-requires
+    (λ c. omega arith)
+    (λ c. omega arith)
+    (λ c κs. search needs)
     returns
-    add-i
-    loop-less
+    (λ c. omega arith)
+    (λ c. omega arith)
     loop-again
     returns-2)

@@ -12,32 +12,8 @@ Inv-loop used marks₀ i₀ marks i = Marking used marks i
 abbrev μ-loop : tie.MeasureT-loop
 μ-loop used marks₀ i₀ marks i = 32 - i
 
-array-write-marks : tie.Need-array-write-marks Inv-loop μ-loop
-array-write-marks c = search needs
-
-array-write-marks-2 : tie.Need-array-write-marks-2 Inv-loop μ-loop
-array-write-marks-2 c = search needs
-
 loop-holds : tie.Need-loop-holds Inv-loop μ-loop
 loop-holds c = marking-start _
-
-element-copy-out-stranger : tie.Need-element-copy-out-stranger Inv-loop μ-loop
-element-copy-out-stranger c = omega arith
-
-stranger-requires : tie.Need-stranger-requires Inv-loop μ-loop
-stranger-requires c κs = search needs
-
-add-marks : tie.Need-add-marks Inv-loop μ-loop
-add-marks c = omega arith
-
-array-write-marks-3 : tie.Need-array-write-marks-3 Inv-loop μ-loop
-array-write-marks-3 c = omega (arith, c .before .before .before .loop .inv .long)
-
-add-i : tie.Need-add-i Inv-loop μ-loop
-add-i c = omega arith
-
-loop-less : tie.Need-loop-less Inv-loop μ-loop
-loop-less c = omega arith
 
 loop-again : tie.Need-loop-again Inv-loop μ-loop
 loop-again c = marking-more (c .before .before .before .loop .inv) (omega arith) (c .stranger .result) (c .stranger .ensures)
@@ -51,14 +27,14 @@ strangers-spec =
     (tie.spec
     Inv-loop
     μ-loop
-    array-write-marks
-    array-write-marks-2
+    (λ c. search needs)
+    (λ c. search needs)
     loop-holds
-    element-copy-out-stranger
-    stranger-requires
-    add-marks
-    array-write-marks-3
-    add-i
-    loop-less
+    (λ c. omega arith)
+    (λ c κs. search needs)
+    (λ c. omega arith)
+    (λ c. omega (arith, c .before .before .before .loop .inv .long))
+    (λ c. omega arith)
+    (λ c. omega arith)
     loop-again
     returns)

@@ -4,7 +4,7 @@ use native.Mathlib.Omega.{arith}
 use borrow.Author.Tests.{not-true, not-false}
 use denote.Ref.{now}
 use lib.ListN.{getD}
-use Rattle.ledger.proofs.Bools.{tells-yes, tells-no}
+use Rattle.tracks.proofs.Tells.{tells-yes, tells-no}
 use Rattle.ledger.proofs.Rows.{Seen, seen-start, slot-small, seen-marked, seen-more, seen-end, fresh-of}
 use borrow.Author.Needs.{needs}
 use Rattle.ledger.proofs.roll.are_distinct.Statement.{statement}
@@ -19,23 +19,11 @@ abbrev μ-loop : tie.MeasureT-loop
 loop-holds : tie.Need-loop-holds Inv-loop μ-loop
 loop-holds c = seen-start _
 
-mul-slot : tie.Need-mul-slot Inv-loop μ-loop
-mul-slot c = omega (arith, c .before .before .pre .most)
-
-element-copy-out-slot : tie.Need-element-copy-out-slot Inv-loop μ-loop
-element-copy-out-slot c = omega (arith, c .before .before .pre .most)
-
-slot-requires : tie.Need-slot-requires Inv-loop μ-loop
-slot-requires c κs = search needs
-
 -- the key's place is among the marks
 within : (c : tie.After-slot Inv-loop μ-loop) → c .slot .result < 251
 within c =
     let b = c .before .before .before in
     omega (arith, c .slot .ensures, slot-small (getD (now (b .before .args .keys)) (b .loop .i) 0))
-
-array-read-is-new : tie.Need-array-read-is-new Inv-loop μ-loop
-array-read-is-new c = omega (arith, within c, c .before .before .before .loop .inv .long)
 
 is-new-requires : tie.Need-is-new-requires Inv-loop μ-loop
 is-new-requires c κs =
@@ -50,12 +38,6 @@ returns c =
 
 array-write-seen : tie.Need-array-write-seen Inv-loop μ-loop
 array-write-seen c = omega (arith, within (c .before .before), c .before .before .before .before .before .loop .inv .long)
-
-add-i : tie.Need-add-i Inv-loop μ-loop
-add-i c = omega arith
-
-loop-less : tie.Need-loop-less Inv-loop μ-loop
-loop-less c = omega arith
 
 loop-again : tie.Need-loop-again Inv-loop μ-loop
 loop-again c =
@@ -73,14 +55,14 @@ are-distinct-spec =
     Inv-loop
     μ-loop
     loop-holds
-    mul-slot
-    element-copy-out-slot
-    slot-requires
-    array-read-is-new
+    (λ c. omega (arith, c .before .before .pre .most))
+    (λ c. omega (arith, c .before .before .pre .most))
+    (λ c κs. search needs)
+    (λ c. omega (arith, within c, c .before .before .before .loop .inv .long))
     is-new-requires
     returns
     array-write-seen
-    add-i
-    loop-less
+    (λ c. omega arith)
+    (λ c. omega arith)
     loop-again
     returns-2)

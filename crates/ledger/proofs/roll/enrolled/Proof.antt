@@ -23,35 +23,11 @@ abbrev μ-loop : tie.MeasureT-loop
 loop-holds : tie.Need-loop-holds Inv-loop μ-loop
 loop-holds c = noted-start _ _ _ _
 
-mul-r : tie.Need-mul-r Inv-loop μ-loop
-mul-r c = omega arith
-
-array-copy-out-r : tie.Need-array-copy-out-r Inv-loop μ-loop
-array-copy-out-r c = omega arith
-
-add-record-fits : tie.Need-add-record-fits Inv-loop μ-loop
-add-record-fits c = omega arith
-
-record-fits-requires : tie.Need-record-fits-requires Inv-loop μ-loop
-record-fits-requires c κs = search needs
-
 returns : tie.Need-returns Inv-loop μ-loop
 returns c =
     let r = c .before .record-fits in
     let b = c .before .before .before .before in
     noted-refused (b .loop .inv) (omega arith) _ (sym (r .ensures) ∙ not-true (r .result) (c .if1 .taken))
-
-name-code-requires : tie.Need-name-code-requires Inv-loop μ-loop
-name-code-requires c κs = search needs
-
-mul-names : tie.Need-mul-names Inv-loop μ-loop
-mul-names c = omega arith
-
-array-write-names : tie.Need-array-write-names Inv-loop μ-loop
-array-write-names c = omega (arith, c .before .before .before .before .before .before .before .loop .inv .names .long)
-
-son-of-requires : tie.Need-son-of-requires Inv-loop μ-loop
-son-of-requires c κs = search needs
 
 array-write-sons : tie.Need-array-write-sons Inv-loop μ-loop
 array-write-sons c = omega (arith, c .before .before .before .before .before .before .before .before .loop .inv .sons .long)
@@ -61,15 +37,6 @@ array-write-states c = omega (arith, c .before .before .before .before .before .
 
 array-write-used : tie.Need-array-write-used Inv-loop μ-loop
 array-write-used c = omega (arith, c .before .before .before .before .before .before .before .before .loop .inv .used .long)
-
-add-high : tie.Need-add-high Inv-loop μ-loop
-add-high c = omega arith
-
-add-i : tie.Need-add-i Inv-loop μ-loop
-add-i c = omega arith
-
-loop-less : tie.Need-loop-less Inv-loop μ-loop
-loop-less c = omega arith
 
 -- the record is sound by itself
 sound : (c : tie.Else1 Inv-loop μ-loop) →
@@ -113,21 +80,21 @@ enrolled-spec =
     Inv-loop
     μ-loop
     loop-holds
-    mul-r
-    array-copy-out-r
-    add-record-fits
-    record-fits-requires
+    (λ c. omega arith)
+    (λ c. omega arith)
+    (λ c. omega arith)
+    (λ c κs. search needs)
     returns
-    name-code-requires
-    mul-names
-    array-write-names
-    son-of-requires
+    (λ c κs. search needs)
+    (λ c. omega arith)
+    (λ c. omega (arith, c .before .before .before .before .before .before .before .loop .inv .names .long))
+    (λ c κs. search needs)
     array-write-sons
     array-write-states
     array-write-used
-    add-high
-    add-i
-    loop-less
+    (λ c. omega arith)
+    (λ c. omega arith)
+    (λ c. omega arith)
     loop-again
     are-distinct-requires
     returns-2

@@ -4,7 +4,7 @@ use mathlib.Core.Logic.{_≢_}
 use native.Mathlib.Omega.{arith}
 use borrow.Author.Count.{below-more}
 use lib.ListN.{getD}
-use Rattle.ledger.proofs.Bools.{tells-yes, tells-no}
+use Rattle.tracks.proofs.Tells.{tells-yes, tells-no}
 use Rattle.ledger.proofs.roll.is_new.Statement.{statement}
 use Rattle.ledger.proofs.roll.is_new.Tie as tie
 
@@ -17,34 +17,16 @@ abbrev μ-loop : tie.MeasureT-loop
 returns : tie.Need-returns Inv-loop μ-loop
 returns c = tells-yes (c .before .pre .unmarked (c .if1 .taken))
 
-mul-own : tie.Need-mul-own Inv-loop μ-loop
-mul-own c = omega (arith, c .before .pre .within)
-
-element-copy-out-own : tie.Need-element-copy-out-own Inv-loop μ-loop
-element-copy-out-own c = omega (arith, c .before .pre .within)
-
 returns-2 : tie.Need-returns-2 Inv-loop μ-loop
 returns-2 c = tells-yes (λ n. absurd (n (c .if2 .taken)))
 
 loop-holds : tie.Need-loop-holds Inv-loop μ-loop
 loop-holds c = λ k h. absurd (omega arith)
 
-mul-if3 : tie.Need-mul-if3 Inv-loop μ-loop
-mul-if3 c = omega (arith, c .before .before .before .before .before .pre .within)
-
-element-copy-out-if3 : tie.Need-element-copy-out-if3 Inv-loop μ-loop
-element-copy-out-if3 c = omega (arith, c .before .before .before .before .before .pre .within)
-
 returns-3 : tie.Need-returns-3 Inv-loop μ-loop
 returns-3 c =
     let b = c .before .before .before in
     tells-no (λ F. F (b .before .if2 .left) (b .loop .j) (omega arith) (c .if3 .taken))
-
-add-j : tie.Need-add-j Inv-loop μ-loop
-add-j c = omega arith
-
-loop-less : tie.Need-loop-less Inv-loop μ-loop
-loop-less c = omega arith
 
 loop-again : tie.Need-loop-again Inv-loop μ-loop
 loop-again c = below-more _ _ (c .before .before .before .loop .inv) (c .if3 .left)
@@ -59,14 +41,14 @@ is-new-spec =
     Inv-loop
     μ-loop
     returns
-    mul-own
-    element-copy-out-own
+    (λ c. omega (arith, c .before .pre .within))
+    (λ c. omega (arith, c .before .pre .within))
     returns-2
     loop-holds
-    mul-if3
-    element-copy-out-if3
+    (λ c. omega (arith, c .before .before .before .before .before .pre .within))
+    (λ c. omega (arith, c .before .before .before .before .before .pre .within))
     returns-3
-    add-j
-    loop-less
+    (λ c. omega arith)
+    (λ c. omega arith)
     loop-again
     returns-4)

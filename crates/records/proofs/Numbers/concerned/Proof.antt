@@ -7,21 +7,6 @@ use Rattle.records.proofs.Table.{number-at, number-past, concerns-free}
 use Rattle.records.proofs.Numbers.concerned.Statement.{statement}
 use Rattle.records.proofs.Numbers.concerned.Tie as tie
 
-place-requires : tie.Need-place-requires
-place-requires c κs = search needs
-
-wide-requires : tie.Need-wide-requires
-wide-requires c κs = search needs
-
-mul-x : tie.Need-mul-x
-mul-x c = search needs
-
-element-copy-out-x : tie.Need-element-copy-out-x
-element-copy-out-x c = search needs
-
-concerns-requires : tie.Need-concerns-requires
-concerns-requires c κs = search needs
-
 returns : tie.Need-returns
 returns c =
     let k = c .before .before .before .before in
@@ -36,4 +21,4 @@ returns-2 c =
 
 pub concerned-spec : {M : Type 1} → statement M
 concerned-spec =
-    tie.close (tie.spec place-requires wide-requires mul-x element-copy-out-x concerns-requires returns returns-2)
+    tie.close (tie.spec (λ c κs. search needs) (λ c κs. search needs) (λ c. search needs) (λ c. search needs) (λ c κs. search needs) returns returns-2)

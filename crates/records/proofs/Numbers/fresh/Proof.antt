@@ -9,9 +9,6 @@ use Rattle.records.proofs.Table.{fresh-list}
 use Rattle.records.proofs.Numbers.fresh.Statement.{statement}
 use Rattle.records.proofs.Numbers.fresh.Tie as tie
 
-free-requires : tie.Need-free-requires
-free-requires c κs = search needs
-
 -- a table of so many, of what stands in its places
 abbrev table : tie.After-free → List Resource → Numbers
 table c xs = record { count = c .before .args .count; resources = xs }
@@ -21,4 +18,4 @@ returns c =
     ap (λ (x : Resource). table c (replicate 16 x)) (c .free .ensures) ∙ ap (table c) (fresh-list (c .before .args .count) (c .before .pre))
 
 pub fresh-spec : {M : Type 1} → statement M
-fresh-spec = tie.close (tie.spec free-requires returns)
+fresh-spec = tie.close (tie.spec (λ c κs. search needs) returns)

@@ -1,72 +1,16 @@
--- `records::Numbers::owns_any` meets its contract. The invariant: the search from 1 on is the search from r on. Assumes nothing.
-use Prim.Native.Nat.{_+_, _-_, _≤_}
-use mathlib.Core.Path.{_≡_, sym, ap, _∙_}
+-- `records::Numbers::owns_any` meets its contract. Assumes nothing.
+use mathlib.Core.Path.{_∙_, ap}
+use Prim.Native.Nat.{ℕ}
 use native.Mathlib.Omega.{arith}
+use lib.Dec.{ltb}
 use borrow.Author.Needs.{needs}
-use Rattle.lists.specs.Lists.{any, from}
-use Rattle.records.proofs.Search.{span, span-all, any-here, any-on, any-none}
-use Rattle.records.proofs.Table.{owns, owned, unowned}
+use Rattle.records.proofs.Search.{any-first}
+use Rattle.records.proofs.Table.{owns}
 use Rattle.records.proofs.Numbers.owns_any.Statement.{statement}
 use Rattle.records.proofs.Numbers.owns_any.Tie as tie
 
-abbrev Inv-loop : tie.InvT-loop
-Inv-loop self p count r₀ r = (1 ≤ r) × (any (owns p self) (from 1 (self .count)) ≡ any (owns p self) (span r (self .count)))
-
-abbrev μ-loop : tie.MeasureT-loop
-μ-loop self p count r₀ r = count + 1 - r
-
-wide-requires : tie.Need-wide-requires Inv-loop μ-loop
-wide-requires c κs = search needs
-
-loop-holds : tie.Need-loop-holds Inv-loop μ-loop
-loop-holds c =
-    let a = c .before .args in
-    (omega arith, ap (any (owns (a .p) (a .self))) (span-all (a .self .count)))
-
-number-requires : tie.Need-number-requires Inv-loop μ-loop
-number-requires c κs = search needs
-
-returns : tie.Need-returns Inv-loop μ-loop
-returns c =
-    let n = c .before .before in
-    let b = n .before .before in
-    let a = b .before .before .args in
-    sym (b .loop .inv .1 ∙ any-here (owns (a .p) (a .self)) (b .loop .r) (a .self .count) (omega arith)
-    (owned (a .self) (a .p) (b .loop .r) (n .number .result) (n .number .ensures) (c .if1 .taken)))
-
-add-r : tie.Need-add-r Inv-loop μ-loop
-add-r c = omega arith
-
-loop-less : tie.Need-loop-less Inv-loop μ-loop
-loop-less c = omega arith
-
-loop-again : tie.Need-loop-again Inv-loop μ-loop
-loop-again c =
-    let n = c .before .before in
-    let b = n .before .before in
-    let a = b .before .before .args in (
-      omega arith,
-      b .loop .inv .1 ∙ any-on (owns (a .p) (a .self)) (b .loop .r) (a .self .count) (omega arith)
-          (unowned (a .self) (a .p) (b .loop .r) (n .number .result) (n .number .ensures) (c .if1 .left)),
-    )
-
-returns-2 : tie.Need-returns-2 Inv-loop μ-loop
-returns-2 c =
-    let b = c .before in
-    let a = b .before .before .args in
-    sym (b .loop .inv .1 ∙ any-none (owns (a .p) (a .self)) (b .loop .r) (a .self .count) (omega arith))
+returns : tie.Need-returns
+returns c = let a = c .before .args in ap (λ (n : ℕ). ltb 0 n) (c .lowest-of .ensures) ∙ any-first (owns (a .p) (a .self)) 1 (a .self .count) (omega arith)
 
 pub owns-any-spec : {M : Type 1} → statement M
-owns-any-spec =
-    tie.close
-    (tie.spec
-    Inv-loop
-    μ-loop
-    wide-requires
-    loop-holds
-    number-requires
-    returns
-    add-r
-    loop-less
-    loop-again
-    returns-2)
+owns-any-spec = tie.close (tie.spec (λ c κs. search needs) returns)

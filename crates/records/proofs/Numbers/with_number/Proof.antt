@@ -10,15 +10,6 @@ use Rattle.records.proofs.Table.{set-list}
 use Rattle.records.proofs.Numbers.with_number.Statement.{statement}
 use Rattle.records.proofs.Numbers.with_number.Tie as tie
 
-place-requires : tie.Need-place-requires
-place-requires c κs = search needs
-
-mul-t8 : tie.Need-mul-t8
-mul-t8 c = search needs
-
-element-set-from-self : tie.Need-element-set-from-self
-element-set-from-self c = search needs
-
 returns : tie.Need-returns
 returns c =
     let a = c .before .args in
@@ -27,4 +18,4 @@ returns c =
     (ap (λ (i : ℕ). set (a .t1 .resources) i x) (c .place .ensures) ∙ set-list (a .t1) (a .r - 1) x (c .before .pre .fit) (omega arith))
 
 pub with-number-spec : {M : Type 1} → statement M
-with-number-spec = tie.close (tie.spec place-requires mul-t8 element-set-from-self returns)
+with-number-spec = tie.close (tie.spec (λ c κs. search needs) (λ c. search needs) (λ c. search needs) returns)

@@ -12,9 +12,6 @@ returns c =
     let a = c .before .before .args in
     sym (ap (λ (b : Bool). b && alike (a .self .name) (a .name)) (not-true (a .self .used) (c .if1 .taken)))
 
-same-name-requires : tie.Need-same-name-requires
-same-name-requires c κs = search needs
-
 returns-2 : tie.Need-returns-2
 returns-2 c =
     let h = c .before .before in
@@ -22,4 +19,4 @@ returns-2 c =
     c .same-name .ensures ∙ sym (ap (λ (b : Bool). b && alike (a .self .name) (a .name)) (not-false (a .self .used) (h .if1 .left)))
 
 pub is-named-spec : {M : Type 1} → statement M
-is-named-spec = tie.close (tie.spec returns same-name-requires returns-2)
+is-named-spec = tie.close (tie.spec returns (λ c κs. search needs) returns-2)

@@ -4,9 +4,6 @@ use borrow.Author.Tests.{eq-eqb, ne-eqb}
 use Rattle.records.proofs.Resource.without.Statement.{statement}
 use Rattle.records.proofs.Resource.without.Tie as tie
 
-free-requires : tie.Need-free-requires
-free-requires c κs = search needs
-
 returns : tie.Need-returns
 returns c = simp (eq-eqb _ _ (c .before .if1 .taken)) (c .free .ensures)
 
@@ -17,4 +14,4 @@ returns-3 : tie.Need-returns-3
 returns-3 c = simp (ne-eqb _ _ (c .before .before .if1 .left), ne-eqb _ _ (c .if2 .left))
 
 pub without-spec : {M : Type 1} → statement M
-without-spec = tie.close (tie.spec free-requires returns returns-2 returns-3)
+without-spec = tie.close (tie.spec (λ c κs. search needs) returns returns-2 returns-3)

@@ -20,18 +20,6 @@ abbrev μ-loop : tie.MeasureT-loop
 loop-holds : tie.Need-loop-holds Inv-loop μ-loop
 loop-holds c = (omega arith, refl)
 
-add-holders : tie.Need-add-holders Inv-loop μ-loop
-add-holders c = search needs
-
-array-write-holders : tie.Need-array-write-holders Inv-loop μ-loop
-array-write-holders c = search needs
-
-add-k : tie.Need-add-k Inv-loop μ-loop
-add-k c = search needs
-
-loop-less : tie.Need-loop-less Inv-loop μ-loop
-loop-less c = search needs
-
 loop-again : tie.Need-loop-again Inv-loop μ-loop
 loop-again c =
     let l = c .before in
@@ -56,9 +44,9 @@ filled-spec =
     Inv-loop
     μ-loop
     loop-holds
-    add-holders
-    array-write-holders
-    add-k
-    loop-less
+    (λ c. search needs)
+    (λ c. search needs)
+    (λ c. search needs)
+    (λ c. search needs)
     loop-again
     returns)

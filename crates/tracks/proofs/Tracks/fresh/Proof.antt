@@ -19,20 +19,8 @@ Inv-loop all own first_free holders₀ i₀ holders i =
 abbrev μ-loop : tie.MeasureT-loop
 μ-loop all own first_free holders₀ i₀ holders i = first_free - i
 
-wide-requires : tie.Need-wide-requires Inv-loop μ-loop
-wide-requires c κs = search needs
-
 loop-holds : tie.Need-loop-holds Inv-loop μ-loop
 loop-holds c = (omega arith, refl)
-
-array-write-holders : tie.Need-array-write-holders Inv-loop μ-loop
-array-write-holders c = search needs
-
-add-i : tie.Need-add-i Inv-loop μ-loop
-add-i c = search needs
-
-loop-less : tie.Need-loop-less Inv-loop μ-loop
-loop-less c = search needs
 
 loop-again : tie.Need-loop-again Inv-loop μ-loop
 loop-again c =
@@ -55,10 +43,10 @@ fresh-spec =
     (tie.spec
     Inv-loop
     μ-loop
-    wide-requires
+    (λ c κs. search needs)
     loop-holds
-    array-write-holders
-    add-i
-    loop-less
+    (λ c. search needs)
+    (λ c. search needs)
+    (λ c. search needs)
     loop-again
     returns)

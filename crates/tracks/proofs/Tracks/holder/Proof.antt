@@ -7,13 +7,10 @@ use Rattle.tracks.specs.Tracks.{nobody}
 use Rattle.tracks.proofs.Tracks.holder.Statement.{statement}
 use Rattle.tracks.proofs.Tracks.holder.Tie as tie
 
-element-copy-out-result : tie.Need-element-copy-out-result
-element-copy-out-result c = search needs
-
 returns : tie.Need-returns
 returns c =
     let s = c .before in
     sym (getD-take (s .args .t1 .count) (s .args .t1 .holders) (s .args .i) nobody (s .pre .below))
 
 pub holder-spec : {M : Type 1} → statement M
-holder-spec = tie.close (tie.spec element-copy-out-result returns)
+holder-spec = tie.close (tie.spec (λ c. search needs) returns)

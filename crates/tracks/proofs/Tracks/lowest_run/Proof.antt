@@ -16,9 +16,6 @@ Inv-loop n self end start₀ i₀ start i = Sought n (holders self) start i
 abbrev μ-loop : tie.MeasureT-loop
 μ-loop n self end start₀ i₀ start i = end - i
 
-wide-requires : tie.Need-wide-requires Inv-loop μ-loop
-wide-requires c κs = search needs
-
 returns : tie.Need-returns Inv-loop μ-loop
 returns c =
     let s = c .before .before in
@@ -34,18 +31,6 @@ loop-holds c =
     let s = c .before .before .before in
     sought-first (s .args .n) (holders (s .args .t1)) (omega arith)
 
-element-copy-out-if3 : tie.Need-element-copy-out-if3 Inv-loop μ-loop
-element-copy-out-if3 c = omega arith
-
-add-start : tie.Need-add-start Inv-loop μ-loop
-add-start c = search needs
-
-add-i : tie.Need-add-i Inv-loop μ-loop
-add-i c = search needs
-
-loop-less : tie.Need-loop-less Inv-loop μ-loop
-loop-less c = search needs
-
 loop-again : tie.Need-loop-again Inv-loop μ-loop
 loop-again c =
     let l = c .before .before .before in
@@ -54,12 +39,6 @@ loop-again c =
     let is = getD-take (t .count) (t .holders) (l .loop .i) nobody (omega arith) in
     sought-held (s .args .n) (holders t) (l .loop .start) (l .loop .i) (l .loop .inv) (λ e. omega arith)
 
-add-i-2 : tie.Need-add-i-2 Inv-loop μ-loop
-add-i-2 c = search needs
-
-sub-if4 : tie.Need-sub-if4 Inv-loop μ-loop
-sub-if4 c = search needs
-
 returns-3 : tie.Need-returns-3 Inv-loop μ-loop
 returns-3 c =
     let l = c .before .before .before .before in
@@ -67,9 +46,6 @@ returns-3 c =
     let t = s .args .t1 in
     let is = getD-take (t .count) (t .holders) (l .loop .i) nobody (omega arith) in
     sym (sought-found (s .args .n) (holders t) (l .loop .start) (l .loop .i) (l .loop .inv) (omega arith) (omega (arith, s .pre .long)) (omega arith))
-
-loop-less-2 : tie.Need-loop-less-2 Inv-loop μ-loop
-loop-less-2 c = search needs
 
 loop-again-2 : tie.Need-loop-again-2 Inv-loop μ-loop
 loop-again-2 c =
@@ -91,18 +67,18 @@ lowest-run-spec =
     (tie.spec
     Inv-loop
     μ-loop
-    wide-requires
+    (λ c κs. search needs)
     returns
     returns-2
     loop-holds
-    element-copy-out-if3
-    add-start
-    add-i
-    loop-less
+    (λ c. omega arith)
+    (λ c. search needs)
+    (λ c. search needs)
+    (λ c. search needs)
     loop-again
-    add-i-2
-    sub-if4
+    (λ c. search needs)
+    (λ c. search needs)
     returns-3
-    loop-less-2
+    (λ c. search needs)
     loop-again-2
     returns-4)

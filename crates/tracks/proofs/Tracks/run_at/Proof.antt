@@ -18,9 +18,6 @@ Inv-loop h start n self end i₀ left₀ i left =
 abbrev μ-loop : tie.MeasureT-loop
 μ-loop h start n self end i₀ left₀ i left = left
 
-wide-requires : tie.Need-wide-requires Inv-loop μ-loop
-wide-requires c κs = search needs
-
 loop-holds : tie.Need-loop-holds Inv-loop μ-loop
 loop-holds c = (c .before .pre .long, refl)
 
@@ -30,9 +27,6 @@ returns c =
     let s = l .before .before in
     sym (l .loop .inv .1 ∙ run-past (s .args .h) (l .loop .left) (l .loop .i) (holders (s .args .t1)) (omega arith) (omega arith))
 
-element-copy-out-if2 : tie.Need-element-copy-out-if2 Inv-loop μ-loop
-element-copy-out-if2 c = omega arith
-
 returns-2 : tie.Need-returns-2 Inv-loop μ-loop
 returns-2 c =
     let l = c .before .before .before .before in
@@ -41,15 +35,6 @@ returns-2 c =
     let is = getD-take (t .count) (t .holders) (l .loop .i) nobody (omega arith) in
     sym (l .loop .inv .1 ∙ run-stop (s .args .h) (l .loop .left) (l .loop .i) (holders (s .args .t1)) (omega arith) (omega arith)
     (λ e. omega arith))
-
-add-i : tie.Need-add-i Inv-loop μ-loop
-add-i c = search needs
-
-sub-left : tie.Need-sub-left Inv-loop μ-loop
-sub-left c = search needs
-
-loop-less : tie.Need-loop-less Inv-loop μ-loop
-loop-less c = search needs
 
 loop-again : tie.Need-loop-again Inv-loop μ-loop
 loop-again c =
@@ -74,13 +59,13 @@ run-at-spec =
     (tie.spec
     Inv-loop
     μ-loop
-    wide-requires
+    (λ c κs. search needs)
     loop-holds
     returns
-    element-copy-out-if2
+    (λ c. omega arith)
     returns-2
-    add-i
-    sub-left
-    loop-less
+    (λ c. search needs)
+    (λ c. search needs)
+    (λ c. search needs)
     loop-again
     returns-3)

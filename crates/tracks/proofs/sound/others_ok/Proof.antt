@@ -1,14 +1,14 @@
--- `ledger::places::others_ok` meets its contract. The invariant: the sum of the marks so far is 0 exactly where each is. Assumes nothing.
+-- `tracks::sound::others_ok` meets its contract. The invariant: the sum of the marks so far is 0 exactly where each is. Assumes nothing.
 use Prim.Native.Nat.{ℕ, _-_, _≤_, _*_}
 use mathlib.Core.Path.{_≡_, ap, _∙_}
 use denote.Ref.{now}
 use native.Mathlib.Omega.{arith}
 use lib.ListN.{getD}
-use Rattle.ledger.specs.Inner.{Serves}
-use Rattle.ledger.proofs.Tallies.{Tally, tally-start, tally-more, tally-end}
+use Rattle.tracks.specs.Inner.{Serves}
+use Rattle.tracks.proofs.Tells.{Tally, tally-start, tally-more, tally-end}
 use borrow.Author.Needs.{needs}
-use Rattle.ledger.proofs.places.others_ok.Statement.{statement}
-use Rattle.ledger.proofs.places.others_ok.Tie as tie
+use Rattle.tracks.proofs.sound.others_ok.Statement.{statement}
+use Rattle.tracks.proofs.sound.others_ok.Tie as tie
 
 abbrev Inv-loop : tie.InvT-loop
 Inv-loop own all holders marks sum₀ i₀ sum i = (i ≤ all) × (sum ≤ 255 * i) × Tally (λ k. Serves marks (getD holders k 0)) own i sum
@@ -18,27 +18,6 @@ abbrev μ-loop : tie.MeasureT-loop
 
 loop-holds : tie.Need-loop-holds Inv-loop μ-loop
 loop-holds c = (omega arith, omega arith, tally-start)
-
-element-copy-out-wide : tie.Need-element-copy-out-wide Inv-loop μ-loop
-element-copy-out-wide c = omega arith
-
-wide-requires : tie.Need-wide-requires Inv-loop μ-loop
-wide-requires c κs = search needs
-
-element-copy-out-wide-2 : tie.Need-element-copy-out-wide-2 Inv-loop μ-loop
-element-copy-out-wide-2 c = omega arith
-
-wide-requires-2 : tie.Need-wide-requires-2 Inv-loop μ-loop
-wide-requires-2 c κs = search needs
-
-add-sum : tie.Need-add-sum Inv-loop μ-loop
-add-sum c = omega arith
-
-add-i : tie.Need-add-i Inv-loop μ-loop
-add-i c = omega arith
-
-loop-less : tie.Need-loop-less Inv-loop μ-loop
-loop-less c = omega arith
 
 -- what is added is the mark of the holder
 mark : (c : tie.After-wide2 Inv-loop μ-loop) →
@@ -65,12 +44,12 @@ others-ok-spec =
     Inv-loop
     μ-loop
     loop-holds
-    element-copy-out-wide
-    wide-requires
-    element-copy-out-wide-2
-    wide-requires-2
-    add-sum
-    add-i
-    loop-less
+    (λ c. omega arith)
+    (λ c κs. search needs)
+    (λ c. omega arith)
+    (λ c κs. search needs)
+    (λ c. omega arith)
+    (λ c. omega arith)
+    (λ c. omega arith)
     loop-again
     returns)

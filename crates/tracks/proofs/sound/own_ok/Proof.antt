@@ -1,12 +1,12 @@
--- `ledger::places::own_ok` meets its contract. The invariant: the system holds each place before i. Assumes nothing.
+-- `tracks::sound::own_ok` meets its contract. The invariant: the system holds each place before i. Assumes nothing.
 use Prim.Native.Nat.{ℕ, _-_, _<_}
 use mathlib.Core.Path.{_≡_}
 use native.Mathlib.Omega.{arith}
 use borrow.Author.Count.{below-more}
 use lib.ListN.{getD}
-use Rattle.ledger.proofs.Bools.{tells-yes, tells-no}
-use Rattle.ledger.proofs.places.own_ok.Statement.{statement}
-use Rattle.ledger.proofs.places.own_ok.Tie as tie
+use Rattle.tracks.proofs.Tells.{tells-yes, tells-no}
+use Rattle.tracks.proofs.sound.own_ok.Statement.{statement}
+use Rattle.tracks.proofs.sound.own_ok.Tie as tie
 
 abbrev Inv-loop : tie.InvT-loop
 Inv-loop own holders i₀ i = (k : ℕ) → k < i → getD holders k 0 ≡ 34
@@ -17,17 +17,8 @@ abbrev μ-loop : tie.MeasureT-loop
 loop-holds : tie.Need-loop-holds Inv-loop μ-loop
 loop-holds c = λ k h. absurd (omega arith)
 
-element-copy-out-if1 : tie.Need-element-copy-out-if1 Inv-loop μ-loop
-element-copy-out-if1 c = omega arith
-
 returns : tie.Need-returns Inv-loop μ-loop
 returns c = tells-no (λ S. c .if1 .taken (S (c .before .before .before .loop .i) (c .before .before .loop-test .taken)))
-
-add-i : tie.Need-add-i Inv-loop μ-loop
-add-i c = omega arith
-
-loop-less : tie.Need-loop-less Inv-loop μ-loop
-loop-less c = omega arith
 
 loop-again : tie.Need-loop-again Inv-loop μ-loop
 loop-again c = below-more _ _ (c .before .before .before .loop .inv) (c .if1 .left)
@@ -42,9 +33,9 @@ own-ok-spec =
     Inv-loop
     μ-loop
     loop-holds
-    element-copy-out-if1
+    (λ c. omega arith)
     returns
-    add-i
-    loop-less
+    (λ c. omega arith)
+    (λ c. omega arith)
     loop-again
     returns-2)

@@ -1,12 +1,12 @@
--- `ledger::places::blank_ok` meets its contract. The invariant: the largest holder so far is 0 exactly where each is. Assumes nothing.
+-- `tracks::sound::blank_ok` meets its contract. The invariant: the largest holder so far is 0 exactly where each is. Assumes nothing.
 use Prim.Native.Nat.{_-_, _≤_}
 use mathlib.Core.Path.{_≡_}
 use native.Mathlib.Omega.{arith}
 use lib.ListN.{getD}
-use Rattle.ledger.proofs.Tallies.{Tally, tally-start, tally-more, tally-end}
+use Rattle.tracks.proofs.Tells.{Tally, tally-start, tally-more, tally-end}
 use borrow.Author.Needs.{needs}
-use Rattle.ledger.proofs.places.blank_ok.Statement.{statement}
-use Rattle.ledger.proofs.places.blank_ok.Tie as tie
+use Rattle.tracks.proofs.sound.blank_ok.Statement.{statement}
+use Rattle.tracks.proofs.sound.blank_ok.Tie as tie
 
 abbrev Inv-loop : tie.InvT-loop
 Inv-loop all holders most₀ i₀ most i = (i ≤ 256) × Tally (λ k. getD holders k 0 ≡ 0) all i most
@@ -16,18 +16,6 @@ abbrev μ-loop : tie.MeasureT-loop
 
 loop-holds : tie.Need-loop-holds Inv-loop μ-loop
 loop-holds c = (omega arith, tally-start)
-
-element-copy-out-larger : tie.Need-element-copy-out-larger Inv-loop μ-loop
-element-copy-out-larger c = omega arith
-
-larger-requires : tie.Need-larger-requires Inv-loop μ-loop
-larger-requires c κs = search needs
-
-add-i : tie.Need-add-i Inv-loop μ-loop
-add-i c = omega arith
-
-loop-less : tie.Need-loop-less Inv-loop μ-loop
-loop-less c = omega arith
 
 loop-again : tie.Need-loop-again Inv-loop μ-loop
 loop-again c =
@@ -47,9 +35,9 @@ blank-ok-spec =
     Inv-loop
     μ-loop
     loop-holds
-    element-copy-out-larger
-    larger-requires
-    add-i
-    loop-less
+    (λ c. omega arith)
+    (λ c κs. search needs)
+    (λ c. omega arith)
+    (λ c. omega arith)
     loop-again
     returns)
