@@ -1,18 +1,22 @@
 // What a line does, and what is printed for it.
 ghost use mathlib.Core.Path.{_≡_};
-ghost use Rattle.rules.specs.Requests.{FRESH};
+ghost use Rattle.rules.specs.Requests.{FRESH, operator, running};
+ghost use Rattle.rules.specs.Coded.{theOrder, theCall, theRequest};
 ghost use Rattle.tables.specs.Sound.{sound};
 ghost use Rattle.tables.specs.Calls.{told, asked};
 ghost use Rattle.rules.specs.Engine.{beside};
 ghost use Rattle.console.specs.Line.{bad};
 ghost use Rattle.console.specs.Console.{keyed};
 ghost use Rattle.console.specs.Sheet.{lineShown};
-ghost use Rattle.console.specs.Inner.{obeys, refusing, isPage, said};
-use super::Asked;
+ghost use Rattle.console.specs.Inner.{obeys, refusing, isPage, says};
 use super::Command;
+use super::Said;
 use super::answers;
 use super::parse;
 use rules::Answer;
+use rules::Call;
+use rules::Order;
+use rules::Request;
 use tables::Outcome;
 use tables::Tables;
 
@@ -53,39 +57,65 @@ fn renew(tables: Tables, tracks: u64, system: u64, numbers: u64) -> Outcome
     made
 }
 
+// An order of the operator.
+fn ask_operator(tables: Tables, name: [u8; 5], order: Order) -> Outcome
+    ensures { λ r. ⌜ told r ≡ asked tables (operator (theOrder order) name) ⌝ }
+{
+    match order {
+        Order::Ru => tables.ru(name),
+        Order::Ss => tables.ss(name),
+        Order::Go => tables.go(name),
+        Order::Pr(n) => tables.pr(name, n),
+        Order::Of(k) => tables.off(name, k),
+    }
+}
+
+// A call of the running program.
+fn ask_running(tables: Tables, name: [u8; 5], call: Call) -> Outcome
+    ensures { λ r. ⌜ told r ≡ asked tables (running (theCall name call)) ⌝ }
+{
+    match call {
+        Call::Exec4(n, w) => tables.exec4(n, w),
+        Call::Exec15(n, w) => tables.exec15(n, w),
+        Call::Exec5(n, start) => tables.exec5(n, start),
+        Call::Exec16(n, start) => tables.exec16(n, start),
+        Call::Exec5All => tables.exec5_all(),
+        Call::Exec6 => tables.exec6(),
+        Call::Exec7 => tables.exec7(),
+        Call::Exec11 => tables.exec11(),
+        Call::Exec9 => tables.exec9(name),
+        Call::Exec10 => tables.exec10(name),
+        Call::Exec12(r, m, o) => tables.exec12(name, r, m, o),
+        Call::Alloc(global, w) => tables.alloc(global, w),
+        Call::Lock(r, w) => tables.lock(r, w),
+        Call::Clear(r) => tables.clear(r),
+        Call::Free(r) => tables.free(r),
+    }
+}
+
+// Any request.
+fn ask(tables: Tables, name: [u8; 5], q: Request) -> Outcome
+    ensures { λ r. ⌜ told r ≡ asked tables (theRequest name q) ⌝ }
+{
+    match q {
+        Request::Fresh(t, s, r) => renew(tables, t, s, r),
+        Request::Load(n) => tables.load(name, n),
+        Request::Operator(order) => ask_operator(tables, name, order),
+        Request::Tick => tables.tick(),
+        Request::Running(call) => ask_running(tables, name, call),
+    }
+}
+
 // What a command does.
 fn obey(tables: Tables, command: Command, buf: &mut [u8]) -> Outcome
-    ensures { λ r. ⌜ beside (now (buf .exit)) (told r) ≡ obeys tables (now (buf .entry)) (said command) ⌝ }
+    ensures { λ r. ⌜ beside (now (buf .exit)) (told r) ≡ obeys tables (now (buf .entry)) (says command) ⌝ }
 {
     let name = command.name;
-    let asked = command.asked;
-    match asked {
-        Asked::Bad => not_understood(tables),
-        Asked::Page => page::write_page(tables, buf),
-        Asked::Fresh(t, s, r) => renew(tables, t, s, r),
-        Asked::Load(n) => tables.load(name, n),
-        Asked::Ru => tables.ru(name),
-        Asked::Ss => tables.ss(name),
-        Asked::Go => tables.go(name),
-        Asked::Pr(n) => tables.pr(name, n),
-        Asked::Of(k) => tables.off(name, k),
-        Asked::Tick => tables.tick(),
-        Asked::Exec4(n, w) => tables.exec4(n, w),
-        Asked::Exec5(n, start) => tables.exec5(n, start),
-        Asked::Exec5All => tables.exec5_all(),
-        Asked::Exec6 => tables.exec6(),
-        Asked::Exec7 => tables.exec7(),
-        Asked::Exec9 => tables.exec9(name),
-        Asked::Exec10 => tables.exec10(name),
-        Asked::Exec11 => tables.exec11(),
-        Asked::Exec12(r, m, o) => tables.exec12(name, r, m, o),
-        Asked::Exec15(n, w) => tables.exec15(n, w),
-        Asked::Exec16(n, start) => tables.exec16(n, start),
-        Asked::AllocLocal(w) => tables.alloc(false, w),
-        Asked::AllocGlobal(w) => tables.alloc(true, w),
-        Asked::Lock(r, w) => tables.lock(r, w),
-        Asked::Clear(r) => tables.clear(r),
-        Asked::Free(r) => tables.free(r),
+    let said = command.said;
+    match said {
+        Said::Bad => not_understood(tables),
+        Said::Page => page::write_page(tables, buf),
+        Said::Asks(q) => ask(tables, name, q),
     }
 }
 
@@ -97,12 +127,13 @@ pub fn key_line(tables: Tables, line: &[u8], buf: &mut [u8]) -> Outcome
     obey(tables, command, buf)
 }
 
-fn is_page(asked: Asked) -> bool
-    ensures { λ r. ⌜ r ≡ isPage asked ⌝ }
+fn is_page(said: Said) -> bool
+    ensures { λ r. ⌜ r ≡ isPage said ⌝ }
 {
-    match asked {
-        Asked::Page => true,
-        _ => false,
+    match said {
+        Said::Bad => false,
+        Said::Page => true,
+        Said::Asks(_) => false,
     }
 }
 
@@ -117,11 +148,11 @@ pub fn print_line(tables: Tables, line: &[u8], out: &mut [u8]) -> Outcome
         };
     }
     let command = parse::command_of(line);
-    let asked = command.asked;
+    let said = command.said;
     let outcome = obey(tables, command, out);
     let after = outcome.tables;
     let answer = outcome.answer;
-    if is_page(asked) {
+    if is_page(said) {
         if let Answer::Done(_) = answer {
             return outcome;
         }

@@ -64,7 +64,7 @@ Obeyed c = c .before .before .before .before
 asks-page : (c : tie.Then2) → lineOf (S (Obeyed (c .before)) .args .line .now) ≡ PAGE
 asks-page c =
     let p = Obeyed (c .before) .before .before .command-of in
-    sym (p .ensures) ∙ page-said (p .result) (sym (c .before .is-page .ensures) ∙ c .if2 .taken)
+    sym (p .ensures) ∙ page-said (p .result .name) (p .result .said) (sym (c .before .is-page .ensures) ∙ c .if2 .taken)
 
 -- where the code comes to the answer's line it is not PAGE that is done
 other : (c : tie.Joined2) → lineOf (S (Obeyed (c .before)) .args .line .now) ≡ PAGE → (n : ℕ) → Obeyed (c .before) .obey .result .answer ≡ Done n → ⊥
@@ -73,7 +73,7 @@ other c =
     let p = o .before .before .command-of in
     elim (c .if2 .came) [
       | inl w ↦ λ q. done-not (o .obey .result .answer) (w .1 .keys2)
-      | inr w ↦ λ q. absurd (page-unsaid (p .result) (sym (c .before .is-page .ensures) ∙ w .left) (p .ensures ∙ q))
+      | inr w ↦ λ q. absurd (page-unsaid (p .result .name) (p .result .said) (sym (c .before .is-page .ensures) ∙ w .left) (p .ensures ∙ q))
     ]
 
 returns : tie.Need-returns
