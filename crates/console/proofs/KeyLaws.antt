@@ -5,8 +5,6 @@ use native.Mathlib.Omega.{arith}
 use mathlib.Core.Path.{_≡_, refl, sym, ap, subst, _∙_}
 use mathlib.Core.Bool.{Bool, true, false, cond}
 use mathlib.Core.List.{List, [], _∷_}
-use denote.Enum.Declared.{tagOf}
-use types.Run.{OneOf, miss}
 use Rattle.lists.proofs.Tests.{false-true}
 use Rattle.rules.specs.declared.Answer.{Answer}
 use Rattle.rules.specs.declared.Answer.the-variants.{Done, NotUnderstood, NotSound}
@@ -15,7 +13,6 @@ use Rattle.rules.specs.Requests.{Request, FRESH}
 use Rattle.rules.specs.Plans.{done, need, renewed}
 use Rattle.rules.specs.Rules.{sizes, plan}
 use Rattle.rules.specs.Keeper.{lists, step, fresh}
-use Rattle.rules.proofs.Answer as answer
 use Rattle.rules.proofs.OneAnswer.{one-answer}
 use Rattle.tables.specs.declared.Tables.{Tables}
 use Rattle.tables.specs.declared.Outcome.{Outcome}
@@ -92,13 +89,6 @@ module _ (t : Tables) (ready : Ready t) (T S R : ℕ) where
 
   pub fresh-refused : sizes T S R ≡ false → asked t (FRESH T S R) ≡ record { number = 3; values = 0 ∷ []; tables = t }
   fresh-refused e = asked-renewing ∙ ap (λ b. renewing b t T S R) e
-
--- an answer at another place among all is not that
-abbrev behind : List ℕ
-behind = 1 ∷ 2 ∷ 3 ∷ 4 ∷ 5 ∷ 6 ∷ 7 ∷ 8 ∷ 9 ∷ 10 ∷ 11 ∷ 12 ∷ 13 ∷ 14 ∷ 15 ∷ []
-
-pub done-not : (a : Answer) → OneOf behind (tagOf answer.the-type a) → (v : ℕ) → a ≡ Done v → ⊥
-done-not a h v d = miss behind 0 tt (subst (λ (x : Answer). OneOf behind (tagOf answer.the-type x)) d h)
 
 -- FRESH without tables, then: done it is the answer, and else its answer with the tables that there were
 module _ (t : Tables) (ready : Ready t) (T S R : ℕ) (r : Outcome) (e : told r ≡ made T S R) where

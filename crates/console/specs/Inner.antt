@@ -133,6 +133,12 @@ isPage Bad = false
 isPage Page = true
 isPage (Asks q) = false
 
+-- the value, where there is one
+abbrev pub single : List ℕ → ℕ
+single [] = 0
+single (v ∷ []) = v
+single (v ∷ w ∷ vs) = 0
+
 -- the bytes printed for an answer
 unfoldable pub valuesLine : Answer → List ℕ
 valuesLine a = between 46 (map decimal (answers.values a))

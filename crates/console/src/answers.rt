@@ -7,7 +7,7 @@ ghost use Rattle.text.specs.Text.{decimal, between};
 ghost use Rattle.text.specs.Inner.{Wrote};
 ghost use Rattle.clock.specs.Clock.{partsOf};
 ghost use Rattle.rules.specs.Answers.{number, values};
-ghost use Rattle.console.specs.Inner.{valuesLine, answerBytes};
+ghost use Rattle.console.specs.Inner.{single, valuesLine, answerBytes};
 ghost use Rattle.console.specs.Sheet.{printedBytes};
 use clock::Time;
 use rules::Answer;
@@ -46,6 +46,30 @@ pub fn bytes_printed(answer: Answer) -> usize
     }
 }
 
+// The one value of an answer; of a time 0.
+fn value_of(answer: Answer) -> u64
+    ensures { λ r. ⌜ r ≡ single (values answer) ⌝ }
+{
+    match answer {
+        Answer::Done(v) => v,
+        Answer::Told(_) => 0,
+        Answer::Waits(s) => s as u64,
+        Answer::NoCaller => 0,
+        Answer::NotAllowed => 0,
+        Answer::NoProgram => 0,
+        Answer::WrongState(s) => s as u64,
+        Answer::NameInUse => 0,
+        Answer::AllUsed => 0,
+        Answer::NoRoom => 0,
+        Answer::NotHolder => 0,
+        Answer::NotAllocated => 0,
+        Answer::AtCeiling => 0,
+        Answer::TooShort(n) => n,
+        Answer::NotUnderstood => 0,
+        Answer::NotSound => 0,
+    }
+}
+
 // day.hour.minute.second.hundredth
 fn put_time(buf: &mut [u8], at: usize, t: Time) -> usize
     requires { ⌜ at + length (between 46 (map decimal (partsOf t))) ≤ length (now buf) ⌝ }
@@ -67,22 +91,8 @@ fn put_values(buf: &mut [u8], at: usize, answer: Answer) -> usize
     ensures { λ r. ⌜ Wrote (now (buf .entry)) at (valuesLine answer) (now (buf .exit)) r ⌝ }
 {
     match answer {
-        Answer::Done(v) => text::put_number(buf, at, v),
         Answer::Told(t) => put_time(buf, at, t),
-        Answer::Waits(s) => text::put_number(buf, at, s as u64),
-        Answer::WrongState(s) => text::put_number(buf, at, s as u64),
-        Answer::TooShort(n) => text::put_number(buf, at, n),
-        Answer::NoCaller
-        | Answer::NotAllowed
-        | Answer::NoProgram
-        | Answer::NameInUse
-        | Answer::AllUsed
-        | Answer::NoRoom
-        | Answer::NotHolder
-        | Answer::NotAllocated
-        | Answer::AtCeiling
-        | Answer::NotUnderstood
-        | Answer::NotSound => text::put_number(buf, at, 0),
+        _ => text::put_number(buf, at, value_of(answer)),
     }
 }
 

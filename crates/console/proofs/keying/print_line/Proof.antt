@@ -23,7 +23,8 @@ use Rattle.console.specs.Line.{PAGE, lineOf}
 use Rattle.console.specs.Console.{keyed}
 use Rattle.console.specs.Sheet.{room}
 use Rattle.console.specs.Inner.{obeys}
-use Rattle.console.proofs.KeyLaws.{keyed-obeys, done-not, page-said, page-unsaid}
+use Rattle.console.proofs.AnswerLaws.{done-not}
+use Rattle.console.proofs.KeyLaws.{keyed-obeys, page-said, page-unsaid}
 use Rattle.console.proofs.OneLine.{shown-short, printed-page, printed-room, printed-answer}
 use Rattle.console.proofs.keying.print_line.Statement.{statement}
 use Rattle.console.proofs.keying.print_line.Tie as tie

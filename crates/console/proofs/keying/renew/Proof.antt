@@ -14,7 +14,8 @@ use Rattle.tables.specs.Tables.{Arrays}
 use Rattle.tables.proofs.Agree.{sound-clauses}
 use Rattle.tables.proofs.Orderly.{sound-orderly}
 use Rattle.tables.proofs.Serving.{asked-unsound}
-use Rattle.console.proofs.KeyLaws.{done-not, renewed-done, renewed-else}
+use Rattle.console.proofs.AnswerLaws.{done-not}
+use Rattle.console.proofs.KeyLaws.{renewed-done, renewed-else}
 use Rattle.console.proofs.keying.renew.Statement.{statement}
 use Rattle.console.proofs.keying.renew.Tie as tie
 
