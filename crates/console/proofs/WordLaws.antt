@@ -17,8 +17,8 @@ use Rattle.text.specs.Inner.{PartEnd}
 use Rattle.text.proofs.Fields.{drop-take}
 use Rattle.text.proofs.Read.{upTo-over}
 use Rattle.console.specs.declared.words.Word.{Word}
-use Rattle.console.specs.Line.{Line, bad, Form, Entry, lookUp, word, unknown, execs, numbers, forms, lineOf}
-use Rattle.console.specs.Inner.{fieldsFrom, row, rows, rowAt, requests, taking, ended, entries, behind, seek}
+use Rattle.console.specs.Line.{Line, bad, Form, Entry, lookUp, execs, numbers, forms, lineOf}
+use Rattle.console.specs.Inner.{fieldsFrom, noWord, row, rows, rowAt, requests, taking, ended, entries, behind, seek}
 use Rattle.console.proofs.FieldLaws.{fields-past, fields-cut, fields-all}
 
 -- of the entries, those behind the word `last`
@@ -68,16 +68,16 @@ tabled-at (suc n) g zero x h = refl
 tabled-at (suc n) g (suc i) x h = tabled-at n (λ j. g (suc j)) i x (omega arith)
 
 -- no field, and a field: the grammar's form behind each word is what the code's tables say
-behind-none : (i : ℕ) → i < 29 → behind i [] ≡ ended i []
+behind-none : (i : ℕ) → i < noWord → behind i [] ≡ ended i []
 unfolding execs numbers forms rows requests ended entries behind
-behind-none i h = tabled-at 29 (λ j. ended j []) i bad h
+behind-none i h = tabled-at noWord (λ j. ended j []) i bad h
 
 module _ (f : List ℕ) (fs : List (List ℕ)) where
-  behind-look : (i : ℕ) → i < 29 → behind i (f ∷ fs) ≡ lookUp (under i rows entries) (ended i) f fs
+  behind-look : (i : ℕ) → i < noWord → behind i (f ∷ fs) ≡ lookUp (under i rows entries) (ended i) f fs
   unfolding execs numbers forms rows requests ended entries behind
-  behind-look i h = tabled-at 29 (λ j. lookUp (under j rows entries) (ended j) f fs) i bad h
+  behind-look i h = tabled-at noWord (λ j. lookUp (under j rows entries) (ended j) f fs) i bad h
 
-  behind-seek : (i : ℕ) → i < 29 → behind i (f ∷ fs) ≡ sought i f fs (ended i) rows entries
+  behind-seek : (i : ℕ) → i < noWord → behind i (f ∷ fs) ≡ sought i f fs (ended i) rows entries
   unfolding execs numbers forms rows entries
   behind-seek i h = behind-look i h ∙ look-seek i f fs (ended i) rows entries refl
 
@@ -89,12 +89,12 @@ told-keys : parts 44 told ≡ keys entries
 unfolding parts execs numbers forms entries
 told-keys = refl
 
-pub told-all : length (parts 44 told) ≡ 29
+pub told-all : length (parts 44 told) ≡ noWord
 unfolding parts
 told-all = refl
 
 -- behind word `last`: no field, a field that is no word there, a field that is word j
-module _ {last : ℕ} (known : last < 29) (s : List ℕ) (at : ℕ) where
+module _ {last : ℕ} (known : last < noWord) (s : List ℕ) (at : ℕ) where
   pub word-past : length s < at → behind last (fieldsFrom s at) ≡ ended last (fieldsFrom s at)
   word-past h = ap (behind last) (fields-past s at h) ∙ behind-none last known ∙ ap (ended last) (sym (fields-past s at h))
 
@@ -107,11 +107,11 @@ module _ {last : ℕ} (known : last < 29) (s : List ℕ) (at : ℕ) where
         ap (behind last) (fields-cut p) ∙ behind-seek (slice at end s) (fieldsFrom s (end + 1)) last known
         ∙ ap₂ (λ (i : ℕ) (x : Line). getD lines i x) (ap (seek last (slice at end s) rows) (sym told-keys) ∙ sym which) (ap (ended last) (sym (fields-cut p)))
 
-    pub word-none : 29 ≤ j → behind last (fieldsFrom s at) ≡ ended last (fieldsFrom s at)
+    pub word-none : noWord ≤ j → behind last (fieldsFrom s at) ≡ ended last (fieldsFrom s at)
     unfolding execs numbers forms entries
     word-none h = there ∙ List·getD-eq-default lines (ended last (fieldsFrom s at)) h
 
-    pub word-next : j < 29 → behind last (fieldsFrom s at) ≡ behind j (fieldsFrom s (end + 1))
+    pub word-next : j < noWord → behind last (fieldsFrom s at) ≡ behind j (fieldsFrom s (end + 1))
     unfolding execs numbers forms entries behind
     word-next h = there ∙ getD-within lines j (ended last (fieldsFrom s at)) bad h
 
@@ -138,28 +138,28 @@ ended-as i {w} e h fs = ap (λ (x : Word). taking (x .1) (x .2) i fs) (sym e) �
 
 -- The search among the words: what is left of them, from word i and the place `from` on, is searched in the same way.
 pub record Seeking (last : ℕ) (f words : List ℕ) (i from : ℕ) : Type 0 where
-  pub left : length (fieldsFrom words from) + i ≡ 29
+  pub left : length (fieldsFrom words from) + i ≡ noWord
   pub same : seek last f rows (parts 44 words) ≡ i + seek last f (drop i rows) (fieldsFrom words from)
 
-pub seeking-start : {last : ℕ} {f words : List ℕ} → length (parts 44 words) ≡ 29 → Seeking last f words 0 0
+pub seeking-start : {last : ℕ} {f words : List ℕ} → length (parts 44 words) ≡ noWord → Seeking last f words 0 0
 seeking-start {last} {f} {words} h = record {
   left = omega (arith, ap length (fields-all words));
   same = omega (arith, ap (seek last f rows) (fields-all words));
 }
 
 module _ {last : ℕ} {f words : List ℕ} {i from : ℕ} (h : Seeking last f words i from) where
-  pub seeking-place : i < 29 → from ≤ length words
+  pub seeking-place : i < noWord → from ≤ length words
   seeking-place l = go (ltb (length words) from) refl
     where
       go : (b : Bool) → ltb (length words) from ≡ b → from ≤ length words
       go true t = absurd (omega (arith, h .left, ap length (fields-past words from (ltb-true (length words) from t))))
       go false t = ltb-false (length words) from t
 
-  pub seeking-end : 29 ≤ i → i ≡ seek last f rows (parts 44 words)
+  pub seeking-end : noWord ≤ i → i ≡ seek last f rows (parts 44 words)
   unfolding rows
   seeking-end l = omega (arith, h .same, ap (λ (rs : List Word). seek last f rs (fieldsFrom words from)) (drop-of-length-le rows {i = i} l))
 
-  module _ {to : ℕ} (p : PartEnd 44 words from to) (l : i < 29) {b : Bool} (test : (eqb (rowAt i .0) last && alike f (take (to - from) (drop from words))) ≡ b) where
+  module _ {to : ℕ} (p : PartEnd 44 words from to) (l : i < noWord) {b : Bool} (test : (eqb (rowAt i .0) last && alike f (take (to - from) (drop from words))) ≡ b) where
     abbrev rest : ℕ
     rest = seek last f (drop (i + 1) rows) (fieldsFrom words (to + 1))
 

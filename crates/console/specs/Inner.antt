@@ -64,13 +64,16 @@ onNumbers k (numbersRead.Are a b c) = k a b c
 pub record NumbersRead (s : List ℕ) (at n : ℕ) (r : Numbers) : Type 0 where
   pub says : (k : ℕ → ℕ → ℕ → Line) → counted n k (fieldsFrom s at) ≡ onNumbers k r
 
--- The words as the code numbers them, with what comes behind each: what it says where no word comes, by the name and the numbers.
+-- The words as the code numbers them: the word before each, whether a name comes next, and how many numbers; and what it says where no word comes.
+abbrev pub noWord : ℕ
+noWord = 29
+
 abbrev pub row : ℕ → Bool → ℕ → Word
 row before named n = record { 0 = before; 1 = named; 2 = n }
 
 unfoldable pub rows : List Word
 rows =
-    row 29 false 0
+    row noWord false 0
     ∷ row 0 false 3 ∷ row 0 true 1 ∷ row 0 true 0 ∷ row 0 true 0 ∷ row 0 true 0 ∷ row 0 true 1 ∷ row 0 true 1 ∷ row 0 false 0 ∷ row 0 false 0 ∷ row 0 false 0 ∷ row 0 false 0
     ∷ row 9 false 2 ∷ row 9 false 2 ∷ row 9 false 2 ∷ row 9 false 2 ∷ row 9 false 0 ∷ row 9 false 0 ∷ row 9 false 0 ∷ row 9 true 0 ∷ row 9 true 0 ∷ row 9 true 3
     ∷ row 10 false 0 ∷ row 10 false 2 ∷ row 10 false 1 ∷ row 10 false 1

@@ -3,7 +3,7 @@ ghost use mathlib.Core.Path.{_≡_};
 ghost use Prim.Native.Nat.{_≤_, _<_};
 ghost use lib.ListN.{length};
 ghost use Rattle.console.specs.Line.{bad, lineOf};
-ghost use Rattle.console.specs.Inner.{fieldsFrom, counted, request, ended, says};
+ghost use Rattle.console.specs.Inner.{noWord, fieldsFrom, counted, request, ended, says};
 use super::Command;
 use super::Said;
 use super::fields;
@@ -23,7 +23,7 @@ fn not_said() -> Command
 // Behind word `last` and a name the line ends with k numbers.
 fn with_numbers(s: &[u8], at: usize, last: usize, name: [u8; 5], k: usize) -> Command
     requires { ⌜ length (now s) ≤ 72 ⌝ }
-    requires { ⌜ last < 29 ⌝ }
+    requires { ⌜ last < noWord ⌝ }
     ensures { λ r. ⌜ says r ≡ counted k (request last name) (fieldsFrom (now (s .entry)) at) ⌝ }
 {
     let Numbers::Are(a, b, c) = fields::read_numbers(s, at, k) else {
@@ -38,7 +38,7 @@ fn with_numbers(s: &[u8], at: usize, last: usize, name: [u8; 5], k: usize) -> Co
 // Behind word `last` there is no other.
 fn end_of(s: &[u8], at: usize, last: usize) -> Command
     requires { ⌜ length (now s) ≤ 72 ⌝ }
-    requires { ⌜ last < 29 ⌝ }
+    requires { ⌜ last < noWord ⌝ }
     ensures { λ r. ⌜ says r ≡ ended last (fieldsFrom (now (s .entry)) at) ⌝ }
 {
     let word = words::word_of(last);
@@ -65,7 +65,7 @@ pub(crate) fn command_of(s: &[u8]) -> Command
     while at <= s.len() {
         let end = text::part_end(s, at, b',');
         let word = words::which(s, at, end, last, all);
-        if 29 <= word {
+        if words::NO_WORD <= word {
             return end_of(s, at, last);
         }
         at = end + 1;

@@ -4,17 +4,20 @@ ghost use Prim.Native.Nat.{_≤_, _<_};
 ghost use lib.ListN.{length, getD};
 ghost use lib.Seq.{slice};
 ghost use Rattle.text.specs.Text.{parts};
-ghost use Rattle.console.specs.Inner.{rows, rowAt, requests, seek};
+ghost use Rattle.console.specs.Inner.{noWord, rows, rowAt, requests, seek};
 use super::Said;
 use rules::Call;
 use rules::Order;
 use rules::Request;
 
+// How many words there are; none has this number.
+pub(crate) const NO_WORD: usize = 29;
+
 // The word before, whether a name comes next, and how many numbers come behind that.
 pub(crate) struct Word(pub usize, pub bool, pub usize);
 
-const WORDS: [Word; 29] = [
-    Word(29, false, 0), // the start
+const WORDS: [Word; NO_WORD] = [
+    Word(NO_WORD, false, 0), // the start
     Word(0, false, 3), // FRESH,T,S,R
     Word(0, true, 1), // LOAD,name,priority
     Word(0, true, 0), // RU,name
@@ -46,7 +49,7 @@ const WORDS: [Word; 29] = [
 ];
 
 pub(crate) fn word_of(i: usize) -> Word
-    requires { ⌜ i < 29 ⌝ }
+    requires { ⌜ i < noWord ⌝ }
     ensures { λ r. ⌜ r ≡ rowAt i ⌝ }
 {
     WORDS[i]
@@ -54,7 +57,7 @@ pub(crate) fn word_of(i: usize) -> Word
 
 // What a line says whose last word is word i, and whose numbers are a, b and c as far as there are any.
 pub(crate) fn said_by(i: usize, a: u64, b: u64, c: u64) -> Said
-    requires { ⌜ i < 29 ⌝ }
+    requires { ⌜ i < noWord ⌝ }
     ensures { λ r. ⌜ r ≡ getD (requests a b c) i Said.Bad ⌝ }
 {
     let all = [
@@ -91,16 +94,16 @@ pub(crate) fn said_by(i: usize, a: u64, b: u64, c: u64) -> Said
     all[i]
 }
 
-// Which word behind word `last` the field s[at..end] is, where the words are told in order with commas between them; 29 if it is none.
+// Which word behind word `last` the field s[at..end] is, where the words are told in order with commas between them; `NO_WORD` if it is none.
 pub(crate) fn which(s: &[u8], at: usize, end: usize, last: usize, words: &[u8]) -> usize
     requires { ⌜ at ≤ end ⌝ }
     requires { ⌜ end ≤ length (now s) ⌝ }
-    requires { ⌜ length (parts 44 (now words)) ≡ 29 ⌝ }
+    requires { ⌜ length (parts 44 (now words)) ≡ noWord ⌝ }
     ensures { λ r. ⌜ r ≡ seek last (slice at end (now (s .entry))) rows (parts 44 (now (words .entry))) ⌝ }
 {
     let mut i = 0;
     let mut from = 0;
-    while i < 29 {
+    while i < NO_WORD {
         let to = text::part_end(words, from, b',');
         let word = word_of(i);
         if (word.0 == last) & text::is_word(s, at, end, &words[from..to]) {

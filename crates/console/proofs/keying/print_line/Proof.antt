@@ -1,7 +1,6 @@
 -- `console::keying::print_line` meets its contract. Every page fits the 8,192 bytes that are lent, so PAGE done has put the page at their front; any other line, and
 -- PAGE refused, leaves them as they were, and the line for its answer goes there. Assumes nothing.
 use Prim.Native.Nat.{ℕ, _≤_}
-use native.Mathlib.Omega.{arith}
 use mathlib.Core.Path.{_≡_, sym, ap, _∙_}
 use mathlib.Core.Bool.{true}
 use mathlib.Core.List.{List}

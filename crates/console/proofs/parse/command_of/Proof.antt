@@ -5,13 +5,13 @@ use mathlib.Core.Path.{_≡_, sym, _∙_}
 use lib.ListN.{length}
 use borrow.Author.Needs.{needs}
 use Rattle.console.specs.Line.{lineOf}
-use Rattle.console.specs.Inner.{fieldsFrom, behind}
+use Rattle.console.specs.Inner.{noWord, fieldsFrom, behind}
 use Rattle.console.proofs.WordLaws.{told-all, word-past, word-none, word-next, line-long, line-fits}
 use Rattle.console.proofs.parse.command_of.Statement.{statement}
 use Rattle.console.proofs.parse.command_of.Tie as tie
 
 abbrev Inv-loop : tie.InvT-loop
-Inv-loop s all at₀ last₀ at last = (last < 29) × (at ≤ length s + 1) × (lineOf s ≡ behind last (fieldsFrom s at))
+Inv-loop s all at₀ last₀ at last = (last < noWord) × (at ≤ length s + 1) × (lineOf s ≡ behind last (fieldsFrom s at))
 
 abbrev μ-loop : tie.MeasureT-loop
 μ-loop s all at₀ last₀ at last = length s + 1 - at

@@ -1,7 +1,6 @@
 -- `console::parse::with_numbers` meets its contract: the numbers are there or not. Assumes nothing.
 use mathlib.Core.Path.{sym, ap, _∙_}
 use borrow.Author.Needs.{needs}
-use Rattle.console.specs.declared.Said.{Said}
 use Rattle.console.specs.Inner.{saying, request, onNumbers}
 use Rattle.console.proofs.parse.with_numbers.Statement.{statement}
 use Rattle.console.proofs.parse.with_numbers.Tie as tie

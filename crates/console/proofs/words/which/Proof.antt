@@ -7,6 +7,7 @@ use lib.Dec.{eqb}
 use lib.Seq.{slice}
 use borrow.Author.Needs.{needs}
 use Rattle.console.specs.declared.words.Word.{Word}
+use Rattle.console.specs.Inner.{noWord}
 use Rattle.console.proofs.WordLaws.{Seeking, seeking-start, seeking-place, seeking-end, seeking-hit, seeking-next}
 use Rattle.console.proofs.words.which.Statement.{statement}
 use Rattle.console.proofs.words.which.Tie as tie
@@ -15,7 +16,7 @@ abbrev Inv-loop : tie.InvT-loop
 Inv-loop s at end last words i₀ from₀ i from = Seeking last (slice at end s) words i from
 
 abbrev μ-loop : tie.MeasureT-loop
-μ-loop s at end last words i₀ from₀ i from = 29 - i
+μ-loop s at end last words i₀ from₀ i from = noWord - i
 
 -- what is tested of a word, by the table
 abbrev Tested : tie.After-is-word Inv-loop μ-loop → Word → Bool → Bool
