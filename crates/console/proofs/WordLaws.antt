@@ -18,7 +18,7 @@ use Rattle.text.proofs.Fields.{drop-take}
 use Rattle.text.proofs.Read.{upTo-over}
 use Rattle.console.specs.declared.words.Word.{Word}
 use Rattle.console.specs.Line.{Line, bad, Form, Entry, lookUp, execs, numbers, forms, lineOf}
-use Rattle.console.specs.Inner.{fieldsFrom, noWord, row, rows, rowAt, requests, taking, ended, entries, behind, seek}
+use Rattle.console.specs.Inner.{fieldsFrom, noWord, row, rows, rowAt, requests, taking, ended, entries, keys, behind, seek}
 use Rattle.console.proofs.FieldLaws.{fields-past, fields-cut, fields-all}
 
 -- of the entries, those behind the word `last`
@@ -27,12 +27,12 @@ under last [] es = []
 under last (r ∷ rs) [] = []
 under last (r ∷ rs) (e ∷ es) = cond (eqb (r .0) last) (e ∷ under last rs es) (under last rs es)
 
-abbrev keys : List Entry → List (List ℕ)
-keys es = map (λ e. text (e .key)) es
+abbrev texts : List Entry → List (List ℕ)
+texts es = map (λ e. text (e .key)) es
 
 module _ (last : ℕ) (f : List ℕ) (fs : List (List ℕ)) (x : Form) where
   abbrev sought : List Word → List Entry → Line
-  sought rs es = getD (map (λ e. e .form fs) es) (seek last f rs (keys es)) (x (f ∷ fs))
+  sought rs es = getD (map (λ e. e .form fs) es) (seek last f rs (texts es)) (x (f ∷ fs))
 
   look-seek : (rs : List Word) (es : List Entry) → length rs ≡ length es → lookUp (under last rs es) x f fs ≡ sought rs es
   look-seek [] [] h = refl
@@ -41,13 +41,13 @@ module _ (last : ℕ) (f : List ℕ) (fs : List (List ℕ)) (x : Form) where
   look-seek (r ∷ rs) (e ∷ es) h = go (eqb (r .0) last) (look-seek rs es (omega arith))
     where
       hit : (b : Bool) → lookUp (under last rs es) x f fs ≡ sought rs es
-          → elim b [ true ↦ e .form fs | false ↦ lookUp (under last rs es) x f fs ] ≡ getD (map (λ e. e .form fs) (e ∷ es)) (cond b 0 (suc (seek last f rs (keys es)))) (x (f ∷ fs))
+          → elim b [ true ↦ e .form fs | false ↦ lookUp (under last rs es) x f fs ] ≡ getD (map (λ e. e .form fs) (e ∷ es)) (cond b 0 (suc (seek last f rs (texts es)))) (x (f ∷ fs))
       hit true ih = refl
       hit false ih = ih
 
       go : (b : Bool) → lookUp (under last rs es) x f fs ≡ sought rs es
           → lookUp (cond b (e ∷ under last rs es) (under last rs es)) x f fs
-          ≡ getD (map (λ e. e .form fs) (e ∷ es)) (cond (b && alike f (text (e .key))) 0 (suc (seek last f rs (keys es)))) (x (f ∷ fs))
+          ≡ getD (map (λ e. e .form fs) (e ∷ es)) (cond (b && alike f (text (e .key))) 0 (suc (seek last f rs (texts es)))) (x (f ∷ fs))
       go true ih = hit (alike f (text (e .key))) ih
       go false ih = ih
 
@@ -77,35 +77,28 @@ module _ (f : List ℕ) (fs : List (List ℕ)) where
   unfolding execs numbers forms rows requests ended entries behind
   behind-look i h = tabled-at noWord (λ j. lookUp (under j rows entries) (ended j) f fs) i bad h
 
-  behind-seek : (i : ℕ) → i < noWord → behind i (f ∷ fs) ≡ sought i f fs (ended i) rows entries
-  unfolding execs numbers forms rows entries
+  behind-seek : (i : ℕ) → i < noWord → behind i (f ∷ fs) ≡ getD (map (λ e. e .form fs) entries) (seek i f rows keys) (ended i (f ∷ fs))
+  unfolding execs numbers forms rows entries keys
   behind-seek i h = behind-look i h ∙ look-seek i f fs (ended i) rows entries refl
 
 -- the words as the code tells them
-abbrev told : List ℕ
-told = text ",FRESH,LOAD,RU,SS,GO,PR,OF,TICK,EXEC,RN,PAGE,4,15,5,16,6,7,11,9,10,12,ALLOC,LOCK,CLEAR,FREE,L,G,ALL"
-
-told-keys : parts 44 told ≡ keys entries
-unfolding parts execs numbers forms entries
+pub told-keys : parts 44 (text ",FRESH,LOAD,RU,SS,GO,PR,OF,TICK,EXEC,RN,PAGE,4,15,5,16,6,7,11,9,10,12,ALLOC,LOCK,CLEAR,FREE,L,G,ALL") ≡ keys
+unfolding parts execs numbers forms entries keys
 told-keys = refl
-
-pub told-all : length (parts 44 told) ≡ noWord
-unfolding parts
-told-all = refl
 
 -- behind word `last`: no field, a field that is no word there, a field that is word j
 module _ {last : ℕ} (known : last < noWord) (s : List ℕ) (at : ℕ) where
   pub word-past : length s < at → behind last (fieldsFrom s at) ≡ ended last (fieldsFrom s at)
   word-past h = ap (behind last) (fields-past s at h) ∙ behind-none last known ∙ ap (ended last) (sym (fields-past s at h))
 
-  module _ {end j : ℕ} (p : PartEnd 44 s at end) (which : j ≡ seek last (slice at end s) rows (parts 44 told)) where
+  module _ {end j : ℕ} (p : PartEnd 44 s at end) (which : j ≡ seek last (slice at end s) rows keys) where
     abbrev lines : List Line
     lines = map (λ e. e .form (fieldsFrom s (end + 1))) entries
 
     there : behind last (fieldsFrom s at) ≡ getD lines j (ended last (fieldsFrom s at))
     there =
         ap (behind last) (fields-cut p) ∙ behind-seek (slice at end s) (fieldsFrom s (end + 1)) last known
-        ∙ ap₂ (λ (i : ℕ) (x : Line). getD lines i x) (ap (seek last (slice at end s) rows) (sym told-keys) ∙ sym which) (ap (ended last) (sym (fields-cut p)))
+        ∙ ap₂ (λ (i : ℕ) (x : Line). getD lines i x) (sym which) (ap (ended last) (sym (fields-cut p)))
 
     pub word-none : noWord ≤ j → behind last (fieldsFrom s at) ≡ ended last (fieldsFrom s at)
     unfolding execs numbers forms entries
@@ -139,12 +132,13 @@ ended-as i {w} e h fs = ap (λ (x : Word). taking (x .1) (x .2) i fs) (sym e) �
 -- The search among the words: what is left of them, from word i and the place `from` on, is searched in the same way.
 pub record Seeking (last : ℕ) (f words : List ℕ) (i from : ℕ) : Type 0 where
   pub left : length (fieldsFrom words from) + i ≡ noWord
-  pub same : seek last f rows (parts 44 words) ≡ i + seek last f (drop i rows) (fieldsFrom words from)
+  pub same : seek last f rows keys ≡ i + seek last f (drop i rows) (fieldsFrom words from)
 
-pub seeking-start : {last : ℕ} {f words : List ℕ} → length (parts 44 words) ≡ noWord → Seeking last f words 0 0
+pub seeking-start : {last : ℕ} {f words : List ℕ} → parts 44 words ≡ keys → Seeking last f words 0 0
+unfolding execs numbers forms entries keys
 seeking-start {last} {f} {words} h = record {
-  left = omega (arith, ap length (fields-all words));
-  same = omega (arith, ap (seek last f rows) (fields-all words));
+  left = omega (arith, ap length (fields-all words ∙ h));
+  same = omega (arith, ap (seek last f rows) (fields-all words ∙ h));
 }
 
 module _ {last : ℕ} {f words : List ℕ} {i from : ℕ} (h : Seeking last f words i from) where
@@ -155,7 +149,7 @@ module _ {last : ℕ} {f words : List ℕ} {i from : ℕ} (h : Seeking last f wo
       go true t = absurd (omega (arith, h .left, ap length (fields-past words from (ltb-true (length words) from t))))
       go false t = ltb-false (length words) from t
 
-  pub seeking-end : noWord ≤ i → i ≡ seek last f rows (parts 44 words)
+  pub seeking-end : noWord ≤ i → i ≡ seek last f rows keys
   unfolding rows
   seeking-end l = omega (arith, h .same, ap (λ (rs : List Word). seek last f rs (fieldsFrom words from)) (drop-of-length-le rows {i = i} l))
 
@@ -173,7 +167,7 @@ module _ {last : ℕ} {f words : List ℕ} {i from : ℕ} (h : Seeking last f wo
         ∙ ap (λ (w : List ℕ). cond (eqb (rowAt i .0) last && alike f w) 0 (suc rest)) taken
         ∙ ap (λ (t : Bool). cond t 0 (suc rest)) test
 
-    pub seeking-hit : b ≡ true → i ≡ seek last f rows (parts 44 words)
+    pub seeking-hit : b ≡ true → i ≡ seek last f rows keys
     seeking-hit e = omega (arith, h .same, seeking-cut ∙ ap (λ (t : Bool). cond t 0 (suc rest)) e)
 
     pub seeking-next : b ≡ false → Seeking last f words (i + 1) (to + 1)

@@ -114,6 +114,10 @@ entries =
     ++ numbers
     ++ ("L" ↝ (number λ w. calls (ALLOC false w)) ∷ "G" ↝ (number λ w. calls (ALLOC true w)) ∷ "ALL" ↝ calls EXEC5ALL ∷ [])
 
+unfoldable pub keys : List (List ℕ)
+unfolding execs numbers forms entries
+keys = map (λ e. text (e .key)) entries
+
 unfoldable pub behind : ℕ → Form
 behind i fs = getD (map (λ e. e .form fs) entries) i bad
 

@@ -4,7 +4,7 @@ ghost use Prim.Native.Nat.{_≤_, _<_};
 ghost use lib.ListN.{length, getD};
 ghost use lib.Seq.{slice};
 ghost use Rattle.text.specs.Text.{parts};
-ghost use Rattle.console.specs.Inner.{noWord, rows, rowAt, requests, seek};
+ghost use Rattle.console.specs.Inner.{noWord, rows, rowAt, requests, keys, seek};
 use super::Said;
 use rules::Call;
 use rules::Order;
@@ -98,8 +98,8 @@ pub(crate) fn said_by(i: usize, a: u64, b: u64, c: u64) -> Said
 pub(crate) fn which(s: &[u8], at: usize, end: usize, last: usize, words: &[u8]) -> usize
     requires { ⌜ at ≤ end ⌝ }
     requires { ⌜ end ≤ length (now s) ⌝ }
-    requires { ⌜ length (parts 44 (now words)) ≡ noWord ⌝ }
-    ensures { λ r. ⌜ r ≡ seek last (slice at end (now (s .entry))) rows (parts 44 (now (words .entry))) ⌝ }
+    requires { ⌜ parts 44 (now words) ≡ keys ⌝ }
+    ensures { λ r. ⌜ r ≡ seek last (slice at end (now (s .entry))) rows keys ⌝ }
 {
     let mut i = 0;
     let mut from = 0;

@@ -6,7 +6,7 @@ use lib.ListN.{length}
 use borrow.Author.Needs.{needs}
 use Rattle.console.specs.Line.{lineOf}
 use Rattle.console.specs.Inner.{noWord, fieldsFrom, behind}
-use Rattle.console.proofs.WordLaws.{told-all, word-past, word-none, word-next, line-long, line-fits}
+use Rattle.console.proofs.WordLaws.{told-keys, word-past, word-none, word-next, line-long, line-fits}
 use Rattle.console.proofs.parse.command_of.Statement.{statement}
 use Rattle.console.proofs.parse.command_of.Tie as tie
 
@@ -29,7 +29,7 @@ part-end-requires : tie.Need-part-end-requires Inv-loop μ-loop
 part-end-requires c κs = omega arith
 
 which-requires : tie.Need-which-requires Inv-loop μ-loop
-which-requires c κs = (omega arith, (omega arith, told-all))
+which-requires c κs = (omega arith, (omega arith, told-keys))
 
 end-of-requires : tie.Need-end-of-requires Inv-loop μ-loop
 end-of-requires c κs = (omega arith, omega arith)
