@@ -1,4 +1,5 @@
--- Laws of the fields of a line: none past its end, and from a place before it the part up to the next comma, with the fields behind it; what numbers or a name there come to.
+-- Laws of the fields of a line: none past its end, and from a place before it the part up to the next comma, with the fields behind it;
+-- what numbers or a name there come to.
 -- Assumes nothing.
 use Prim.Native.Nat.{ℕ, suc, _+_, _<_, _≤_}
 use native.Mathlib.Omega.{arith}
@@ -71,11 +72,14 @@ module _ {s : List ℕ} {at n : ℕ} where
 
       -- and the others
       module _ {a : ℕ} (h : numberOf 10 (slice at end s) ≡ some a) {r : Numbers} (others : NumbersRead s (end + 1) m r) where
+        then : (k : ℕ → ℕ → ℕ → Line) → counted (suc m) k (fieldsFrom s at) ≡ onNumbers (λ b c d. k a b c) r
+        then k = first k h ∙ others .says (λ b c d. k a b c)
+
         pub others-not : r ≡ Not → NumbersRead s at n Not
-        others-not t = one-less (record { says = λ k. first k h ∙ others .says (λ b c d. k a b c) ∙ ap (onNumbers (λ b c d. k a b c)) t })
+        others-not t = one-less (record { says = λ k. then k ∙ ap (onNumbers (λ b c d. k a b c)) t })
 
         pub others-are : {b c d : ℕ} → r ≡ Are b c d → NumbersRead s at n (Are a b c)
-        others-are t = one-less (record { says = λ k. first k h ∙ others .says (λ b c d. k a b c) ∙ ap (onNumbers (λ b c d. k a b c)) t })
+        others-are t = one-less (record { says = λ k. then k ∙ ap (onNumbers (λ b c d. k a b c)) t })
 
 -- a name
 pub name-past : {s : List ℕ} {at : ℕ} → length s < at → NameRead s at nameField.Not

@@ -31,23 +31,26 @@ abbrev texts : List Entry → List (List ℕ)
 texts es = map (λ e. text (e .key)) es
 
 module _ (last : ℕ) (f : List ℕ) (fs : List (List ℕ)) (x : Form) where
-  abbrev sought : List Word → List Entry → Line
-  sought rs es = getD (map (λ e. e .form fs) es) (seek last f rs (texts es)) (x (f ∷ fs))
+  abbrev at : List Entry → ℕ → Line
+  at es i = getD (map (λ e. e .form fs) es) i (x (f ∷ fs))
 
-  look-seek : (rs : List Word) (es : List Entry) → length rs ≡ length es → lookUp (under last rs es) x f fs ≡ sought rs es
+  abbrev place : List Word → List Entry → ℕ
+  place rs es = seek last f rs (texts es)
+
+  look-seek : (rs : List Word) (es : List Entry) → length rs ≡ length es → lookUp (under last rs es) x f fs ≡ at es (place rs es)
   look-seek [] [] h = refl
   look-seek [] (e ∷ es) h = absurd (omega arith)
   look-seek (r ∷ rs) [] h = absurd (omega arith)
   look-seek (r ∷ rs) (e ∷ es) h = go (eqb (r .0) last) (look-seek rs es (omega arith))
     where
-      hit : (b : Bool) → lookUp (under last rs es) x f fs ≡ sought rs es
-          → elim b [ true ↦ e .form fs | false ↦ lookUp (under last rs es) x f fs ] ≡ getD (map (λ e. e .form fs) (e ∷ es)) (cond b 0 (suc (seek last f rs (texts es)))) (x (f ∷ fs))
+      hit : (b : Bool) → lookUp (under last rs es) x f fs ≡ at es (place rs es)
+          → elim b [ true ↦ e .form fs | false ↦ lookUp (under last rs es) x f fs ] ≡ at (e ∷ es) (cond b 0 (suc (place rs es)))
       hit true ih = refl
       hit false ih = ih
 
-      go : (b : Bool) → lookUp (under last rs es) x f fs ≡ sought rs es
+      go : (b : Bool) → lookUp (under last rs es) x f fs ≡ at es (place rs es)
           → lookUp (cond b (e ∷ under last rs es) (under last rs es)) x f fs
-          ≡ getD (map (λ e. e .form fs) (e ∷ es)) (cond (b && alike f (text (e .key))) 0 (suc (seek last f rs (texts es)))) (x (f ∷ fs))
+          ≡ at (e ∷ es) (cond (b && alike f (text (e .key))) 0 (suc (place rs es)))
       go true ih = hit (alike f (text (e .key))) ih
       go false ih = ih
 
@@ -77,7 +80,7 @@ module _ (f : List ℕ) (fs : List (List ℕ)) where
   unfolding execs numbers forms rows requests ended entries behind
   behind-look i h = tabled-at noWord (λ j. lookUp (under j rows entries) (ended j) f fs) i bad h
 
-  behind-seek : (i : ℕ) → i < noWord → behind i (f ∷ fs) ≡ getD (map (λ e. e .form fs) entries) (seek i f rows keys) (ended i (f ∷ fs))
+  behind-seek : (i : ℕ) → i < noWord → behind i (f ∷ fs) ≡ at i f fs (ended i) entries (seek i f rows keys)
   unfolding execs numbers forms rows entries keys
   behind-seek i h = behind-look i h ∙ look-seek i f fs (ended i) rows entries refl
 
@@ -125,7 +128,8 @@ line-fits [] h = refl
 line-fits (x ∷ s) h = line-is (x ∷ s) true (upTo-is 1 72 (length (x ∷ s)) (omega arith) h)
 
 -- what word i says where no word comes, by its row
-pub ended-as : (i : ℕ) {w : Word} {named : Bool} → w ≡ rowAt i → w .1 ≡ named → (fs : List (List ℕ)) → ended i fs ≡ taking named (w .2) i fs
+pub ended-as : (i : ℕ) {w : Word} {named : Bool} → w ≡ rowAt i → w .1 ≡ named → (fs : List (List ℕ))
+    → ended i fs ≡ taking named (w .2) i fs
 unfolding ended
 ended-as i {w} e h fs = ap (λ (x : Word). taking (x .1) (x .2) i fs) (sym e) ∙ ap (λ (b : Bool). taking b (w .2) i fs) h
 
@@ -151,9 +155,11 @@ module _ {last : ℕ} {f words : List ℕ} {i from : ℕ} (h : Seeking last f wo
 
   pub seeking-end : noWord ≤ i → i ≡ seek last f rows keys
   unfolding rows
-  seeking-end l = omega (arith, h .same, ap (λ (rs : List Word). seek last f rs (fieldsFrom words from)) (drop-of-length-le rows {i = i} l))
+  seeking-end l =
+      omega (arith, h .same, ap (λ (rs : List Word). seek last f rs (fieldsFrom words from)) (drop-of-length-le rows {i = i} l))
 
-  module _ {to : ℕ} (p : PartEnd 44 words from to) (l : i < noWord) {b : Bool} (test : (eqb (rowAt i .0) last && alike f (take (to - from) (drop from words))) ≡ b) where
+  module _ {to : ℕ} (p : PartEnd 44 words from to) (l : i < noWord) {b : Bool}
+      (test : (eqb (rowAt i .0) last && alike f (take (to - from) (drop from words))) ≡ b) where
     abbrev rest : ℕ
     rest = seek last f (drop (i + 1) rows) (fieldsFrom words (to + 1))
 

@@ -44,7 +44,8 @@ says x = saying (x .name) (x .said)
 unfoldable pub fieldsFrom : List ℕ → ℕ → List (List ℕ)
 fieldsFrom s at = cond (leb at (length s)) (parts 44 (drop at s)) []
 
--- What reading comes to, whatever the form does with it: the form goes on with what was read and the fields behind it, or the line is bad. First a name;
+-- What reading comes to, whatever the form does with it: the form goes on with what was read and the fields behind it, or the line is bad.
+-- First a name;
 abbrev pub onName : (List ℕ → Form) → List ℕ → NameField → Line
 onName k s nameField.Not = bad
 onName k s (nameField.Is a b c d e next) = k (a ∷ b ∷ c ∷ d ∷ e ∷ []) (fieldsFrom s next)
@@ -64,7 +65,8 @@ onNumbers k (numbersRead.Are a b c) = k a b c
 pub record NumbersRead (s : List ℕ) (at n : ℕ) (r : Numbers) : Type 0 where
   pub says : (k : ℕ → ℕ → ℕ → Line) → counted n k (fieldsFrom s at) ≡ onNumbers k r
 
--- The words as the code numbers them: the word before each, whether a name comes next, and how many numbers; and what it says where no word comes.
+-- The words as the code numbers them, each with the word before it, whether a name comes next, and how many numbers; and what each says where
+-- no word comes behind it.
 abbrev pub noWord : ℕ
 noWord = 29
 
@@ -74,8 +76,10 @@ row before named n = record { 0 = before; 1 = named; 2 = n }
 unfoldable pub rows : List Word
 rows =
     row noWord false 0
-    ∷ row 0 false 3 ∷ row 0 true 1 ∷ row 0 true 0 ∷ row 0 true 0 ∷ row 0 true 0 ∷ row 0 true 1 ∷ row 0 true 1 ∷ row 0 false 0 ∷ row 0 false 0 ∷ row 0 false 0 ∷ row 0 false 0
-    ∷ row 9 false 2 ∷ row 9 false 2 ∷ row 9 false 2 ∷ row 9 false 2 ∷ row 9 false 0 ∷ row 9 false 0 ∷ row 9 false 0 ∷ row 9 true 0 ∷ row 9 true 0 ∷ row 9 true 3
+    ∷ row 0 false 3 ∷ row 0 true 1 ∷ row 0 true 0 ∷ row 0 true 0 ∷ row 0 true 0 ∷ row 0 true 1 ∷ row 0 true 1 ∷ row 0 false 0
+    ∷ row 0 false 0 ∷ row 0 false 0 ∷ row 0 false 0
+    ∷ row 9 false 2 ∷ row 9 false 2 ∷ row 9 false 2 ∷ row 9 false 2 ∷ row 9 false 0 ∷ row 9 false 0 ∷ row 9 false 0
+    ∷ row 9 true 0 ∷ row 9 true 0 ∷ row 9 true 3
     ∷ row 10 false 0 ∷ row 10 false 2 ∷ row 10 false 1 ∷ row 10 false 1
     ∷ row 22 false 1 ∷ row 22 false 1
     ∷ row 14 false 0
@@ -87,9 +91,11 @@ rowAt i = getD rows i (row 0 false 0)
 unfoldable pub requests : ℕ → ℕ → ℕ → List Said
 requests a b c =
     Bad
-    ∷ Asks (Fresh a b c) ∷ Asks (Load a) ∷ Asks (Operator Ru) ∷ Asks (Operator Ss) ∷ Asks (Operator Go) ∷ Asks (Operator (Pr a)) ∷ Asks (Operator (Of a)) ∷ Asks Tick ∷ Bad ∷ Bad ∷ Page
-    ∷ Asks (Running (Exec4 a b)) ∷ Asks (Running (Exec15 a b)) ∷ Asks (Running (Exec5 a b)) ∷ Asks (Running (Exec16 a b)) ∷ Asks (Running Exec6) ∷ Asks (Running Exec7)
-    ∷ Asks (Running Exec11) ∷ Asks (Running Exec9) ∷ Asks (Running Exec10) ∷ Asks (Running (Exec12 a b c))
+    ∷ Asks (Fresh a b c) ∷ Asks (Load a) ∷ Asks (Operator Ru) ∷ Asks (Operator Ss) ∷ Asks (Operator Go) ∷ Asks (Operator (Pr a))
+    ∷ Asks (Operator (Of a)) ∷ Asks Tick ∷ Bad ∷ Bad ∷ Page
+    ∷ Asks (Running (Exec4 a b)) ∷ Asks (Running (Exec15 a b)) ∷ Asks (Running (Exec5 a b)) ∷ Asks (Running (Exec16 a b))
+    ∷ Asks (Running Exec6) ∷ Asks (Running Exec7) ∷ Asks (Running Exec11) ∷ Asks (Running Exec9) ∷ Asks (Running Exec10)
+    ∷ Asks (Running (Exec12 a b c))
     ∷ Bad ∷ Asks (Running (Lock a b)) ∷ Asks (Running (Clear a)) ∷ Asks (Running (Free a))
     ∷ Asks (Running (Alloc false a)) ∷ Asks (Running (Alloc true a))
     ∷ Asks (Running Exec5All)

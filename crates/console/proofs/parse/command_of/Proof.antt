@@ -1,4 +1,5 @@
--- `console::parse::command_of` meets its contract. The invariant: the line says what the fields from `at` on say behind the last word. Assumes nothing.
+-- `console::parse::command_of` meets its contract. The invariant: the line says what the fields from `at` on say behind the last word.
+-- Assumes nothing.
 use Prim.Native.Nat.{_+_, _-_, _<_, _≤_}
 use native.Mathlib.Omega.{arith}
 use mathlib.Core.Path.{_≡_, sym, _∙_}

@@ -1,4 +1,5 @@
--- `console::words::which` meets its contract. The invariant: the words from word i on, which begin at `from`, are searched in the same way. Assumes nothing.
+-- `console::words::which` meets its contract. The invariant: the words from word i on, which begin at `from`, are searched in the same way.
+-- Assumes nothing.
 use Prim.Native.Nat.{_-_}
 use native.Mathlib.Omega.{arith}
 use mathlib.Core.Path.{sym, ap₂}
@@ -18,9 +19,12 @@ Inv-loop s at end last words i₀ from₀ i from = Seeking last (slice at end s)
 abbrev μ-loop : tie.MeasureT-loop
 μ-loop s at end last words i₀ from₀ i from = noWord - i
 
+abbrev Ended : tie.After-is-word Inv-loop μ-loop → tie.After-part-end Inv-loop μ-loop
+Ended c = c .before .before .before .before
+
 -- what is tested of a word, by the table
 abbrev Tested : tie.After-is-word Inv-loop μ-loop → Word → Bool → Bool
-Tested c w b = eqb (w .0) (c .before .before .before .before .before .before .before .before .before .args .last) && b
+Tested c w b = eqb (w .0) (Ended c .before .before .before .before .before .args .last) && b
 
 loop-holds : tie.Need-loop-holds Inv-loop μ-loop
 loop-holds c = seeking-start (c .before .before .pre .1 .1)
@@ -45,9 +49,9 @@ is-word-requires c κs = search needs
 
 returns : tie.Need-returns Inv-loop μ-loop
 returns c =
-    let l = c .before .before .before .before .before .before .before in
-    seeking-hit (l .loop .inv) (c .before .before .before .before .before .part-end .ensures) (c .before .before .before .before .before .before .loop-test .taken)
-    (ap₂ (Tested (c .before)) (sym (c .before .before .before .before .word-of .ensures)) (sym (c .before .is-word .ensures))) (c .if1 .taken)
+    let p = Ended (c .before) in
+    seeking-hit (p .before .before .loop .inv) (p .part-end .ensures) (p .before .loop-test .taken)
+    (sym (ap₂ (Tested (c .before)) (c .before .before .before .before .word-of .ensures) (c .before .is-word .ensures))) (c .if1 .taken)
 
 add-from : tie.Need-add-from Inv-loop μ-loop
 add-from c = omega arith
@@ -60,9 +64,9 @@ loop-less c = omega arith
 
 loop-again : tie.Need-loop-again Inv-loop μ-loop
 loop-again c =
-    let l = c .before .before .before .before .before .before .before in
-    seeking-next (l .loop .inv) (c .before .before .before .before .before .part-end .ensures) (c .before .before .before .before .before .before .loop-test .taken)
-    (ap₂ (Tested (c .before)) (sym (c .before .before .before .before .word-of .ensures)) (sym (c .before .is-word .ensures))) (c .if1 .left)
+    let p = Ended (c .before) in
+    seeking-next (p .before .before .loop .inv) (p .part-end .ensures) (p .before .loop-test .taken)
+    (sym (ap₂ (Tested (c .before)) (c .before .before .before .before .word-of .ensures) (c .before .is-word .ensures))) (c .if1 .left)
 
 returns-2 : tie.Need-returns-2 Inv-loop μ-loop
 returns-2 c = seeking-end (c .before .loop .inv) (c .loop-test .left)
