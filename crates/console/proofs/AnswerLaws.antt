@@ -24,11 +24,6 @@ use Rattle.rules.proofs.OneAnswer.{one-answer}
 use Rattle.console.specs.Sheet.{printedBytes}
 use Rattle.console.specs.Inner.{single, valuesLine, answerBytes}
 
--- a dot between two texts
-pub dot-wrote : {l₀ l₁ l₂ l₃ x y : List ℕ} {at₀ at₁ at₂ at₃ : ℕ} → Wrote l₀ at₀ x l₁ at₁ → Wrote l₁ at₁ (46 ∷ []) l₂ at₂ → Wrote l₂ at₂ y l₃ at₃
-    → Wrote l₀ at₀ (x ++ (46 ∷ y)) l₃ at₃
-dot-wrote {x = x} {y = y} a d b = wrote-then x (46 ∷ y) a (wrote-then (46 ∷ []) y d b)
-
 dot-length : (x y : List ℕ) → length (x ++ (46 ∷ y)) ≡ length x + length y + 1
 dot-length x y = omega (arith, length-append x (46 ∷ y))
 
@@ -62,7 +57,8 @@ abbrev timeless : List ℕ
 timeless = 0 ∷ 2 ∷ 3 ∷ 4 ∷ 5 ∷ 6 ∷ 7 ∷ 8 ∷ 9 ∷ 10 ∷ 11 ∷ 12 ∷ 13 ∷ 14 ∷ 15 ∷ []
 
 pub no-time : (a : Answer) → OneOf timeless (tagOf the-type a) → valuesLine a ≡ decimal (single (values a))
-no-time a h = elim (one-value a) [ inl e ↦ e | inr p ↦ absurd (miss timeless 1 tt (subst (λ (x : Answer). OneOf timeless (tagOf the-type x)) (p .1) h)) ]
+no-time a h =
+    elim (one-value a) [ inl e ↦ e | inr p ↦ absurd (miss timeless 1 tt (subst (λ (x : Answer). OneOf timeless (tagOf the-type x)) (p .1) h)) ]
 
 -- the line for an answer, whose number is n
 pub answer-wrote : {l₀ l₁ l₂ l₃ l₄ l₅ : List ℕ} {at₀ at₁ at₂ at₃ at₄ at₅ n : ℕ} (a : Answer) → n ≡ number a → Wrote l₀ at₀ (text "answer=") l₁ at₁
@@ -87,7 +83,8 @@ values-room a =
       | inl e ↦ omega (arith, ap length e, decimal-most (single (values a)))
       | inr p ↦
           let t = p .0 in
-          omega (arith, ap (λ (x : Answer). length (valuesLine x)) (p .1), time-length t, decimal-most (t .day), decimal-most (t .hour), decimal-most (t .minute), decimal-most (t .second), decimal-most (t .hundredth))
+          let e = ap (λ (x : Answer). length (valuesLine x)) (p .1) in
+          omega (arith, time-length t, decimal-most (t .day), decimal-most (t .hour), decimal-most (t .minute), decimal-most (t .second), decimal-most (t .hundredth))
     ]
 
 pub answer-room : (a : Answer) → length (answerBytes a) ≤ 139

@@ -95,5 +95,6 @@ module _ {s : List ℕ} {at e : ℕ} (p : PartEnd 44 s at e) where
   pub name-is : {a b c d f : ℕ} → nameOf (slice at e s) ≡ some (a ∷ b ∷ c ∷ d ∷ f ∷ []) → NameRead s at (nameField.Is a b c d f (e + 1))
   name-is h = record { says = λ k. ap (name k) (fields-cut p) ∙ ap (onNameOf k (fieldsFrom s (e + 1))) h }
 
-pub name-told : {s : List ℕ} {at : ℕ} {r q : NameField} → NameRead s at r → r ≡ q → (k : List ℕ → Form) → name k (fieldsFrom s at) ≡ onName k s q
+pub name-told : {s : List ℕ} {at : ℕ} {r q : NameField} → NameRead s at r → r ≡ q → (k : List ℕ → Form)
+    → name k (fieldsFrom s at) ≡ onName k s q
 name-told {s} h e k = h .says k ∙ ap (onName k s) e

@@ -65,8 +65,8 @@ onNumbers k (numbersRead.Are a b c) = k a b c
 pub record NumbersRead (s : List ℕ) (at n : ℕ) (r : Numbers) : Type 0 where
   pub says : (k : ℕ → ℕ → ℕ → Line) → counted n k (fieldsFrom s at) ≡ onNumbers k r
 
--- The words as the code numbers them, each with the word before it, whether a name comes next, and how many numbers; and what each says where
--- no word comes behind it.
+-- The words as the code numbers them, each with the word before it, whether a name comes next, and how many numbers; and what each says
+-- where no word comes behind it.
 abbrev pub noWord : ℕ
 noWord = 29
 

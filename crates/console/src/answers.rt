@@ -1,7 +1,7 @@
 // Answers as they are printed: the outline's number, and the value or the parts of a time.
 ghost use mathlib.Core.Path.{_≡_};
 ghost use Prim.Native.Nat.{_+_, _≤_};
-ghost use mathlib.Core.List.{map};
+ghost use mathlib.Core.List.{_∷_, map};
 ghost use lib.ListN.{length};
 ghost use Rattle.text.specs.Text.{decimal, between};
 ghost use Rattle.text.specs.Inner.{Wrote};
@@ -70,20 +70,25 @@ fn value_of(answer: Answer) -> u64
     }
 }
 
+// A dot, and n.
+fn put_dotted(buf: &mut [u8], at: usize, n: u64) -> usize
+    requires { ⌜ at + 1 + length (decimal n) ≤ length (now buf) ⌝ }
+    ensures { λ r. ⌜ Wrote (now (buf .entry)) at (46 ∷ decimal n) (now (buf .exit)) r ⌝ }
+{
+    let next = text::put_byte(buf, at, b'.');
+    text::put_number(buf, next, n)
+}
+
 // day.hour.minute.second.hundredth
 fn put_time(buf: &mut [u8], at: usize, t: Time) -> usize
     requires { ⌜ at + length (between 46 (map decimal (partsOf t))) ≤ length (now buf) ⌝ }
     ensures { λ r. ⌜ Wrote (now (buf .entry)) at (between 46 (map decimal (partsOf t))) (now (buf .exit)) r ⌝ }
 {
     let a = text::put_number(buf, at, t.day);
-    let b = text::put_byte(buf, a, b'.');
-    let c = text::put_number(buf, b, t.hour);
-    let d = text::put_byte(buf, c, b'.');
-    let e = text::put_number(buf, d, t.minute);
-    let f = text::put_byte(buf, e, b'.');
-    let g = text::put_number(buf, f, t.second);
-    let h = text::put_byte(buf, g, b'.');
-    text::put_number(buf, h, t.hundredth)
+    let b = put_dotted(buf, a, t.hour);
+    let c = put_dotted(buf, b, t.minute);
+    let d = put_dotted(buf, c, t.second);
+    put_dotted(buf, d, t.hundredth)
 }
 
 fn put_values(buf: &mut [u8], at: usize, answer: Answer) -> usize

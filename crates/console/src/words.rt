@@ -94,7 +94,7 @@ pub(crate) fn said_by(i: usize, a: u64, b: u64, c: u64) -> Said
     all[i]
 }
 
-// Which word behind word `last` the field s[at..end] is, where the words are told in order with commas between them; `NO_WORD` if it is none.
+// Which word behind word `last` the field s[at..end] is, or `NO_WORD`; the words are told in order, with commas between them.
 pub(crate) fn which(s: &[u8], at: usize, end: usize, last: usize, words: &[u8]) -> usize
     requires { ⌜ at ≤ end ⌝ }
     requires { ⌜ end ≤ length (now s) ⌝ }

@@ -12,7 +12,8 @@ use Rattle.console.proofs.answers.put_values.Tie as tie
 
 -- no time: the value that was found
 value : (c : tie.After-value-of) → valuesLine (c .before .before .before .before .args .answer) ≡ decimal (c .value-of .result)
-value c = no-time (c .before .before .before .before .args .answer) (c .before .before .match .keys2) ∙ ap decimal (sym (c .value-of .ensures))
+value c =
+    no-time (c .before .before .before .before .args .answer) (c .before .before .match .keys2) ∙ ap decimal (sym (c .value-of .ensures))
 
 enum-known-answer : tie.Need-enum-known-answer
 enum-known-answer c = search needs

@@ -1,4 +1,5 @@
--- `console::fields::read_numbers` meets its contract. It calls itself for one number less, so the measure is how many there are. Assumes nothing.
+-- `console::fields::read_numbers` meets its contract. It calls itself for one number less, so the measure is how many there are.
+-- Assumes nothing.
 use Prim.Native.Nat.{ℕ, suc, _-_, _<_}
 use native.Mathlib.Omega.{arith}
 use mathlib.Core.Path.{_≡_, sym, ap, _∙_}
@@ -22,18 +23,24 @@ module _ (t : ℕ) where
   abbrev Entered : In 1 kinds.ps
   Entered = and 1 kinds.ps (is 1 kinds.ps μ t) reads.Pre
 
+  abbrev Less : In 1 kinds.ps
+  Less = and 1 kinds.ps (falls 1 kinds.ps _<_ μ t) reads.Pre
+
   abbrev Calls : lts.Claims
-  Calls = (part-end.Asked, part-end.Learnt, read-number.Asked, read-number.Learnt, and 1 kinds.ps (falls 1 kinds.ps _<_ μ t) reads.Pre, reads.Post)
+  Calls = (part-end.Asked, part-end.Learnt, read-number.Asked, read-number.Learnt, Less, reads.Post)
 
   -- one number at least
   one : (c : lts.Else3 Calls Entered reads.Post) → let k = c .before .before .before .args .k in suc (k - 1) ≡ k
-  one c = let n = c .if3 .left in omega arith
+  one c = omega (arith, c .if3 .left)
 
   returns : lts.Need-returns Calls Entered reads.Post
   returns c = numbers-none (c .before .if1 .taken) (c .if2 .taken)
 
   returns-2 : lts.Need-returns-2 Calls Entered reads.Post
-  returns-2 c = let k = c .before .before .before .args .k in let e : suc (k - 1) ≡ k = omega (arith, c .if2 .left) in numbers-few e (c .before .if1 .taken)
+  returns-2 c =
+      let k = c .before .before .before .args .k in
+      let e : suc (k - 1) ≡ k = omega (arith, c .if2 .left) in
+      numbers-few e (c .before .if1 .taken)
 
   returns-3 : lts.Need-returns-3 Calls Entered reads.Post
   returns-3 c = numbers-more (c .before .if1 .left) (c .if3 .taken)
@@ -75,14 +82,16 @@ module _ (t : ℕ) where
       let w = c .before .before in
       let n = w .before .before in
       let r = n .before .before in
-      others-not (one (r .before .before)) (r .before .part-end .ensures) (sym (r .read-number .ensures) ∙ ap read (n .n .given .1)) (w .read-numbers .ensures) (c .enum-told2 .given .1)
+      others-not (one (r .before .before)) (r .before .part-end .ensures) (sym (r .read-number .ensures) ∙ ap read (n .n .given .1))
+      (w .read-numbers .ensures) (c .enum-told2 .given .1)
 
   returns-6 : lts.Need-returns-6 Calls Entered reads.Post
   returns-6 c =
       let w = c .before .before .before in
       let n = w .before .before in
       let r = n .before .before in
-      others-are (one (r .before .before)) (r .before .part-end .ensures) (sym (r .read-number .ensures) ∙ ap read (n .n .given .1)) (w .read-numbers .ensures) (c .before .a .given .1)
+      others-are (one (r .before .before)) (r .before .part-end .ensures) (sym (r .read-number .ensures) ∙ ap read (n .n .given .1))
+      (w .read-numbers .ensures) (c .before .a .given .1)
 
 pub +read-numbers-spec : {M : Type 1} → statement M
 +read-numbers-spec =

@@ -2,6 +2,7 @@
 use mathlib.Core.Path.{_≡_, sym, ap, _∙_}
 use borrow.Author.Needs.{needs}
 use Rattle.rules.specs.Engine.{beside}
+use Rattle.page.specs.Paging.{Written}
 use Rattle.console.specs.declared.Said.{Said}
 use Rattle.console.specs.Inner.{obeys, saying}
 use Rattle.console.proofs.KeyLaws.{obeys-asks, obeys-page, obeys-bad}
@@ -9,8 +10,11 @@ use Rattle.console.proofs.keying.obey.Statement.{statement}
 use Rattle.console.proofs.keying.obey.Tie as tie
 
 -- what is obeyed is what the match told
-told : (s : tie.Start) {x : Said} → s .args .command .said ≡ x → let a = s .args in obeys (a .tables) (a .buf .now) (saying (a .command .name) x) ≡ obeys (a .tables) (a .buf .now) (saying (a .command .name) (a .command .said))
-told s e = let a = s .args in ap (λ (x : Said). obeys (a .tables) (a .buf .now) (saying (a .command .name) x)) (sym e)
+abbrev Obeyed : tie.Start → Said → Written
+Obeyed s x = let a = s .args in obeys (a .tables) (a .buf .now) (saying (a .command .name) x)
+
+told : (s : tie.Start) {x : Said} → s .args .command .said ≡ x → Obeyed s x ≡ Obeyed s (s .args .command .said)
+told s e = ap (Obeyed s) (sym e)
 
 enum-told : tie.Need-enum-told
 enum-told c = search needs
@@ -34,7 +38,9 @@ returns : tie.Need-returns
 returns c =
     let s = c .before .before .before .before .before in
     let a = s .args in
-    ap (beside (a .buf .now)) (c .not-understood .ensures) ∙ sym (obeys-bad (a .tables) (a .buf .now)) ∙ told s (c .before .enum-told .given .1)
+    ap (beside (a .buf .now)) (c .not-understood .ensures)
+    ∙ sym (obeys-bad (a .tables) (a .buf .now))
+    ∙ told s (c .before .enum-told .given .1)
 
 same-length : tie.Need-same-length
 same-length c = search needs

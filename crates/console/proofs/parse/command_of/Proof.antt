@@ -41,7 +41,8 @@ returns-2 c =
     let p = w .before .before in
     let l = p .before .before in
     let s = l .before .before .before .before in
-    c .end-of .ensures ∙ sym (l .loop .inv .2 ∙ word-none (l .loop .inv .0) (s .args .s .now) (l .loop .at) (p .part-end .ensures) (w .which .ensures) (c .before .if2 .taken))
+    let none = word-none (l .loop .inv .0) (s .args .s .now) (l .loop .at) (p .part-end .ensures) (w .which .ensures) (c .before .if2 .taken) in
+    c .end-of .ensures ∙ sym (l .loop .inv .2 ∙ none)
 
 add-at : tie.Need-add-at Inv-loop μ-loop
 add-at c = omega arith
@@ -55,7 +56,8 @@ loop-again c =
     let p = w .before .before in
     let l = p .before .before in
     let s = l .before .before .before .before in
-    (c .if2 .left, omega arith, l .loop .inv .2 ∙ word-next (l .loop .inv .0) (s .args .s .now) (l .loop .at) (p .part-end .ensures) (w .which .ensures) (c .if2 .left))
+    let next = word-next (l .loop .inv .0) (s .args .s .now) (l .loop .at) (p .part-end .ensures) (w .which .ensures) (c .if2 .left) in
+    (c .if2 .left, omega arith, l .loop .inv .2 ∙ next)
 
 end-of-requires-2 : tie.Need-end-of-requires-2 Inv-loop μ-loop
 end-of-requires-2 c κs = (omega arith, omega arith)
