@@ -16,7 +16,7 @@ use Rattle.ledger.specs.Ledger.{testBlank}
 use Rattle.tables.specs.Sound.{sound}
 use Rattle.tables.specs.Calls.{served, asked}
 use Rattle.page.specs.Page.{bytes, usedIn, recordLines, chainLines, heldLine, heldLines, numberLine, numberLines, lines, page}
-use Rattle.console.specs.Line.{execsOn, execs, allocs, numbers, others, forms, lineOf}
+use Rattle.console.specs.Line.{execs, numbers, forms, lineOf}
 use Rattle.console.specs.Console.{keyedIn}
 use Rattle.console.specs.Sheet.{answerLine, linesOf, printed, sheet}
 use Rattle.history.specs.Runs as history
@@ -25,5 +25,5 @@ use Rattle.bench.specs.Cases.{bench}
 
 pub computed : toldAnew bench ≡ bench
 unfolding
-    same digits decimal numberOf parts entry timeOf nameOf all find lowestUnused need either found named inside waits woken frees clears endsIn order dueAt takes gives allocated call asCaller plan act step testNames testZeros testChains testWhys testSystem testUsers testUnlocked testLimits testDues walk read testLinks linksOf testBlank sound served asked madeBy bytes usedIn recordLines chainLines heldLine heldLines numberLine numberLines lines page writtenIn pagedIn execsOn execs allocs numbers others forms lineOf keyedIn answerLine linesOf printed sheet history.step tell tellAll printAll toldAnew bench
+    same digits decimal numberOf parts entry timeOf nameOf all find lowestUnused need either found named inside waits woken frees clears endsIn order dueAt takes gives allocated call asCaller plan act step testNames testZeros testChains testWhys testSystem testUsers testUnlocked testLimits testDues walk read testLinks linksOf testBlank sound served asked madeBy bytes usedIn recordLines chainLines heldLine heldLines numberLine numberLines lines page writtenIn pagedIn execs numbers forms lineOf keyedIn answerLine linesOf printed sheet history.step tell tellAll printAll toldAnew bench
 computed = refl

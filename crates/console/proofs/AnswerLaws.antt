@@ -2,9 +2,13 @@
 -- Assumes nothing.
 use Prim.Native.Nat.{ℕ, _+_, _≤_}
 use native.Mathlib.Omega.{arith}
-use mathlib.Core.Path.{_≡_, refl}
+use mathlib.Core.Path.{_≡_, refl, sym, ap, subst}
+use mathlib.Core.Bool.{Bool, true, false, cond, _&&_}
+use mathlib.Core.Logic.{_⊎_, inl, inr}
 use mathlib.Core.List.{List, [], _∷_, _++_, map}
-use lib.ListN.{length, length-append}
+use lib.ListN.{length, getD, length-append}
+use lib.Dec.{eqb}
+use borrow.Author.Tests.{eqb-true, ne-eqb}
 use denote.Enum.Declared.{tagOf}
 use types.Run.{OneOf, miss}
 use Rattle.text.specs.Text.{text, decimal, between}
@@ -16,13 +20,9 @@ use Rattle.rules.specs.declared.Answer.{Answer}
 use Rattle.rules.specs.declared.Answer.the-variants.{Done, Told, Waits, NoCaller, NotAllowed, NoProgram, WrongState, NameInUse, AllUsed, NoRoom, NotHolder, NotAllocated, AtCeiling, TooShort, NotUnderstood, NotSound}
 use Rattle.rules.specs.Answers.{number, values}
 use Rattle.rules.proofs.Answer.{the-type}
+use Rattle.rules.proofs.shared.OneAnswer.{one-answer}
 use Rattle.console.specs.Sheet.{printedBytes}
-use Rattle.console.specs.Inner.{valuesLine, answerBytes}
-
--- a dot between two texts
-pub dot-wrote : {l₀ l₁ l₂ l₃ x y : List ℕ} {at₀ at₁ at₂ at₃ : ℕ} → Wrote l₀ at₀ x l₁ at₁ → Wrote l₁ at₁ (46 ∷ []) l₂ at₂ → Wrote l₂ at₂ y l₃ at₃
-    → Wrote l₀ at₀ (x ++ (46 ∷ y)) l₃ at₃
-dot-wrote {x = x} {y = y} a d b = wrote-then x (46 ∷ y) a (wrote-then (46 ∷ []) y d b)
+use Rattle.console.specs.Inner.{single, valuesLine, answerBytes}
 
 dot-length : (x y : List ℕ) → length (x ++ (46 ∷ y)) ≡ length x + length y + 1
 dot-length x y = omega (arith, length-append x (46 ∷ y))
@@ -32,32 +32,33 @@ pub time-length : (t : Time) → length (between 46 (map decimal (partsOf t)))
     ≡ length (decimal (t .day)) + length (decimal (t .hour)) + length (decimal (t .minute)) + length (decimal (t .second)) + length (decimal (t .hundredth)) + 4
 time-length t = simp dot-length (omega arith)
 
--- an answer's values are those of what it is known to be
-pub values-wrote : {l l′ : List ℕ} {at next : ℕ} {a b : Answer} → a ≡ b → Wrote l at (valuesLine b) l′ next → Wrote l at (valuesLine a) l′ next
-values-wrote e w = rw e w
-
--- an answer that holds nothing has the value 0; the places of such answers among all
-abbrev bare : List ℕ
-bare = 3 ∷ 4 ∷ 5 ∷ 7 ∷ 8 ∷ 9 ∷ 10 ∷ 11 ∷ 12 ∷ 14 ∷ 15 ∷ []
-
-pub values-none : (a : Answer) → OneOf bare (tagOf the-type a) → valuesLine a ≡ decimal 0
+-- an answer tells a time, or has one value
+one-value : (a : Answer) → (valuesLine a ≡ decimal (single (values a))) ⊎ ((t : Time) × (a ≡ Told t))
 unfolding valuesLine
-values-none (Done v) h = absurd (miss bare 0 tt h)
-values-none (Told t) h = absurd (miss bare 1 tt h)
-values-none (Waits s) h = absurd (miss bare 2 tt h)
-values-none NoCaller h = refl
-values-none NotAllowed h = refl
-values-none NoProgram h = refl
-values-none (WrongState s) h = absurd (miss bare 6 tt h)
-values-none NameInUse h = refl
-values-none AllUsed h = refl
-values-none NoRoom h = refl
-values-none NotHolder h = refl
-values-none NotAllocated h = refl
-values-none AtCeiling h = refl
-values-none (TooShort n) h = absurd (miss bare 13 tt h)
-values-none NotUnderstood h = refl
-values-none NotSound h = refl
+one-value (Done v) = inl refl
+one-value (Told t) = inr (t, refl)
+one-value (Waits s) = inl refl
+one-value NoCaller = inl refl
+one-value NotAllowed = inl refl
+one-value NoProgram = inl refl
+one-value (WrongState s) = inl refl
+one-value NameInUse = inl refl
+one-value AllUsed = inl refl
+one-value NoRoom = inl refl
+one-value NotHolder = inl refl
+one-value NotAllocated = inl refl
+one-value AtCeiling = inl refl
+one-value (TooShort n) = inl refl
+one-value NotUnderstood = inl refl
+one-value NotSound = inl refl
+
+-- the places among all of those that tell none
+abbrev timeless : List ℕ
+timeless = 0 ∷ 2 ∷ 3 ∷ 4 ∷ 5 ∷ 6 ∷ 7 ∷ 8 ∷ 9 ∷ 10 ∷ 11 ∷ 12 ∷ 13 ∷ 14 ∷ 15 ∷ []
+
+pub no-time : (a : Answer) → OneOf timeless (tagOf the-type a) → valuesLine a ≡ decimal (single (values a))
+no-time a h =
+    elim (one-value a) [ inl e ↦ e | inr p ↦ absurd (miss timeless 1 tt (subst (λ (x : Answer). OneOf timeless (tagOf the-type x)) (p .1) h)) ]
 
 -- the line for an answer, whose number is n
 pub answer-wrote : {l₀ l₁ l₂ l₃ l₄ l₅ : List ℕ} {at₀ at₁ at₂ at₃ at₄ at₅ n : ℕ} (a : Answer) → n ≡ number a → Wrote l₀ at₀ (text "answer=") l₁ at₁
@@ -75,47 +76,32 @@ unfolding answerBytes
 answer-length a n is = rw is (simp length-append (omega arith))
 
 -- 7 bytes, a number, 7 bytes, at most five numbers with four dots, and byte 10
-pub values-room : (a : Answer) → length (valuesLine a) ≤ 104
+values-room : (a : Answer) → length (valuesLine a) ≤ 104
 unfolding valuesLine
-values-room (Done v) = omega (arith, decimal-most v)
-values-room (Told t) =
-    omega (arith, time-length t, decimal-most (t .day), decimal-most (t .hour), decimal-most (t .minute), decimal-most (t .second), decimal-most (t .hundredth))
-values-room (Waits s) = omega (arith, decimal-most s)
-values-room NoCaller = omega (arith, decimal-most 0)
-values-room NotAllowed = omega (arith, decimal-most 0)
-values-room NoProgram = omega (arith, decimal-most 0)
-values-room (WrongState s) = omega (arith, decimal-most s)
-values-room NameInUse = omega (arith, decimal-most 0)
-values-room AllUsed = omega (arith, decimal-most 0)
-values-room NoRoom = omega (arith, decimal-most 0)
-values-room NotHolder = omega (arith, decimal-most 0)
-values-room NotAllocated = omega (arith, decimal-most 0)
-values-room AtCeiling = omega (arith, decimal-most 0)
-values-room (TooShort n) = omega (arith, decimal-most n)
-values-room NotUnderstood = omega (arith, decimal-most 0)
-values-room NotSound = omega (arith, decimal-most 0)
+values-room a =
+    elim (one-value a) [
+      | inl e ↦ omega (arith, ap length e, decimal-most (single (values a)))
+      | inr p ↦
+          let t = p .0 in
+          let e = ap (λ (x : Answer). length (valuesLine x)) (p .1) in
+          omega (arith, time-length t, decimal-most (t .day), decimal-most (t .hour), decimal-most (t .minute), decimal-most (t .second), decimal-most (t .hundredth))
+    ]
 
 pub answer-room : (a : Answer) → length (answerBytes a) ≤ 139
 answer-room a = omega (arith, answer-length a (number a) refl, values-room a, decimal-most (number a))
 
--- an answer that is not done has no bytes printed; the places of such answers among all
-abbrev undone : List ℕ
-undone = 1 ∷ 2 ∷ 3 ∷ 4 ∷ 5 ∷ 6 ∷ 7 ∷ 8 ∷ 9 ∷ 10 ∷ 11 ∷ 12 ∷ 13 ∷ 14 ∷ 15 ∷ []
+-- an answer at another place than `Done` is not that, and has no bytes printed
+abbrev behind : List ℕ
+behind = 1 ∷ 2 ∷ 3 ∷ 4 ∷ 5 ∷ 6 ∷ 7 ∷ 8 ∷ 9 ∷ 10 ∷ 11 ∷ 12 ∷ 13 ∷ 14 ∷ 15 ∷ []
 
-pub bytes-none : (a : Answer) → OneOf undone (tagOf the-type a) → 0 ≡ printedBytes (number a) (values a)
-bytes-none (Done v) h = absurd (miss undone 0 tt h)
-bytes-none (Told t) h = refl
-bytes-none (Waits s) h = refl
-bytes-none NoCaller h = refl
-bytes-none NotAllowed h = refl
-bytes-none NoProgram h = refl
-bytes-none (WrongState s) h = refl
-bytes-none NameInUse h = refl
-bytes-none AllUsed h = refl
-bytes-none NoRoom h = refl
-bytes-none NotHolder h = refl
-bytes-none NotAllocated h = refl
-bytes-none AtCeiling h = refl
-bytes-none (TooShort n) h = refl
-bytes-none NotUnderstood h = refl
-bytes-none NotSound h = refl
+pub done-not : (a : Answer) → OneOf behind (tagOf the-type a) → (v : ℕ) → a ≡ Done v → ⊥
+done-not a h v d = miss behind 0 tt (subst (λ (x : Answer). OneOf behind (tagOf the-type x)) d h)
+
+pub bytes-none : (a : Answer) → OneOf behind (tagOf the-type a) → 0 ≡ printedBytes (number a) (values a)
+bytes-none a h = go (eqb (number a) 0) refl (values a) refl
+  where
+    go : (b : Bool) → eqb (number a) 0 ≡ b → (vs : List ℕ) → values a ≡ vs → 0 ≡ cond (b && eqb (length vs) 1) (getD vs 0 0) 0
+    go false e vs v = refl
+    go true e [] v = refl
+    go true e (x ∷ []) v = absurd (done-not a h x (one-answer a (Done x) (eqb-true (number a) 0 e) v))
+    go true e (x ∷ y ∷ vs) v = sym (ap (λ (t : Bool). cond t x 0) (ne-eqb (length (x ∷ y ∷ vs)) 1 (λ n. omega arith)))

@@ -1,8 +1,9 @@
--- Laws of the fields of a line: none past its end, and from a place before it the part up to the next comma, with the fields behind it; what a number or a name in a field comes to.
+-- Laws of the fields of a line: none past its end, and from a place before it the part up to the next comma, with the fields behind it;
+-- what numbers or a name there come to.
 -- Assumes nothing.
-use Prim.Native.Nat.{ℕ, _+_, _<_, _≤_}
+use Prim.Native.Nat.{ℕ, suc, _+_, _<_, _≤_}
 use native.Mathlib.Omega.{arith}
-use mathlib.Core.Path.{_≡_, refl, sym, ap, _∙_}
+use mathlib.Core.Path.{_≡_, refl, sym, ap, ap₂, subst, _∙_}
 use mathlib.Core.Bool.{Bool, true, false, cond}
 use mathlib.Core.List.{List, [], _∷_}
 use mathlib.Core.Option.{Option, none, some}
@@ -14,16 +15,12 @@ use Rattle.text.specs.Text.{numberOf, parts}
 use Rattle.text.specs.Inner.{PartEnd}
 use Rattle.text.proofs.Fields.{part-end}
 use Rattle.records.specs.Names.{nameOf}
-use Rattle.console.specs.declared.fields.NumberField.{NumberField}
-use Rattle.console.specs.declared.fields.NumberField.the-variants as numberField
+use Rattle.console.specs.declared.fields.Numbers.{Numbers}
+use Rattle.console.specs.declared.fields.Numbers.the-variants.{Are, Not}
 use Rattle.console.specs.declared.fields.NameField.{NameField}
 use Rattle.console.specs.declared.fields.NameField.the-variants as nameField
-use Rattle.console.specs.declared.fields.One.{One}
-use Rattle.console.specs.declared.fields.Two.{Two}
-use Rattle.console.specs.declared.fields.Three.{Three}
-use Rattle.console.specs.declared.fields.NameNumber.{NameNumber}
-use Rattle.console.specs.Line.{Line, bad, Form, over, number, name}
-use Rattle.console.specs.Inner.{fieldsFrom, NumberRead, onNumber, NameRead, onName, OverRead, OneRead, onOne, TwoRead, onTwo, ThreeRead, onThree, NameNumberRead}
+use Rattle.console.specs.Line.{Line, bad, Form, name}
+use Rattle.console.specs.Inner.{fieldsFrom, NameRead, onName, counted, onNumbers, NumbersRead}
 
 fields-are : (s : List ℕ) (at : ℕ) → at ≤ length s → fieldsFrom s at ≡ parts 44 (drop at s)
 unfolding fieldsFrom
@@ -47,27 +44,42 @@ fields-cut {s} {at} {e} p = fields-are s at (omega arith) ∙ go (ltb e (length 
 pub fields-all : (s : List ℕ) → fieldsFrom s 0 ≡ parts 44 s
 fields-all s = fields-are s 0 (omega arith)
 
--- whether a field is left
-pub over-read : (s : List ℕ) (at : ℕ) → OverRead s at (ltb (length s) at)
-over-read s at = record { says = λ x. go x (ltb (length s) at) refl; past = ltb-true (length s) at; within = ltb-false (length s) at }
-  where
-    go : (x : Line) (b : Bool) → ltb (length s) at ≡ b → over x (fieldsFrom s at) ≡ cond b x bad
-    go x true t = ap (over x) (fields-past s at (ltb-true (length s) at t))
-    go x false t = ap (over x) (fields-cut (part-end 44 s at (ltb-false (length s) at t)))
+-- numbers
+module _ {s : List ℕ} {at n : ℕ} where
+  pub numbers-none : length s < at → n ≡ 0 → NumbersRead s at n (Are 0 0 0)
+  numbers-none h e = record { says = λ k. ap₂ (λ (m : ℕ) (fs : List (List ℕ)). counted m k fs) e (fields-past s at h) }
 
--- a number
-pub number-past : {s : List ℕ} {at : ℕ} → length s < at → NumberRead s at numberField.Not
-number-past {s} {at} h = record { says = λ k. ap (number k) (fields-past s at h) }
+  pub numbers-more : at ≤ length s → n ≡ 0 → NumbersRead s at n Not
+  numbers-more h e = record { says = λ k. ap₂ (λ (m : ℕ) (fs : List (List ℕ)). counted m k fs) e (fields-cut (part-end 44 s at h)) }
 
-abbrev onNumberOf : (ℕ → Form) → List (List ℕ) → Option ℕ → Line
-onNumberOf k fs r = elim r [ none ↦ bad | some n ↦ k n fs ]
+  -- one at least
+  module _ {m : ℕ} (e : suc m ≡ n) where
+    one-less : {r : Numbers} → NumbersRead s at (suc m) r → NumbersRead s at n r
+    one-less {r} h = subst (λ (x : ℕ). NumbersRead s at x r) e h
 
-module _ {s : List ℕ} {at e : ℕ} (p : PartEnd 44 s at e) where
-  pub number-not : numberOf 10 (slice at e s) ≡ none → NumberRead s at numberField.Not
-  number-not h = record { says = λ k. ap (number k) (fields-cut p) ∙ ap (onNumberOf k (fieldsFrom s (e + 1))) h }
+    pub numbers-few : length s < at → NumbersRead s at n Not
+    numbers-few h = one-less (record { says = λ k. ap (counted (suc m) k) (fields-past s at h) })
 
-  pub number-is : {n : ℕ} → numberOf 10 (slice at e s) ≡ some n → NumberRead s at (numberField.Is n (e + 1))
-  number-is h = record { says = λ k. ap (number k) (fields-cut p) ∙ ap (onNumberOf k (fieldsFrom s (e + 1))) h }
+    module _ {end : ℕ} (p : PartEnd 44 s at end) where
+      abbrev after : (ℕ → ℕ → ℕ → Line) → Option ℕ → Line
+      after k r = elim r [ none ↦ bad | some a ↦ counted m (λ b c d. k a b c) (fieldsFrom s (end + 1)) ]
+
+      first : (k : ℕ → ℕ → ℕ → Line) {r : Option ℕ} → numberOf 10 (slice at end s) ≡ r → counted (suc m) k (fieldsFrom s at) ≡ after k r
+      first k h = ap (counted (suc m) k) (fields-cut p) ∙ ap (after k) h
+
+      pub number-not : numberOf 10 (slice at end s) ≡ none → NumbersRead s at n Not
+      number-not h = one-less (record { says = λ k. first k h })
+
+      -- and the others
+      module _ {a : ℕ} (h : numberOf 10 (slice at end s) ≡ some a) {r : Numbers} (others : NumbersRead s (end + 1) m r) where
+        then : (k : ℕ → ℕ → ℕ → Line) → counted (suc m) k (fieldsFrom s at) ≡ onNumbers (λ b c d. k a b c) r
+        then k = first k h ∙ others .says (λ b c d. k a b c)
+
+        pub others-not : r ≡ Not → NumbersRead s at n Not
+        others-not t = one-less (record { says = λ k. then k ∙ ap (onNumbers (λ b c d. k a b c)) t })
+
+        pub others-are : {b c d : ℕ} → r ≡ Are b c d → NumbersRead s at n (Are a b c)
+        others-are t = one-less (record { says = λ k. then k ∙ ap (onNumbers (λ b c d. k a b c)) t })
 
 -- a name
 pub name-past : {s : List ℕ} {at : ℕ} → length s < at → NameRead s at nameField.Not
@@ -83,27 +95,6 @@ module _ {s : List ℕ} {at e : ℕ} (p : PartEnd 44 s at e) where
   pub name-is : {a b c d f : ℕ} → nameOf (slice at e s) ≡ some (a ∷ b ∷ c ∷ d ∷ f ∷ []) → NameRead s at (nameField.Is a b c d f (e + 1))
   name-is h = record { says = λ k. ap (name k) (fields-cut p) ∙ ap (onNameOf k (fieldsFrom s (e + 1))) h }
 
--- what was read, once it is known
-pub over-told : {s : List ℕ} {at : ℕ} {r b : Bool} → OverRead s at r → r ≡ b → (x : Line) → over x (fieldsFrom s at) ≡ cond b x bad
-over-told h e x = h .says x ∙ ap (λ (t : Bool). cond t x bad) e
-
-pub number-told : {s : List ℕ} {at : ℕ} {r q : NumberField} → NumberRead s at r → r ≡ q → (k : ℕ → Form) → number k (fieldsFrom s at) ≡ onNumber k s q
-number-told {s} h e k = h .says k ∙ ap (onNumber k s) e
-
-pub name-told : {s : List ℕ} {at : ℕ} {r q : NameField} → NameRead s at r → r ≡ q → (k : List ℕ → Form) → name k (fieldsFrom s at) ≡ onName k s q
+pub name-told : {s : List ℕ} {at : ℕ} {r q : NameField} → NameRead s at r → r ≡ q → (k : List ℕ → Form)
+    → name k (fieldsFrom s at) ≡ onName k s q
 name-told {s} h e k = h .says k ∙ ap (onName k s) e
-
-pub one-told : {s : List ℕ} {at : ℕ} {r q : One} → OneRead s at r → r ≡ q → (k : ℕ → Line) → number (λ n. over (k n)) (fieldsFrom s at) ≡ onOne k q
-one-told h e k = h .says k ∙ ap (onOne k) e
-
-pub two-told : {s : List ℕ} {at : ℕ} {r q : Two} → TwoRead s at r → r ≡ q → (k : ℕ → ℕ → Line)
-    → number (λ n. number (λ m. over (k n m))) (fieldsFrom s at) ≡ onTwo k q
-two-told h e k = h .says k ∙ ap (onTwo k) e
-
-pub three-told : {s : List ℕ} {at : ℕ} {r q : Three} → ThreeRead s at r → r ≡ q → (k : ℕ → ℕ → ℕ → Line)
-    → number (λ n. number (λ m. number (λ l. over (k n m l)))) (fieldsFrom s at) ≡ onThree k q
-three-told h e k = h .says k ∙ ap (onThree k) e
-
-pub pair-told : {s : List ℕ} {at : ℕ} {r : NameNumber} {q : One} → NameNumberRead s at r → r .number ≡ q → (k : List ℕ → ℕ → Line)
-    → name (λ nm. number (λ n. over (k nm n))) (fieldsFrom s at) ≡ onOne (k (r .name)) q
-pair-told {r = r} h e k = h .says k ∙ ap (onOne (k (r .name))) e

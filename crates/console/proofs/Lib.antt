@@ -3,7 +3,7 @@ pub mod LongLines
 pub mod LineEnds
 pub mod FieldLaws
 pub mod NameBytes
-pub mod Words
+pub mod WordLaws
 pub mod KeyLaws
 pub mod OneLine
 pub mod LineOutcome

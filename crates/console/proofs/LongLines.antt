@@ -8,7 +8,7 @@ use mathlib.Core.List.{List, _++_}
 use lib.ListN.{length, take, length-append}
 use lib.Seq.{length-take-le, take-all}
 use Rattle.console.specs.Line.{lineOf}
-use Rattle.console.proofs.Words.{line-long}
+use Rattle.console.proofs.WordLaws.{line-long}
 
 pub cut-line : (a b : List ℕ) → lineOf (take 73 a ++ b) ≡ lineOf (a ++ b)
 cut-line a b = go (decLt 73 (length a))

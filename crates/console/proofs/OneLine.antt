@@ -26,8 +26,9 @@ use Rattle.console.specs.Line.{Line, bad, PAGE, asks, lineOf}
 use Rattle.console.specs.Console.{keyed, keyedIn}
 use Rattle.console.specs.Sheet.{room, lent, answerLine, shown, printedBytes, lineShown}
 use Rattle.console.specs.Inner.{valuesLine, answerBytes}
+use Rattle.rules.proofs.shared.OneAnswer.{one-answer}
 use Rattle.console.proofs.AnswerLaws.{answer-room}
-use Rattle.console.proofs.KeyLaws.{doing, done-is}
+use Rattle.console.proofs.KeyLaws.{doing}
 
 -- the line for an answer says what the answer says
 pub answer-line : (buf : List ℕ) (r : Outcome) → answerLine (beside buf (told r)) ≡ answerBytes (r .answer)
@@ -163,7 +164,7 @@ module _ (t : Tables) (l out : List ℕ) (big : room ≤ length out) (fits : sou
           go : (s : Bool) → sound t ≡ s → s ≡ false
           go true e =
               let k = same ∙ keyed-page t l e p out (omega (arith, fits e)) in
-              absurd (other p (length (page (plain t))) (done-is (r .answer) (length (page (plain t))) (ap (λ (w : Written). w .number) k) (ap (λ (w : Written). w .values) k)))
+              absurd (other p (length (page (plain t))) (one-answer (r .answer) (Done (length (page (plain t)))) (ap (λ (w : Written). w .number) k) (ap (λ (w : Written). w .values) k)))
           go false e = refl
 
       pub printed-kept : after ≡ out

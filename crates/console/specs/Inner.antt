@@ -1,81 +1,51 @@
 -- What inner functions ask and promise; nothing here need be believed for the calls.
 -- Assumes nothing.
-use Prim.Native.Nat.{ℕ, _≤_, _<_}
+use Prim.Native.Nat.{ℕ, zero, suc}
 use mathlib.Core.Path.{_≡_}
-use mathlib.Core.Bool.{Bool, true, false, cond}
+use mathlib.Core.Bool.{Bool, true, false, cond, _&&_}
 use mathlib.Core.List.{List, [], _∷_, _++_, map}
-use lib.ListN.{length, drop}
-use lib.Dec.{leb}
+use lib.ListN.{length, getD, drop, replicate}
+use lib.Dec.{leb, eqb}
+use Rattle.lists.specs.Lists.{alike}
 use Rattle.text.specs.Text.{text, decimal, between, parts}
-use Rattle.rules.specs.Requests.{PR, OF, EXEC5, EXEC5ALL, EXEC12, LOAD, operator, RU, SS, GO, EXEC4, EXEC15, EXEC16, EXEC6, EXEC7, EXEC11, EXEC9, EXEC10, ALLOC, LOCK, CLEAR, FREE, FRESH, TICK, running}
+use Rattle.rules.specs.Requests.{EXEC5ALL, ALLOC}
+use Rattle.rules.specs.Coded.{theRequest}
+use Rattle.rules.specs.Answers as answers
+use Rattle.rules.specs.Engine.{beside, notSound}
 use Rattle.rules.specs.declared.Answer.{Answer}
+use Rattle.rules.specs.declared.Order.the-variants.{Ru, Ss, Go, Pr, Of}
+use Rattle.rules.specs.declared.Call.the-variants.{Exec4, Exec15, Exec5, Exec16, Exec5All, Exec6, Exec7, Exec11, Exec9, Exec10, Exec12, Alloc, Lock, Clear, Free}
+use Rattle.rules.specs.declared.Request.the-variants.{Fresh, Load, Operator, Tick, Running}
 use Rattle.tables.specs.declared.Tables.{Tables}
 use Rattle.tables.specs.Sound.{sound}
 use Rattle.tables.specs.Calls.{Result}
-use Rattle.rules.specs.Engine.{beside, notSound}
 use Rattle.page.specs.Paging.{Written}
-use Rattle.console.specs.declared.Asked.{Asked}
-use Rattle.console.specs.declared.fields.NumberField.{NumberField}
-use Rattle.console.specs.declared.fields.NameField.{NameField}
-use Rattle.console.specs.declared.fields.One.{One}
-use Rattle.console.specs.declared.fields.Two.{Two}
-use Rattle.console.specs.declared.fields.Three.{Three}
-use Rattle.console.specs.declared.fields.NameNumber.{NameNumber}
-use Rattle.console.specs.Line.{Line, bad, PAGE, asks, Form, over, number, name, word, _↝_, calls}
-use Rattle.console.specs.Console.{obeyed}
+use Rattle.console.specs.declared.Said.{Said}
+use Rattle.console.specs.declared.Said.the-variants.{Bad, Page, Asks}
 use Rattle.console.specs.declared.Command.{Command}
-use Rattle.rules.specs.Answers as answers
-use Rattle.console.specs.declared.fields.NumberField.the-variants as numberField
+use Rattle.console.specs.declared.fields.Numbers.{Numbers}
+use Rattle.console.specs.declared.fields.Numbers.the-variants as numbersRead
+use Rattle.console.specs.declared.fields.NameField.{NameField}
 use Rattle.console.specs.declared.fields.NameField.the-variants as nameField
-use Rattle.console.specs.declared.fields.One.the-variants as one
-use Rattle.console.specs.declared.fields.Two.the-variants as two
-use Rattle.console.specs.declared.fields.Three.the-variants as three
-use Rattle.console.specs.declared.Asked.the-variants as c
+use Rattle.console.specs.declared.words.Word.{Word}
+use Rattle.console.specs.Line.{Line, bad, PAGE, asks, Form, over, number, name, Entry, word, unknown, _↝_, calls, execs, numbers, forms}
+use Rattle.console.specs.Console.{obeyed}
 
--- what the code's commands say, in the grammar's terms: with a name, where the line has one
-abbrev pub saying : List ℕ → Asked → Line
-saying nm c.Bad = bad
-saying nm c.Page = PAGE
-saying nm (c.Fresh t s r) = asks (FRESH t s r)
-saying nm (c.Load n) = asks (LOAD nm n)
-saying nm c.Ru = asks (operator RU nm)
-saying nm c.Ss = asks (operator SS nm)
-saying nm c.Go = asks (operator GO nm)
-saying nm (c.Pr n) = asks (operator (PR n) nm)
-saying nm (c.Of k) = asks (operator (OF k) nm)
-saying nm c.Tick = asks TICK
-saying nm (c.Exec4 n w) = asks (running (EXEC4 n w))
-saying nm (c.Exec5 n s) = asks (running (EXEC5 n s))
-saying nm c.Exec5All = asks (running EXEC5ALL)
-saying nm c.Exec6 = asks (running EXEC6)
-saying nm c.Exec7 = asks (running EXEC7)
-saying nm c.Exec9 = asks (running (EXEC9 nm))
-saying nm c.Exec10 = asks (running (EXEC10 nm))
-saying nm c.Exec11 = asks (running EXEC11)
-saying nm (c.Exec12 r m o) = asks (running (EXEC12 nm r m o))
-saying nm (c.Exec15 n w) = asks (running (EXEC15 n w))
-saying nm (c.Exec16 n s) = asks (running (EXEC16 n s))
-saying nm (c.AllocLocal w) = asks (running (ALLOC false w))
-saying nm (c.AllocGlobal w) = asks (running (ALLOC true w))
-saying nm (c.Lock r w) = asks (running (LOCK r w))
-saying nm (c.Clear r) = asks (running (CLEAR r))
-saying nm (c.Free r) = asks (running (FREE r))
+-- what the code's commands say, in the grammar's terms
+abbrev pub saying : List ℕ → Said → Line
+saying nm Bad = bad
+saying nm Page = PAGE
+saying nm (Asks q) = asks (theRequest nm q)
 
-abbrev pub said : Command → Line
-said x = saying (x .name) (x .asked)
+abbrev pub says : Command → Line
+says x = saying (x .name) (x .said)
 
 -- the fields from a place on; past the end there is none
 unfoldable pub fieldsFrom : List ℕ → ℕ → List (List ℕ)
 fieldsFrom s at = cond (leb at (length s)) (parts 44 (drop at s)) []
 
--- What reading a field comes to, whatever the form does with it: the form goes on with what was read and the fields behind it, or the line is bad.
-abbrev pub onNumber : (ℕ → Form) → List ℕ → NumberField → Line
-onNumber k s numberField.Not = bad
-onNumber k s (numberField.Is n next) = k n (fieldsFrom s next)
-
-pub record NumberRead (s : List ℕ) (at : ℕ) (r : NumberField) : Type 0 where
-  pub says : (k : ℕ → Form) → number k (fieldsFrom s at) ≡ onNumber k s r
-
+-- What reading comes to, whatever the form does with it: the form goes on with what was read and the fields behind it, or the line is bad.
+-- First a name;
 abbrev pub onName : (List ℕ → Form) → List ℕ → NameField → Line
 onName k s nameField.Not = bad
 onName k s (nameField.Is a b c d e next) = k (a ∷ b ∷ c ∷ d ∷ e ∷ []) (fieldsFrom s next)
@@ -83,51 +53,85 @@ onName k s (nameField.Is a b c d e next) = k (a ∷ b ∷ c ∷ d ∷ e ∷ []) 
 pub record NameRead (s : List ℕ) (at : ℕ) (r : NameField) : Type 0 where
   pub says : (k : List ℕ → Form) → name k (fieldsFrom s at) ≡ onName k s r
 
-pub record OverRead (s : List ℕ) (at : ℕ) (r : Bool) : Type 0 where
-  pub says : (x : Line) → over x (fieldsFrom s at) ≡ cond r x bad
-  pub past : r ≡ true → length s < at
-  pub within : r ≡ false → at ≤ length s
+-- then n numbers that the line ends with, and 0 for each that there is not
+abbrev pub counted : ℕ → (ℕ → ℕ → ℕ → Line) → Form
+counted zero k = over (k 0 0 0)
+counted (suc n) k = number λ a. counted n (λ b c d. k a b c)
 
--- the numbers that a line ends with
-abbrev pub onOne : (ℕ → Line) → One → Line
-onOne k one.Not = bad
-onOne k (one.Is n) = k n
+abbrev pub onNumbers : (ℕ → ℕ → ℕ → Line) → Numbers → Line
+onNumbers k numbersRead.Not = bad
+onNumbers k (numbersRead.Are a b c) = k a b c
 
-pub record OneRead (s : List ℕ) (at : ℕ) (r : One) : Type 0 where
-  pub says : (k : ℕ → Line) → number (λ n. over (k n)) (fieldsFrom s at) ≡ onOne k r
+pub record NumbersRead (s : List ℕ) (at n : ℕ) (r : Numbers) : Type 0 where
+  pub says : (k : ℕ → ℕ → ℕ → Line) → counted n k (fieldsFrom s at) ≡ onNumbers k r
 
-abbrev pub onTwo : (ℕ → ℕ → Line) → Two → Line
-onTwo k two.Not = bad
-onTwo k (two.Is n m) = k n m
+-- The words as the code numbers them, each with the word before it, whether a name comes next, and how many numbers; and what each says
+-- where no word comes behind it.
+abbrev pub noWord : ℕ
+noWord = 29
 
-pub record TwoRead (s : List ℕ) (at : ℕ) (r : Two) : Type 0 where
-  pub says : (k : ℕ → ℕ → Line) → number (λ n. number (λ m. over (k n m))) (fieldsFrom s at) ≡ onTwo k r
+abbrev pub row : ℕ → Bool → ℕ → Word
+row before named n = record { 0 = before; 1 = named; 2 = n }
 
-abbrev pub onThree : (ℕ → ℕ → ℕ → Line) → Three → Line
-onThree k three.Not = bad
-onThree k (three.Is n m l) = k n m l
+unfoldable pub rows : List Word
+rows =
+    row noWord false 0
+    ∷ row 0 false 3 ∷ row 0 true 1 ∷ row 0 true 0 ∷ row 0 true 0 ∷ row 0 true 0 ∷ row 0 true 1 ∷ row 0 true 1 ∷ row 0 false 0
+    ∷ row 0 false 0 ∷ row 0 false 0 ∷ row 0 false 0
+    ∷ row 9 false 2 ∷ row 9 false 2 ∷ row 9 false 2 ∷ row 9 false 2 ∷ row 9 false 0 ∷ row 9 false 0 ∷ row 9 false 0
+    ∷ row 9 true 0 ∷ row 9 true 0 ∷ row 9 true 3
+    ∷ row 10 false 0 ∷ row 10 false 2 ∷ row 10 false 1 ∷ row 10 false 1
+    ∷ row 22 false 1 ∷ row 22 false 1
+    ∷ row 14 false 0
+    ∷ []
 
-pub record ThreeRead (s : List ℕ) (at : ℕ) (r : Three) : Type 0 where
-  pub says : (k : ℕ → ℕ → ℕ → Line) → number (λ n. number (λ m. number (λ l. over (k n m l)))) (fieldsFrom s at) ≡ onThree k r
+abbrev pub rowAt : ℕ → Word
+rowAt i = getD rows i (row 0 false 0)
 
-pub record NameNumberRead (s : List ℕ) (at : ℕ) (r : NameNumber) : Type 0 where
-  pub says : (k : List ℕ → ℕ → Line) → name (λ nm. number (λ n. over (k nm n))) (fieldsFrom s at) ≡ onOne (k (r .name)) (r .number)
+unfoldable pub requests : ℕ → ℕ → ℕ → List Said
+requests a b c =
+    Bad
+    ∷ Asks (Fresh a b c) ∷ Asks (Load a) ∷ Asks (Operator Ru) ∷ Asks (Operator Ss) ∷ Asks (Operator Go) ∷ Asks (Operator (Pr a))
+    ∷ Asks (Operator (Of a)) ∷ Asks Tick ∷ Bad ∷ Bad ∷ Page
+    ∷ Asks (Running (Exec4 a b)) ∷ Asks (Running (Exec15 a b)) ∷ Asks (Running (Exec5 a b)) ∷ Asks (Running (Exec16 a b))
+    ∷ Asks (Running Exec6) ∷ Asks (Running Exec7) ∷ Asks (Running Exec11) ∷ Asks (Running Exec9) ∷ Asks (Running Exec10)
+    ∷ Asks (Running (Exec12 a b c))
+    ∷ Bad ∷ Asks (Running (Lock a b)) ∷ Asks (Running (Clear a)) ∷ Asks (Running (Free a))
+    ∷ Asks (Running (Alloc false a)) ∷ Asks (Running (Alloc true a))
+    ∷ Asks (Running Exec5All)
+    ∷ []
 
--- lines behind their first words: EXEC 12, EXEC 5, LOAD, PR, OF
-abbrev pub timing : Form
-timing = name λ nm. number λ r. number λ m. number λ o. calls (EXEC12 nm r m o)
+abbrev pub request : ℕ → List ℕ → ℕ → ℕ → ℕ → Line
+request i nm a b c = saying nm (getD (requests a b c) i Bad)
 
-abbrev pub giving : Form
-giving = word ("ALL" ↝ calls EXEC5ALL ∷ []) (number λ n. number λ s. calls (EXEC5 n s))
+abbrev pub taking : Bool → ℕ → ℕ → Form
+taking true n i = name (λ nm. counted n (request i nm))
+taking false n i = counted n (request i (replicate 5 32))
 
-abbrev pub loading : Form
-loading = name λ nm. number λ p. over (asks (LOAD nm p))
+unfoldable pub ended : ℕ → Form
+ended i = taking (rowAt i .1) (rowAt i .2) i
 
-abbrev pub pricing : Form
-pricing = name λ nm. number λ n. over (asks (operator (PR n) nm))
+-- the grammar's forms in the same order
+unfoldable pub entries : List Entry
+unfolding execs numbers forms
+entries =
+    ("" ↝ word forms unknown ∷ forms)
+    ++ execs
+    ++ numbers
+    ++ ("L" ↝ (number λ w. calls (ALLOC false w)) ∷ "G" ↝ (number λ w. calls (ALLOC true w)) ∷ "ALL" ↝ calls EXEC5ALL ∷ [])
 
-abbrev pub ending : Form
-ending = name λ nm. number λ k. over (asks (operator (OF k) nm))
+unfoldable pub keys : List (List ℕ)
+unfolding execs numbers forms entries
+keys = map (λ e. text (e .key)) entries
+
+unfoldable pub behind : ℕ → Form
+behind i fs = getD (map (λ e. e .form fs) entries) i bad
+
+-- the number of the word behind word `last` that f is; or how many there are
+abbrev pub seek : ℕ → List ℕ → List Word → List (List ℕ) → ℕ
+seek last f [] ws = 0
+seek last f (r ∷ rs) [] = 0
+seek last f (r ∷ rs) (w ∷ ws) = cond (eqb (r .0) last && alike f w) 0 (suc (seek last f rs ws))
 
 -- what a line that says l does
 unfoldable pub obeys : Tables → List ℕ → Line → Written
@@ -137,8 +141,16 @@ obeys t buf l = elim (sound t) [ true ↦ obeyed t buf l | false ↦ beside buf 
 abbrev pub refusing : Tables → Result
 refusing t = elim (sound t) [ true ↦ record { number = 13; values = 0 ∷ []; tables = t } | false ↦ notSound t ]
 
-abbrev pub isPage : Asked → Bool
-isPage a = elim (saying [] a) [ bad ↦ false | PAGE ↦ true | asks q ↦ false ]
+abbrev pub isPage : Said → Bool
+isPage Bad = false
+isPage Page = true
+isPage (Asks q) = false
+
+-- the value, where there is one
+abbrev pub single : List ℕ → ℕ
+single [] = 0
+single (v ∷ []) = v
+single (v ∷ w ∷ vs) = 0
 
 -- the bytes printed for an answer
 unfoldable pub valuesLine : Answer → List ℕ

@@ -2,9 +2,9 @@
 -- Assumes nothing.
 use Prim.Native.Nat.{ℕ}
 use Prim.Native.String.{String}
-use mathlib.Core.Bool.{Bool, true, false}
+use mathlib.Core.Bool.{true, false}
 use mathlib.Core.List.{List, [], _∷_}
-use mathlib.Core.Option.{Option, none, some}
+use mathlib.Core.Option.{none, some}
 use lib.ListN.{length}
 use Rattle.lists.specs.Lists.{upTo, alike}
 use Rattle.text.specs.Text.{text, numberOf, parts}
@@ -57,46 +57,33 @@ infixl 90 _↝_
 abbrev pub calls : Call → Form
 calls c = over (asks (running c))
 
--- EXEC: the calls from 10 on, and all
-unfoldable pub execsOn : List Entry
-execsOn =
-    "10" ↝ (name λ nm. calls (EXEC10 nm))
-    ∷ "11" ↝ calls EXEC11
-    ∷ "12" ↝ (name λ nm. number λ r. number λ m. number λ o. calls (EXEC12 nm r m o))
-    ∷ "15" ↝ (number λ n. number λ w. calls (EXEC15 n w))
-    ∷ "16" ↝ (number λ n. number λ s. calls (EXEC16 n s))
-    ∷ []
-
+-- the call behind EXEC
 unfoldable pub execs : List Entry
-unfolding execsOn
 execs =
     "4" ↝ (number λ n. number λ w. calls (EXEC4 n w))
+    ∷ "15" ↝ (number λ n. number λ w. calls (EXEC15 n w))
     ∷ "5" ↝ (word ("ALL" ↝ calls EXEC5ALL ∷ []) (number λ n. number λ s. calls (EXEC5 n s)))
+    ∷ "16" ↝ (number λ n. number λ s. calls (EXEC16 n s))
     ∷ "6" ↝ calls EXEC6
     ∷ "7" ↝ calls EXEC7
+    ∷ "11" ↝ calls EXEC11
     ∷ "9" ↝ (name λ nm. calls (EXEC9 nm))
-    ∷ execsOn
+    ∷ "10" ↝ (name λ nm. calls (EXEC10 nm))
+    ∷ "12" ↝ (name λ nm. number λ r. number λ m. number λ o. calls (EXEC12 nm r m o))
+    ∷ []
 
--- RN: local or global, and all
-unfoldable pub allocs : List Entry
-allocs = "L" ↝ (number λ w. calls (ALLOC false w)) ∷ "G" ↝ (number λ w. calls (ALLOC true w)) ∷ []
-
+-- the call behind RN
 unfoldable pub numbers : List Entry
-unfolding allocs
 numbers =
-    "ALLOC" ↝ word allocs unknown
+    "ALLOC" ↝ (word ("L" ↝ (number λ w. calls (ALLOC false w)) ∷ "G" ↝ (number λ w. calls (ALLOC true w)) ∷ []) unknown)
     ∷ "LOCK" ↝ (number λ r. number λ w. calls (LOCK r w))
     ∷ "CLEAR" ↝ (number λ r. calls (CLEAR r))
     ∷ "FREE" ↝ (number λ r. calls (FREE r))
     ∷ []
 
--- the lines that begin without a name or a size, and all
-unfoldable pub others : List Entry
-unfolding execs numbers
-others = "TICK" ↝ over (asks TICK) ∷ "EXEC" ↝ word execs unknown ∷ "RN" ↝ word numbers unknown ∷ "PAGE" ↝ over PAGE ∷ []
-
+-- the first word
 unfoldable pub forms : List Entry
-unfolding others
+unfolding execs numbers
 forms =
     "FRESH" ↝ (number λ t. number λ s. number λ r. over (asks (FRESH t s r)))
     ∷ "LOAD" ↝ (name λ nm. number λ p. over (asks (LOAD nm p)))
@@ -105,7 +92,11 @@ forms =
     ∷ "GO" ↝ (name λ nm. over (asks (operator GO nm)))
     ∷ "PR" ↝ (name λ nm. number λ n. over (asks (operator (PR n) nm)))
     ∷ "OF" ↝ (name λ nm. number λ k. over (asks (operator (OF k) nm)))
-    ∷ others
+    ∷ "TICK" ↝ over (asks TICK)
+    ∷ "EXEC" ↝ word execs unknown
+    ∷ "RN" ↝ word numbers unknown
+    ∷ "PAGE" ↝ over PAGE
+    ∷ []
 
 -- a line of bytes
 unfoldable pub lineOf : List ℕ → Line

@@ -1,9 +1,9 @@
 -- What the program `sheet` prints for a text (OUTLINE, "The page and the console line").
 -- Assumes nothing.
 use Prim.Native.Nat.{ℕ, _+_}
-use mathlib.Core.Bool.{Bool, true, false, cond, _&&_}
+use mathlib.Core.Bool.{true, false, cond, _&&_}
 use mathlib.Core.List.{List, [], _∷_, _++_, map}
-use lib.ListN.{length, getD, take, drop, replicate}
+use lib.ListN.{length, getD, drop, replicate}
 use lib.Dec.{leb, eqb}
 use Rattle.text.specs.Text.{text, decimal, between, parts}
 use Rattle.tables.specs.declared.Tables.{Tables}

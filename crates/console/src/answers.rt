@@ -1,13 +1,13 @@
 // Answers as they are printed: the outline's number, and the value or the parts of a time.
 ghost use mathlib.Core.Path.{_≡_};
 ghost use Prim.Native.Nat.{_+_, _≤_};
-ghost use mathlib.Core.List.{map};
+ghost use mathlib.Core.List.{_∷_, map};
 ghost use lib.ListN.{length};
 ghost use Rattle.text.specs.Text.{decimal, between};
 ghost use Rattle.text.specs.Inner.{Wrote};
 ghost use Rattle.clock.specs.Clock.{partsOf};
 ghost use Rattle.rules.specs.Answers.{number, values};
-ghost use Rattle.console.specs.Inner.{valuesLine, answerBytes};
+ghost use Rattle.console.specs.Inner.{single, valuesLine, answerBytes};
 ghost use Rattle.console.specs.Sheet.{printedBytes};
 use clock::Time;
 use rules::Answer;
@@ -46,20 +46,49 @@ pub fn bytes_printed(answer: Answer) -> usize
     }
 }
 
+// The one value of an answer; of a time 0.
+fn value_of(answer: Answer) -> u64
+    ensures { λ r. ⌜ r ≡ single (values answer) ⌝ }
+{
+    match answer {
+        Answer::Done(v) => v,
+        Answer::Told(_) => 0,
+        Answer::Waits(s) => s as u64,
+        Answer::NoCaller => 0,
+        Answer::NotAllowed => 0,
+        Answer::NoProgram => 0,
+        Answer::WrongState(s) => s as u64,
+        Answer::NameInUse => 0,
+        Answer::AllUsed => 0,
+        Answer::NoRoom => 0,
+        Answer::NotHolder => 0,
+        Answer::NotAllocated => 0,
+        Answer::AtCeiling => 0,
+        Answer::TooShort(n) => n,
+        Answer::NotUnderstood => 0,
+        Answer::NotSound => 0,
+    }
+}
+
+// A dot, and n.
+fn put_dotted(buf: &mut [u8], at: usize, n: u64) -> usize
+    requires { ⌜ at + 1 + length (decimal n) ≤ length (now buf) ⌝ }
+    ensures { λ r. ⌜ Wrote (now (buf .entry)) at (46 ∷ decimal n) (now (buf .exit)) r ⌝ }
+{
+    let next = text::put_byte(buf, at, b'.');
+    text::put_number(buf, next, n)
+}
+
 // day.hour.minute.second.hundredth
 fn put_time(buf: &mut [u8], at: usize, t: Time) -> usize
     requires { ⌜ at + length (between 46 (map decimal (partsOf t))) ≤ length (now buf) ⌝ }
     ensures { λ r. ⌜ Wrote (now (buf .entry)) at (between 46 (map decimal (partsOf t))) (now (buf .exit)) r ⌝ }
 {
     let a = text::put_number(buf, at, t.day);
-    let b = text::put_byte(buf, a, b'.');
-    let c = text::put_number(buf, b, t.hour);
-    let d = text::put_byte(buf, c, b'.');
-    let e = text::put_number(buf, d, t.minute);
-    let f = text::put_byte(buf, e, b'.');
-    let g = text::put_number(buf, f, t.second);
-    let h = text::put_byte(buf, g, b'.');
-    text::put_number(buf, h, t.hundredth)
+    let b = put_dotted(buf, a, t.hour);
+    let c = put_dotted(buf, b, t.minute);
+    let d = put_dotted(buf, c, t.second);
+    put_dotted(buf, d, t.hundredth)
 }
 
 fn put_values(buf: &mut [u8], at: usize, answer: Answer) -> usize
@@ -67,22 +96,8 @@ fn put_values(buf: &mut [u8], at: usize, answer: Answer) -> usize
     ensures { λ r. ⌜ Wrote (now (buf .entry)) at (valuesLine answer) (now (buf .exit)) r ⌝ }
 {
     match answer {
-        Answer::Done(v) => text::put_number(buf, at, v),
         Answer::Told(t) => put_time(buf, at, t),
-        Answer::Waits(s) => text::put_number(buf, at, s as u64),
-        Answer::WrongState(s) => text::put_number(buf, at, s as u64),
-        Answer::TooShort(n) => text::put_number(buf, at, n),
-        Answer::NoCaller
-        | Answer::NotAllowed
-        | Answer::NoProgram
-        | Answer::NameInUse
-        | Answer::AllUsed
-        | Answer::NoRoom
-        | Answer::NotHolder
-        | Answer::NotAllocated
-        | Answer::AtCeiling
-        | Answer::NotUnderstood
-        | Answer::NotSound => text::put_number(buf, at, 0),
+        _ => text::put_number(buf, at, value_of(answer)),
     }
 }
 

@@ -1,12 +1,12 @@
 // The fields of a line. A place is where a field begins; past the line's end there is none.
 ghost use Prim.Native.Nat.{_≤_};
 ghost use lib.ListN.{length};
-ghost use Rattle.console.specs.Inner.{NumberRead, NameRead, OverRead, OneRead, TwoRead, ThreeRead, NameNumberRead};
+ghost use Rattle.console.specs.Inner.{NumbersRead, NameRead};
 use text::Number;
 
-// The number in a field, and the next place; or none, where there is no field or no number in it.
-pub(crate) enum NumberField {
-    Is(u64, usize),
+// The numbers that a line ends with, 0 where there are fewer than three; or not, where they are not there.
+pub(crate) enum Numbers {
+    Are(u64, u64, u64),
     Not,
 }
 
@@ -16,40 +16,28 @@ pub(crate) enum NameField {
     Not,
 }
 
-// The numbers that a line ends with.
-pub(crate) enum One {
-    Is(u64),
-    Not,
-}
-
-pub(crate) enum Two {
-    Is(u64, u64),
-    Not,
-}
-
-pub(crate) enum Three {
-    Is(u64, u64, u64),
-    Not,
-}
-
-// A name, and the number behind it that a line ends with; where one of the two is missing there is no number.
-pub(crate) struct NameNumber {
-    pub name: [u8; 5],
-    pub number: One,
-}
-
-pub(crate) fn number_field(s: &[u8], at: usize) -> NumberField
+// k numbers, and no field behind them.
+pub(crate) fn read_numbers(s: &[u8], at: usize, k: usize) -> Numbers
     requires { ⌜ length (now s) ≤ 72 ⌝ }
-    ensures { λ r. ⌜ NumberRead (now (s .entry)) at r ⌝ }
+    ensures { λ r. ⌜ NumbersRead (now (s .entry)) at k r ⌝ }
 {
     if s.len() < at {
-        return NumberField::Not;
+        if k == 0 {
+            return Numbers::Are(0, 0, 0);
+        }
+        return Numbers::Not;
+    }
+    if k == 0 {
+        return Numbers::Not;
     }
     let end = text::part_end(s, at, b',');
     let Number::Is(n) = text::read_number(s, at, end) else {
-        return NumberField::Not;
+        return Numbers::Not;
     };
-    NumberField::Is(n, end + 1)
+    let Numbers::Are(a, b, _) = read_numbers(s, end + 1, k - 1) else {
+        return Numbers::Not;
+    };
+    Numbers::Are(n, a, b)
 }
 
 pub(crate) fn name_field(s: &[u8], at: usize) -> NameField
@@ -77,67 +65,4 @@ pub(crate) fn name_field(s: &[u8], at: usize) -> NameField
         return NameField::Not;
     }
     NameField::Is(name[0], name[1], name[2], name[3], name[4], end + 1)
-}
-
-// Whether no field is left.
-pub(crate) fn is_over(s: &[u8], at: usize) -> bool
-    ensures { λ r. ⌜ OverRead (now (s .entry)) at r ⌝ }
-{
-    s.len() < at
-}
-
-pub(crate) fn one_number(s: &[u8], at: usize) -> One
-    requires { ⌜ length (now s) ≤ 72 ⌝ }
-    ensures { λ r. ⌜ OneRead (now (s .entry)) at r ⌝ }
-{
-    let NumberField::Is(n, next) = number_field(s, at) else {
-        return One::Not;
-    };
-    if is_over(s, next) {
-        return One::Is(n);
-    }
-    One::Not
-}
-
-pub(crate) fn two_numbers(s: &[u8], at: usize) -> Two
-    requires { ⌜ length (now s) ≤ 72 ⌝ }
-    ensures { λ r. ⌜ TwoRead (now (s .entry)) at r ⌝ }
-{
-    let NumberField::Is(n, next) = number_field(s, at) else {
-        return Two::Not;
-    };
-    let One::Is(m) = one_number(s, next) else {
-        return Two::Not;
-    };
-    Two::Is(n, m)
-}
-
-pub(crate) fn three_numbers(s: &[u8], at: usize) -> Three
-    requires { ⌜ length (now s) ≤ 72 ⌝ }
-    ensures { λ r. ⌜ ThreeRead (now (s .entry)) at r ⌝ }
-{
-    let NumberField::Is(n, next) = number_field(s, at) else {
-        return Three::Not;
-    };
-    let Two::Is(m, l) = two_numbers(s, next) else {
-        return Three::Not;
-    };
-    Three::Is(n, m, l)
-}
-
-pub(crate) fn name_number(s: &[u8], at: usize) -> NameNumber
-    requires { ⌜ length (now s) ≤ 72 ⌝ }
-    ensures { λ r. ⌜ NameNumberRead (now (s .entry)) at r ⌝ }
-{
-    let NameField::Is(a, b, c, d, e, next) = name_field(s, at) else {
-        return NameNumber {
-            name: [32; 5],
-            number: One::Not,
-        };
-    };
-    let number = one_number(s, next);
-    NameNumber {
-        name: [a, b, c, d, e],
-        number: number,
-    }
 }

@@ -1,15 +1,12 @@
 // What a line does, and what is printed for it.
 ghost use mathlib.Core.Path.{_≡_};
-ghost use Rattle.rules.specs.Requests.{FRESH};
-ghost use Rattle.tables.specs.Sound.{sound};
-ghost use Rattle.tables.specs.Calls.{told, asked};
+ghost use Rattle.tables.specs.Calls.{told};
 ghost use Rattle.rules.specs.Engine.{beside};
-ghost use Rattle.console.specs.Line.{bad};
 ghost use Rattle.console.specs.Console.{keyed};
 ghost use Rattle.console.specs.Sheet.{lineShown};
-ghost use Rattle.console.specs.Inner.{obeys, refusing, isPage, said};
-use super::Asked;
+ghost use Rattle.console.specs.Inner.{obeys, refusing, isPage, says};
 use super::Command;
+use super::Said;
 use super::answers;
 use super::parse;
 use rules::Answer;
@@ -32,60 +29,16 @@ fn not_understood(tables: Tables) -> Outcome
     }
 }
 
-// FRESH as a line: refused, it keeps the tables given to it.
-fn renew(tables: Tables, tracks: u64, system: u64, numbers: u64) -> Outcome
-    ensures { λ r. ⌜ told r ≡ asked tables (FRESH tracks system numbers) ⌝ }
-{
-    if !tables.is_sound() {
-        return Outcome {
-            answer: Answer::NotSound,
-            tables: tables,
-        };
-    }
-    let made = Tables::fresh(tracks, system, numbers);
-    let answer = made.answer;
-    let Answer::Done(_) = answer else {
-        return Outcome {
-            answer: answer,
-            tables: tables,
-        };
-    };
-    made
-}
-
 // What a command does.
 fn obey(tables: Tables, command: Command, buf: &mut [u8]) -> Outcome
-    ensures { λ r. ⌜ beside (now (buf .exit)) (told r) ≡ obeys tables (now (buf .entry)) (said command) ⌝ }
+    ensures { λ r. ⌜ beside (now (buf .exit)) (told r) ≡ obeys tables (now (buf .entry)) (says command) ⌝ }
 {
     let name = command.name;
-    let asked = command.asked;
-    match asked {
-        Asked::Bad => not_understood(tables),
-        Asked::Page => page::write_page(tables, buf),
-        Asked::Fresh(t, s, r) => renew(tables, t, s, r),
-        Asked::Load(n) => tables.load(name, n),
-        Asked::Ru => tables.ru(name),
-        Asked::Ss => tables.ss(name),
-        Asked::Go => tables.go(name),
-        Asked::Pr(n) => tables.pr(name, n),
-        Asked::Of(k) => tables.off(name, k),
-        Asked::Tick => tables.tick(),
-        Asked::Exec4(n, w) => tables.exec4(n, w),
-        Asked::Exec5(n, start) => tables.exec5(n, start),
-        Asked::Exec5All => tables.exec5_all(),
-        Asked::Exec6 => tables.exec6(),
-        Asked::Exec7 => tables.exec7(),
-        Asked::Exec9 => tables.exec9(name),
-        Asked::Exec10 => tables.exec10(name),
-        Asked::Exec11 => tables.exec11(),
-        Asked::Exec12(r, m, o) => tables.exec12(name, r, m, o),
-        Asked::Exec15(n, w) => tables.exec15(n, w),
-        Asked::Exec16(n, start) => tables.exec16(n, start),
-        Asked::AllocLocal(w) => tables.alloc(false, w),
-        Asked::AllocGlobal(w) => tables.alloc(true, w),
-        Asked::Lock(r, w) => tables.lock(r, w),
-        Asked::Clear(r) => tables.clear(r),
-        Asked::Free(r) => tables.free(r),
+    let said = command.said;
+    match said {
+        Said::Bad => not_understood(tables),
+        Said::Page => page::write_page(tables, buf),
+        Said::Asks(q) => tables.ask(name, q),
     }
 }
 
@@ -97,12 +50,13 @@ pub fn key_line(tables: Tables, line: &[u8], buf: &mut [u8]) -> Outcome
     obey(tables, command, buf)
 }
 
-fn is_page(asked: Asked) -> bool
-    ensures { λ r. ⌜ r ≡ isPage asked ⌝ }
+fn is_page(said: Said) -> bool
+    ensures { λ r. ⌜ r ≡ isPage said ⌝ }
 {
-    match asked {
-        Asked::Page => true,
-        _ => false,
+    match said {
+        Said::Bad => false,
+        Said::Page => true,
+        Said::Asks(_) => false,
     }
 }
 
@@ -117,11 +71,11 @@ pub fn print_line(tables: Tables, line: &[u8], out: &mut [u8]) -> Outcome
         };
     }
     let command = parse::command_of(line);
-    let asked = command.asked;
+    let said = command.said;
     let outcome = obey(tables, command, out);
     let after = outcome.tables;
     let answer = outcome.answer;
-    if is_page(asked) {
+    if is_page(said) {
         if let Answer::Done(_) = answer {
             return outcome;
         }

@@ -1,7 +1,6 @@
 -- `console::keying::print_line` meets its contract. Every page fits the 8,192 bytes that are lent, so PAGE done has put the page at their front; any other line, and
 -- PAGE refused, leaves them as they were, and the line for its answer goes there. Assumes nothing.
 use Prim.Native.Nat.{ℕ, _≤_}
-use native.Mathlib.Omega.{arith}
 use mathlib.Core.Path.{_≡_, sym, ap, _∙_}
 use mathlib.Core.Bool.{true}
 use mathlib.Core.List.{List}
@@ -23,7 +22,8 @@ use Rattle.console.specs.Line.{PAGE, lineOf}
 use Rattle.console.specs.Console.{keyed}
 use Rattle.console.specs.Sheet.{room}
 use Rattle.console.specs.Inner.{obeys}
-use Rattle.console.proofs.KeyLaws.{keyed-obeys, done-not, page-said, page-unsaid}
+use Rattle.console.proofs.AnswerLaws.{done-not}
+use Rattle.console.proofs.KeyLaws.{keyed-obeys, page-said, page-unsaid}
 use Rattle.console.proofs.OneLine.{shown-short, printed-page, printed-room, printed-answer}
 use Rattle.console.proofs.keying.print_line.Statement.{statement}
 use Rattle.console.proofs.keying.print_line.Tie as tie
@@ -64,7 +64,7 @@ Obeyed c = c .before .before .before .before
 asks-page : (c : tie.Then2) → lineOf (S (Obeyed (c .before)) .args .line .now) ≡ PAGE
 asks-page c =
     let p = Obeyed (c .before) .before .before .command-of in
-    sym (p .ensures) ∙ page-said (p .result) (sym (c .before .is-page .ensures) ∙ c .if2 .taken)
+    sym (p .ensures) ∙ page-said (p .result .name) (p .result .said) (sym (c .before .is-page .ensures) ∙ c .if2 .taken)
 
 -- where the code comes to the answer's line it is not PAGE that is done
 other : (c : tie.Joined2) → lineOf (S (Obeyed (c .before)) .args .line .now) ≡ PAGE → (n : ℕ) → Obeyed (c .before) .obey .result .answer ≡ Done n → ⊥
@@ -73,7 +73,7 @@ other c =
     let p = o .before .before .command-of in
     elim (c .if2 .came) [
       | inl w ↦ λ q. done-not (o .obey .result .answer) (w .1 .keys2)
-      | inr w ↦ λ q. absurd (page-unsaid (p .result) (sym (c .before .is-page .ensures) ∙ w .left) (p .ensures ∙ q))
+      | inr w ↦ λ q. absurd (page-unsaid (p .result .name) (p .result .said) (sym (c .before .is-page .ensures) ∙ w .left) (p .ensures ∙ q))
     ]
 
 returns : tie.Need-returns

@@ -1,36 +1,88 @@
--- `console::parse::command_of` meets its contract: a line of 1 to 72 bytes says what its first field does. Assumes nothing.
-use mathlib.Core.Path.{sym, _∙_}
+-- `console::parse::command_of` meets its contract. The invariant: the line says what the fields from `at` on say behind the last word.
+-- Assumes nothing.
+use Prim.Native.Nat.{_+_, _-_, _<_, _≤_}
 use native.Mathlib.Omega.{arith}
+use mathlib.Core.Path.{_≡_, sym, _∙_}
+use lib.ListN.{length}
 use borrow.Author.Needs.{needs}
-use Rattle.console.proofs.Words.{nameless-says, line-none, line-long, line-fits}
+use Rattle.console.specs.Line.{lineOf}
+use Rattle.console.specs.Inner.{noWord, fieldsFrom, behind}
+use Rattle.console.proofs.WordLaws.{told-keys, word-past, word-none, word-next, line-long, line-fits}
 use Rattle.console.proofs.parse.command_of.Statement.{statement}
 use Rattle.console.proofs.parse.command_of.Tie as tie
 
-nameless-requires : tie.Need-nameless-requires
-nameless-requires c κs = search needs
+abbrev Inv-loop : tie.InvT-loop
+Inv-loop s all at₀ last₀ at last = (last < noWord) × (at ≤ length s + 1) × (lineOf s ≡ behind last (fieldsFrom s at))
 
-returns : tie.Need-returns
-returns c = nameless-says (c .nameless .ensures) (line-none (c .before .before .before .args .s .now) (c .before .if1 .taken))
+abbrev μ-loop : tie.MeasureT-loop
+μ-loop s all at₀ last₀ at last = length s + 1 - at
 
-nameless-requires-2 : tie.Need-nameless-requires-2
-nameless-requires-2 c κs = search needs
+not-said-requires : tie.Need-not-said-requires Inv-loop μ-loop
+not-said-requires c κs = search needs
 
-returns-2 : tie.Need-returns-2
-returns-2 c = nameless-says (c .nameless2 .ensures) (line-long (c .before .before .before .before .args .s .now) (c .before .if2 .taken))
+returns : tie.Need-returns Inv-loop μ-loop
+returns c = c .not-said .ensures ∙ sym (line-long (c .before .before .before .args .s .now) (c .before .if1 .taken))
 
-first-form-requires : tie.Need-first-form-requires
-first-form-requires c κs = search needs
+loop-holds : tie.Need-loop-holds Inv-loop μ-loop
+loop-holds c = (omega arith, omega arith, line-fits (c .before .before .before .args .s .now) (c .before .if1 .left))
 
-returns-3 : tie.Need-returns-3
-returns-3 c = c .first-form .ensures ∙ sym (line-fits (c .before .before .before .before .args .s .now) (omega arith) (omega arith))
+part-end-requires : tie.Need-part-end-requires Inv-loop μ-loop
+part-end-requires c κs = omega arith
+
+which-requires : tie.Need-which-requires Inv-loop μ-loop
+which-requires c κs = (omega arith, (omega arith, told-keys))
+
+end-of-requires : tie.Need-end-of-requires Inv-loop μ-loop
+end-of-requires c κs = (omega arith, omega arith)
+
+returns-2 : tie.Need-returns-2 Inv-loop μ-loop
+returns-2 c =
+    let w = c .before .before in
+    let p = w .before .before in
+    let l = p .before .before in
+    let s = l .before .before .before .before in
+    let none = word-none (l .loop .inv .0) (s .args .s .now) (l .loop .at) (p .part-end .ensures) (w .which .ensures) (c .before .if2 .taken) in
+    c .end-of .ensures ∙ sym (l .loop .inv .2 ∙ none)
+
+add-at : tie.Need-add-at Inv-loop μ-loop
+add-at c = omega arith
+
+loop-less : tie.Need-loop-less Inv-loop μ-loop
+loop-less c = omega arith
+
+loop-again : tie.Need-loop-again Inv-loop μ-loop
+loop-again c =
+    let w = c .before in
+    let p = w .before .before in
+    let l = p .before .before in
+    let s = l .before .before .before .before in
+    let next = word-next (l .loop .inv .0) (s .args .s .now) (l .loop .at) (p .part-end .ensures) (w .which .ensures) (c .if2 .left) in
+    (c .if2 .left, omega arith, l .loop .inv .2 ∙ next)
+
+end-of-requires-2 : tie.Need-end-of-requires-2 Inv-loop μ-loop
+end-of-requires-2 c κs = (omega arith, omega arith)
+
+returns-3 : tie.Need-returns-3 Inv-loop μ-loop
+returns-3 c =
+    let l = c .before .before in
+    let s = l .before .before .before .before in
+    c .end-of2 .ensures ∙ sym (l .loop .inv .2 ∙ word-past (l .loop .inv .0) (s .args .s .now) (l .loop .at) (c .before .loop-test .left))
 
 pub command-of-spec : {M : Type 1} → statement M
 command-of-spec =
     tie.close
     (tie.spec
-    nameless-requires
+    Inv-loop
+    μ-loop
+    not-said-requires
     returns
-    nameless-requires-2
+    loop-holds
+    part-end-requires
+    which-requires
+    end-of-requires
     returns-2
-    first-form-requires
+    add-at
+    loop-less
+    loop-again
+    end-of-requires-2
     returns-3)

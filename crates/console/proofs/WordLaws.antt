@@ -1,0 +1,183 @@
+-- Laws of the words of a line: looking a field up in the grammar's tables is seeking it among the words that the code numbers.
+-- Assumes nothing.
+use Prim.Native.Nat.{ℕ, zero, suc, _+_, _-_, _<_, _≤_}
+use native.Mathlib.Numerals.{add-one}
+use native.Mathlib.Omega.{arith}
+use mathlib.Core.Path.{_≡_, refl, sym, ap, ap₂, _∙_}
+use mathlib.Core.Bool.{Bool, true, false, cond, _&&_}
+use mathlib.Core.List.{List, [], _∷_, map}
+use lib.Dec.{eqb, ltb}
+use lib.ListN.{length, getD, take, drop, drop-of-length-le, List·getD-eq-default}
+use lib.Seq.{slice, drop-cons}
+use borrow.Author.Tests.{ltb-true, ltb-false}
+use Rattle.lists.specs.Lists.{upTo, alike}
+use Rattle.lists.proofs.Tests.{upTo-is}
+use Rattle.text.specs.Text.{text, parts}
+use Rattle.text.specs.Inner.{PartEnd}
+use Rattle.text.proofs.Fields.{drop-take}
+use Rattle.text.proofs.Read.{upTo-over}
+use Rattle.console.specs.declared.words.Word.{Word}
+use Rattle.console.specs.Line.{Line, bad, Form, Entry, lookUp, execs, numbers, forms, lineOf}
+use Rattle.console.specs.Inner.{fieldsFrom, noWord, row, rows, rowAt, requests, taking, ended, entries, keys, behind, seek}
+use Rattle.console.proofs.FieldLaws.{fields-past, fields-cut, fields-all}
+
+-- of the entries, those behind the word `last`
+abbrev under : ℕ → List Word → List Entry → List Entry
+under last [] es = []
+under last (r ∷ rs) [] = []
+under last (r ∷ rs) (e ∷ es) = cond (eqb (r .0) last) (e ∷ under last rs es) (under last rs es)
+
+abbrev texts : List Entry → List (List ℕ)
+texts es = map (λ e. text (e .key)) es
+
+module _ (last : ℕ) (f : List ℕ) (fs : List (List ℕ)) (x : Form) where
+  abbrev at : List Entry → ℕ → Line
+  at es i = getD (map (λ e. e .form fs) es) i (x (f ∷ fs))
+
+  abbrev place : List Word → List Entry → ℕ
+  place rs es = seek last f rs (texts es)
+
+  look-seek : (rs : List Word) (es : List Entry) → length rs ≡ length es → lookUp (under last rs es) x f fs ≡ at es (place rs es)
+  look-seek [] [] h = refl
+  look-seek [] (e ∷ es) h = absurd (omega arith)
+  look-seek (r ∷ rs) [] h = absurd (omega arith)
+  look-seek (r ∷ rs) (e ∷ es) h = go (eqb (r .0) last) (look-seek rs es (omega arith))
+    where
+      hit : (b : Bool) → lookUp (under last rs es) x f fs ≡ at es (place rs es)
+          → elim b [ true ↦ e .form fs | false ↦ lookUp (under last rs es) x f fs ] ≡ at (e ∷ es) (cond b 0 (suc (place rs es)))
+      hit true ih = refl
+      hit false ih = ih
+
+      go : (b : Bool) → lookUp (under last rs es) x f fs ≡ at es (place rs es)
+          → lookUp (cond b (e ∷ under last rs es) (under last rs es)) x f fs
+          ≡ at (e ∷ es) (cond (b && alike f (text (e .key))) 0 (suc (place rs es)))
+      go true ih = hit (alike f (text (e .key))) ih
+      go false ih = ih
+
+-- what stands at a place of a list hangs on no default
+getD-within : (l : List Line) (i : ℕ) (x y : Line) → i < length l → getD l i x ≡ getD l i y
+getD-within [] i x y h = absurd (omega arith)
+getD-within (z ∷ l) zero x y h = refl
+getD-within (z ∷ l) (suc i) x y h = getD-within l i x y (omega arith)
+
+-- a list told by its places
+abbrev tabled : ℕ → (ℕ → Line) → List Line
+tabled zero g = []
+tabled (suc n) g = g 0 ∷ tabled n (λ i. g (suc i))
+
+tabled-at : (n : ℕ) (g : ℕ → Line) (i : ℕ) (x : Line) → i < n → getD (tabled n g) i x ≡ g i
+tabled-at zero g i x h = absurd (omega arith)
+tabled-at (suc n) g zero x h = refl
+tabled-at (suc n) g (suc i) x h = tabled-at n (λ j. g (suc j)) i x (omega arith)
+
+-- no field, and a field: the grammar's form behind each word is what the code's tables say
+behind-none : (i : ℕ) → i < noWord → behind i [] ≡ ended i []
+unfolding execs numbers forms rows requests ended entries behind
+behind-none i h = tabled-at noWord (λ j. ended j []) i bad h
+
+module _ (f : List ℕ) (fs : List (List ℕ)) where
+  behind-look : (i : ℕ) → i < noWord → behind i (f ∷ fs) ≡ lookUp (under i rows entries) (ended i) f fs
+  unfolding execs numbers forms rows requests ended entries behind
+  behind-look i h = tabled-at noWord (λ j. lookUp (under j rows entries) (ended j) f fs) i bad h
+
+  behind-seek : (i : ℕ) → i < noWord → behind i (f ∷ fs) ≡ at i f fs (ended i) entries (seek i f rows keys)
+  unfolding execs numbers forms rows entries keys
+  behind-seek i h = behind-look i h ∙ look-seek i f fs (ended i) rows entries refl
+
+-- the words as the code tells them
+pub told-keys : parts 44 (text ",FRESH,LOAD,RU,SS,GO,PR,OF,TICK,EXEC,RN,PAGE,4,15,5,16,6,7,11,9,10,12,ALLOC,LOCK,CLEAR,FREE,L,G,ALL") ≡ keys
+unfolding parts execs numbers forms entries keys
+told-keys = refl
+
+-- behind word `last`: no field, a field that is no word there, a field that is word j
+module _ {last : ℕ} (known : last < noWord) (s : List ℕ) (at : ℕ) where
+  pub word-past : length s < at → behind last (fieldsFrom s at) ≡ ended last (fieldsFrom s at)
+  word-past h = ap (behind last) (fields-past s at h) ∙ behind-none last known ∙ ap (ended last) (sym (fields-past s at h))
+
+  module _ {end j : ℕ} (p : PartEnd 44 s at end) (which : j ≡ seek last (slice at end s) rows keys) where
+    abbrev lines : List Line
+    lines = map (λ e. e .form (fieldsFrom s (end + 1))) entries
+
+    there : behind last (fieldsFrom s at) ≡ getD lines j (ended last (fieldsFrom s at))
+    there =
+        ap (behind last) (fields-cut p) ∙ behind-seek (slice at end s) (fieldsFrom s (end + 1)) last known
+        ∙ ap₂ (λ (i : ℕ) (x : Line). getD lines i x) (sym which) (ap (ended last) (sym (fields-cut p)))
+
+    pub word-none : noWord ≤ j → behind last (fieldsFrom s at) ≡ ended last (fieldsFrom s at)
+    unfolding execs numbers forms entries
+    word-none h = there ∙ List·getD-eq-default lines (ended last (fieldsFrom s at)) h
+
+    pub word-next : j < noWord → behind last (fieldsFrom s at) ≡ behind j (fieldsFrom s (end + 1))
+    unfolding execs numbers forms entries behind
+    word-next h = there ∙ getD-within lines j (ended last (fieldsFrom s at)) bad h
+
+-- the whole line
+line-is : (s : List ℕ) (b : Bool) → upTo 1 72 (length s) ≡ b → lineOf s ≡ elim b [ true ↦ behind 0 (fieldsFrom s 0) | false ↦ bad ]
+unfolding lineOf entries behind
+line-is s b h =
+    ap (λ (fs : List (List ℕ)). elim (upTo 1 72 (length s)) [ true ↦ behind 0 fs | false ↦ bad ]) (sym (fields-all s))
+    ∙ ap (λ (t : Bool). elim t [ true ↦ behind 0 (fieldsFrom s 0) | false ↦ bad ]) h
+
+pub line-long : (s : List ℕ) → 72 < length s → lineOf s ≡ bad
+line-long s h = line-is s false (upTo-over 1 72 (length s) h)
+
+-- one of no bytes has no word
+pub line-fits : (s : List ℕ) → length s ≤ 72 → lineOf s ≡ behind 0 (fieldsFrom s 0)
+unfolding lineOf parts fieldsFrom execs numbers forms entries behind
+line-fits [] h = refl
+line-fits (x ∷ s) h = line-is (x ∷ s) true (upTo-is 1 72 (length (x ∷ s)) (omega arith) h)
+
+-- what word i says where no word comes, by its row
+pub ended-as : (i : ℕ) {w : Word} {named : Bool} → w ≡ rowAt i → w .1 ≡ named → (fs : List (List ℕ))
+    → ended i fs ≡ taking named (w .2) i fs
+unfolding ended
+ended-as i {w} e h fs = ap (λ (x : Word). taking (x .1) (x .2) i fs) (sym e) ∙ ap (λ (b : Bool). taking b (w .2) i fs) h
+
+-- The search among the words: what is left of them, from word i and the place `from` on, is searched in the same way.
+pub record Seeking (last : ℕ) (f words : List ℕ) (i from : ℕ) : Type 0 where
+  pub left : length (fieldsFrom words from) + i ≡ noWord
+  pub same : seek last f rows keys ≡ i + seek last f (drop i rows) (fieldsFrom words from)
+
+pub seeking-start : {last : ℕ} {f words : List ℕ} → parts 44 words ≡ keys → Seeking last f words 0 0
+unfolding execs numbers forms entries keys
+seeking-start {last} {f} {words} h = record {
+  left = omega (arith, ap length (fields-all words ∙ h));
+  same = omega (arith, ap (seek last f rows) (fields-all words ∙ h));
+}
+
+module _ {last : ℕ} {f words : List ℕ} {i from : ℕ} (h : Seeking last f words i from) where
+  pub seeking-place : i < noWord → from ≤ length words
+  seeking-place l = go (ltb (length words) from) refl
+    where
+      go : (b : Bool) → ltb (length words) from ≡ b → from ≤ length words
+      go true t = absurd (omega (arith, h .left, ap length (fields-past words from (ltb-true (length words) from t))))
+      go false t = ltb-false (length words) from t
+
+  pub seeking-end : noWord ≤ i → i ≡ seek last f rows keys
+  unfolding rows
+  seeking-end l =
+      omega (arith, h .same, ap (λ (rs : List Word). seek last f rs (fieldsFrom words from)) (drop-of-length-le rows {i = i} l))
+
+  module _ {to : ℕ} (p : PartEnd 44 words from to) (l : i < noWord) {b : Bool}
+      (test : (eqb (rowAt i .0) last && alike f (take (to - from) (drop from words))) ≡ b) where
+    abbrev rest : ℕ
+    rest = seek last f (drop (i + 1) rows) (fieldsFrom words (to + 1))
+
+    taken : slice from to words ≡ take (to - from) (drop from words)
+    taken = let e : to ≡ from + (to - from) = omega arith in ap (λ (k : ℕ). slice from k words) e ∙ drop-take from (to - from) words
+
+    seeking-cut : seek last f (drop i rows) (fieldsFrom words from) ≡ cond b 0 (suc rest)
+    unfolding rows
+    seeking-cut =
+        ap₂ (seek last f) (drop-cons rows i (row 0 false 0) l ∙ ap (λ (k : ℕ). rowAt i ∷ drop k rows) (sym (add-one i))) (fields-cut p)
+        ∙ ap (λ (w : List ℕ). cond (eqb (rowAt i .0) last && alike f w) 0 (suc rest)) taken
+        ∙ ap (λ (t : Bool). cond t 0 (suc rest)) test
+
+    pub seeking-hit : b ≡ true → i ≡ seek last f rows keys
+    seeking-hit e = omega (arith, h .same, seeking-cut ∙ ap (λ (t : Bool). cond t 0 (suc rest)) e)
+
+    pub seeking-next : b ≡ false → Seeking last f words (i + 1) (to + 1)
+    seeking-next e = record {
+      left = omega (arith, h .left, ap length (fields-cut p));
+      same = omega (arith, h .same, seeking-cut ∙ ap (λ (t : Bool). cond t 0 (suc rest)) e);
+    }

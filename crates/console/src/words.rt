@@ -1,0 +1,116 @@
+// The words of a line. Each stands behind another word, or behind the line's start, which is word 0.
+ghost use mathlib.Core.Path.{_≡_};
+ghost use Prim.Native.Nat.{_≤_, _<_};
+ghost use lib.ListN.{length, getD};
+ghost use lib.Seq.{slice};
+ghost use Rattle.text.specs.Text.{parts};
+ghost use Rattle.console.specs.Inner.{noWord, rows, rowAt, requests, keys, seek};
+use super::Said;
+use rules::Call;
+use rules::Order;
+use rules::Request;
+
+// How many words there are; none has this number.
+pub(crate) const NO_WORD: usize = 29;
+
+// The word before, whether a name comes next, and how many numbers come behind that.
+pub(crate) struct Word(pub usize, pub bool, pub usize);
+
+const WORDS: [Word; NO_WORD] = [
+    Word(NO_WORD, false, 0), // the start
+    Word(0, false, 3), // FRESH,T,S,R
+    Word(0, true, 1), // LOAD,name,priority
+    Word(0, true, 0), // RU,name
+    Word(0, true, 0), // SS,name
+    Word(0, true, 0), // GO,name
+    Word(0, true, 1), // PR,name,number
+    Word(0, true, 1), // OF,name,figure
+    Word(0, false, 0), // TICK
+    Word(0, false, 0), // EXEC
+    Word(0, false, 0), // RN
+    Word(0, false, 0), // PAGE
+    Word(9, false, 2), // EXEC,4,n,w
+    Word(9, false, 2), // EXEC,15,n,w
+    Word(9, false, 2), // EXEC,5,n,start
+    Word(9, false, 2), // EXEC,16,n,start
+    Word(9, false, 0), // EXEC,6
+    Word(9, false, 0), // EXEC,7
+    Word(9, false, 0), // EXEC,11
+    Word(9, true, 0), // EXEC,9,name
+    Word(9, true, 0), // EXEC,10,name
+    Word(9, true, 3), // EXEC,12,name,resolution,multiple,offset
+    Word(10, false, 0), // RN,ALLOC
+    Word(10, false, 2), // RN,LOCK,r,w
+    Word(10, false, 1), // RN,CLEAR,r
+    Word(10, false, 1), // RN,FREE,r
+    Word(22, false, 1), // RN,ALLOC,L,w
+    Word(22, false, 1), // RN,ALLOC,G,w
+    Word(14, false, 0), // EXEC,5,ALL
+];
+
+pub(crate) fn word_of(i: usize) -> Word
+    requires { ⌜ i < noWord ⌝ }
+    ensures { λ r. ⌜ r ≡ rowAt i ⌝ }
+{
+    WORDS[i]
+}
+
+// What a line says whose last word is word i, and whose numbers are a, b and c as far as there are any.
+pub(crate) fn said_by(i: usize, a: u64, b: u64, c: u64) -> Said
+    requires { ⌜ i < noWord ⌝ }
+    ensures { λ r. ⌜ r ≡ getD (requests a b c) i Said.Bad ⌝ }
+{
+    let all = [
+        Said::Bad,
+        Said::Asks(Request::Fresh(a, b, c)),
+        Said::Asks(Request::Load(a)),
+        Said::Asks(Request::Operator(Order::Ru)),
+        Said::Asks(Request::Operator(Order::Ss)),
+        Said::Asks(Request::Operator(Order::Go)),
+        Said::Asks(Request::Operator(Order::Pr(a))),
+        Said::Asks(Request::Operator(Order::Of(a))),
+        Said::Asks(Request::Tick),
+        Said::Bad,
+        Said::Bad,
+        Said::Page,
+        Said::Asks(Request::Running(Call::Exec4(a, b))),
+        Said::Asks(Request::Running(Call::Exec15(a, b))),
+        Said::Asks(Request::Running(Call::Exec5(a, b))),
+        Said::Asks(Request::Running(Call::Exec16(a, b))),
+        Said::Asks(Request::Running(Call::Exec6)),
+        Said::Asks(Request::Running(Call::Exec7)),
+        Said::Asks(Request::Running(Call::Exec11)),
+        Said::Asks(Request::Running(Call::Exec9)),
+        Said::Asks(Request::Running(Call::Exec10)),
+        Said::Asks(Request::Running(Call::Exec12(a, b, c))),
+        Said::Bad,
+        Said::Asks(Request::Running(Call::Lock(a, b))),
+        Said::Asks(Request::Running(Call::Clear(a))),
+        Said::Asks(Request::Running(Call::Free(a))),
+        Said::Asks(Request::Running(Call::Alloc(false, a))),
+        Said::Asks(Request::Running(Call::Alloc(true, a))),
+        Said::Asks(Request::Running(Call::Exec5All)),
+    ];
+    all[i]
+}
+
+// Which word behind word `last` the field s[at..end] is, or `NO_WORD`; the words are told in order, with commas between them.
+pub(crate) fn which(s: &[u8], at: usize, end: usize, last: usize, words: &[u8]) -> usize
+    requires { ⌜ at ≤ end ⌝ }
+    requires { ⌜ end ≤ length (now s) ⌝ }
+    requires { ⌜ parts 44 (now words) ≡ keys ⌝ }
+    ensures { λ r. ⌜ r ≡ seek last (slice at end (now (s .entry))) rows keys ⌝ }
+{
+    let mut i = 0;
+    let mut from = 0;
+    while i < NO_WORD {
+        let to = text::part_end(words, from, b',');
+        let word = word_of(i);
+        if (word.0 == last) & text::is_word(s, at, end, &words[from..to]) {
+            return i;
+        }
+        from = to + 1;
+        i += 1;
+    }
+    i
+}
