@@ -1,19 +1,19 @@
 -- What a case of the bench is: tables at the start, and steps with what the outline says of each. A case is told anew by computing every step through the
 -- definitions that the calls' contracts cite, soundness, the plain state and its laying out included.
 -- Assumes nothing.
-use Prim.Native.Nat.{ℕ, zero, suc}
+use Prim.Native.Nat.{ℕ}
 use Prim.Native.String.{String}
 use mathlib.Core.List.{List, [], _∷_}
-use lib.ListN.{length, getD, replicate}
+use lib.ListN.{getD, replicate}
 use Rattle.text.specs.Text.{text}
 use Rattle.rules.specs.Requests.{Request}
-use Rattle.rules.specs.Book.{Book, at}
+use Rattle.rules.specs.Book.{at}
 use Rattle.rules.specs.Test.{sonOf}
 use Rattle.tables.specs.declared.Tables.{Tables}
-use Rattle.tables.specs.Tables.{plain, smallest}
+use Rattle.tables.specs.Tables.{plain}
 use Rattle.page.specs.Paging.{Written, linked}
 use Rattle.console.specs.Sheet.{sheet}
-use Rattle.history.specs.Runs.{Made, request, page, line, step}
+use Rattle.history.specs.Runs.{request, page, line, step}
 
 pub data Step : Type 0 where
   key : String → ℕ → List ℕ → Step  -- a console line, its number and values

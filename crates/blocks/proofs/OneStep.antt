@@ -8,10 +8,9 @@ use mathlib.Core.Path.{_≡_, sym, ap, _∙_}
 use mathlib.Core.List.{List, []}
 use lib.ListN.{length, take, drop, drop-of-length-le}
 use lib.Seq.{take-append-seam, length-take-le}
-use Rattle.text.specs.Text.{parts}
 use Rattle.tables.specs.declared.Tables.{Tables}
 use Rattle.console.specs.Sheet.{room}
-use Rattle.blocks.specs.Blocks.{unended, Turn, turns, most, Carried, carried, OneBlock}
+use Rattle.blocks.specs.Blocks.{Turn, turns, most, Carried, carried, OneBlock}
 use Rattle.blocks.proofs.AllTurns.{all-turns}
 use Rattle.blocks.proofs.Copying.{carried-part, carried-turned}
 

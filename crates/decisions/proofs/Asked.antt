@@ -3,12 +3,12 @@
 use Prim.Native.Nat.{ℕ, _+_, _*_, _≤_, _<_}
 use native.Mathlib.Omega.{arith}
 use native.Mathlib.Nat.{mul-le-mul-right}
-use mathlib.Core.Path.{_≡_, refl, sym, ap, _∙_, subst}
+use mathlib.Core.Path.{_≡_, sym, ap, _∙_, subst}
 use mathlib.Core.Logic.{_≢_}
 use mathlib.Core.Bool.{Bool, true, false, not, cond, _&&_}
 use mathlib.Core.List.{List, [], _∷_, _++_}
 use lib.Dec.{leb, eqb}
-use borrow.Author.Tests.{not-true, not-false, leb-true, eq-eqb, ne-eqb, le-leb, lt-leb, lt-ltb, le-ltb}
+use borrow.Author.Tests.{not-true, not-false, leb-true, eq-eqb, ne-eqb, le-leb, lt-ltb, le-ltb}
 use Rattle.lists.specs.Lists.{count, upTo}
 use Rattle.lists.proofs.Tests.{both, and, upTo-true}
 use Rattle.clock.specs.Clock.{unit}
@@ -20,7 +20,7 @@ use Rattle.tracks.specs.Tracks.{nobody, replaced}
 use Rattle.rules.specs.Book.{stateOf, prioOf}
 use Rattle.rules.specs.Requests.{LOAD, PR, OF}
 use Rattle.rules.specs.Plans.{Plan, View, refused, done, releasing, waiting, on, becomes, loaded, priced, timed, held}
-use Rattle.rules.specs.Rules.{named, plan, order, dismissed, quit, ends}
+use Rattle.rules.specs.Rules.{plan, order, dismissed, quit, ends}
 use Rattle.rules.proofs.shared.Finding.{find-bears, unused-known}
 use Rattle.rules.proofs.shared.Paths.{need-met, need-failed, named-illegal, named-missing, named-found, inside-met, inside-failed}
 use Rattle.decisions.specs.declared.naming.Task.{Task}

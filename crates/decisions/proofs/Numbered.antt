@@ -2,23 +2,23 @@
 -- Assumes nothing.
 use Prim.Native.Nat.{ℕ, _≤_, _<_}
 use native.Mathlib.Omega.{arith}
-use mathlib.Core.Path.{_≡_, refl, sym, ap, _∙_}
+use mathlib.Core.Path.{_≡_, sym, ap, _∙_}
 use mathlib.Core.Logic.{_≢_}
-use mathlib.Core.Bool.{Bool, true, false, not, cond, _&&_, _||_}
+use mathlib.Core.Bool.{Bool, true, false, not, cond, _&&_}
 use mathlib.Core.List.{List, [], _∷_}
-use lib.Dec.{leb, ltb, eqb}
+use lib.Dec.{leb, eqb}
 use lib.ListN.{length}
 use borrow.Author.Tests.{not-true, not-false, le-leb, lt-leb, lt-ltb, le-ltb, eq-eqb, ne-eqb}
-use Rattle.lists.specs.Lists.{first, from, upTo}
+use Rattle.lists.specs.Lists.{first, from}
 use Rattle.lists.proofs.Tests.{upTo-is}
 use Rattle.lists.proofs.Laws.{first-in, from-in}
 use Rattle.records.specs.declared.Resource.{Resource}
 use Rattle.records.specs.declared.Numbers.{Numbers}
 use Rattle.records.specs.declared.Why.the-variants.{Number, Lock}
 use Rattle.records.specs.Numbers.{globally, resources, numberAt}
-use Rattle.rules.specs.Plans.{Plan, View, refused, done, releasing, woken, need, either}
+use Rattle.rules.specs.Plans.{View, refused, done, releasing, woken}
 use Rattle.rules.specs.Requests.{ALLOC}
-use Rattle.rules.specs.Rules.{waits, clears, call, number, allocated}
+use Rattle.rules.specs.Rules.{waits, clears, call, number}
 use Rattle.rules.proofs.shared.Paths.{need-met, need-failed, either-so, either-not, allocated-not-ours, allocated-free, allocated-is}
 use Rattle.decisions.specs.declared.numbering.Wanted.{Wanted}
 use Rattle.decisions.specs.declared.numbering.Wanted.the-variants as wants

@@ -17,7 +17,7 @@ use Rattle.rules.specs.declared.Order.{Order}
 use Rattle.rules.specs.declared.Order.the-variants.{Ru, Ss, Go, Pr, Of}
 use Rattle.rules.specs.Requests.{Call, FRESH, TICK, operator, running}
 use Rattle.rules.specs.Coded.{theOrder}
-use Rattle.rules.specs.Plans.{View, refused, done, renewed, clocked, need}
+use Rattle.rules.specs.Plans.{View, refused, done, renewed, clocked}
 use Rattle.rules.specs.Rules.{sizes, head, plan, call, order, dueAt, ticked}
 use Rattle.rules.proofs.shared.Paths.{need-met, need-failed, caller-none, caller-is}
 use Rattle.decisions.specs.Inner.{Sizes, Fits, taskOf, going, asking}

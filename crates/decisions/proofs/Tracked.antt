@@ -2,11 +2,10 @@
 -- Assumes nothing.
 use Prim.Native.Nat.{ℕ, _+_, _≤_}
 use native.Mathlib.Omega.{arith}
-use mathlib.Core.Path.{_≡_, refl, sym, ap, _∙_}
+use mathlib.Core.Path.{_≡_, sym, ap, _∙_}
 use mathlib.Core.Bool.{Bool, true, false, _&&_}
 use mathlib.Core.List.{List, [], _∷_}
-use mathlib.Core.Option.{some}
-use lib.ListN.{length, drop}
+use lib.ListN.{drop}
 use lib.Dec.{leb}
 use borrow.Author.Tests.{leb-true, le-leb}
 use Rattle.lists.specs.Lists.{count, upTo}
@@ -19,7 +18,7 @@ use Rattle.tracks.specs.declared.Found.the-variants as found
 use Rattle.tracks.specs.Tracks.{nobody, holders, run, lowest, filled, replaced}
 use Rattle.tracks.specs.Inner.{Fit, foundIs}
 use Rattle.tracks.proofs.Runs.{lowest-found}
-use Rattle.rules.specs.Plans.{Plan, View, refused, done, held, releasing}
+use Rattle.rules.specs.Plans.{View, refused, done, held, releasing}
 use Rattle.rules.specs.Rules.{waits, frees, takes, gives, call}
 use Rattle.rules.specs.Requests.{EXEC5ALL}
 use Rattle.rules.proofs.shared.Paths.{need-met, need-failed, found-at, found-none}

@@ -2,7 +2,7 @@
 -- Assumes nothing.
 use Prim.Native.Nat.{ℕ, _+_, _*_, _≤_, _<_}
 use mathlib.Core.Path.{_≡_}
-use mathlib.Core.Bool.{Bool, true, false, cond, _&&_, _||_}
+use mathlib.Core.Bool.{Bool, true, false, _&&_, _||_}
 use mathlib.Core.List.{List, [], _∷_, _++_, map}
 use lib.ListN.{length}
 use lib.Dec.{leb, eqb}
@@ -22,7 +22,7 @@ use Rattle.rules.specs.declared.Answer.{Answer}
 use Rattle.rules.specs.declared.Order as code
 use Rattle.rules.specs.declared.Order.the-variants as order
 use Rattle.rules.specs.Answers.{number, values}
-use Rattle.rules.specs.Book.{at, stateOf, prioOf}
+use Rattle.rules.specs.Book.{at, stateOf}
 use Rattle.rules.specs.Requests.{PR, OF}
 use Rattle.rules.specs.Plans.{Event, on, becomes, priced, loaded, timed, clocked, held, renewed, Plan, refused, done, releasing, waiting, View, woken, wake, need, either, numberOf, valuesOf, eventsOf}
 use Rattle.rules.specs.Rules.{named, inside, waits, frees, clears, ends, quit, dismissed, order, dueAt, ticked, allocated}

@@ -1,9 +1,9 @@
 // What is asked of a program by its name: the operator's orders, and EXEC 9, 10 and 12. And LOAD, whose name must be new.
-ghost use Prim.Native.Nat.{ℕ, _≤_};
+ghost use Prim.Native.Nat.{ℕ};
 ghost use mathlib.Core.Path.{_≡_};
-ghost use mathlib.Core.Bool.{Bool, _&&_, _||_};
-ghost use mathlib.Core.List.{List, []};
-ghost use lib.Dec.{leb, eqb};
+ghost use mathlib.Core.Bool.{_||_};
+ghost use mathlib.Core.List.{List};
+ghost use lib.Dec.{eqb};
 ghost use Rattle.lists.specs.Lists.{upTo};
 ghost use Rattle.rules.specs.Plans.{View};
 ghost use Rattle.rules.specs.Rules.{plan};

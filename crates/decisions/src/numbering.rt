@@ -1,10 +1,9 @@
 // Resource numbers: RN ALLOC, LOCK, CLEAR and FREE.
 ghost use Prim.Native.Nat.{ℕ, _≤_};
 ghost use mathlib.Core.Path.{_≡_};
-ghost use mathlib.Core.Bool.{Bool, cond, _&&_, _||_};
+ghost use mathlib.Core.Bool.{cond, _||_};
 ghost use mathlib.Core.List.{List};
 ghost use lib.Dec.{eqb};
-ghost use Rattle.records.specs.Records.{Known};
 ghost use Rattle.records.specs.Numbers.{globally};
 ghost use Rattle.rules.specs.Plans.{View};
 ghost use Rattle.rules.specs.Rules.{call};

@@ -1,8 +1,8 @@
 -- The test of soundness and the outline's paragraph agree, for any tables: clause by clause.
 -- Assumes nothing.
-use mathlib.Core.Path.{_≡_, refl}
+use mathlib.Core.Path.{_≡_}
 use mathlib.Core.Logic.{_↔_}
-use mathlib.Core.Bool.{Bool, true, false, _&&_}
+use mathlib.Core.Bool.{true, _&&_}
 use Rattle.lists.proofs.Tests.{both, and}
 use Rattle.rules.specs.Test.{testNames, testZeros, testChains, testWhys, testSystem, testUsers, testUnlocked, testLimits, testDues}
 use Rattle.rules.proofs.tests.Agree.{names-clause, names-test, zeros-clause, zeros-test, whys-clause, whys-test, dues-clause, dues-test}

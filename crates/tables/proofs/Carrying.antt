@@ -1,8 +1,8 @@
 -- What is decided is made: the effects that need more than one move, or another table of tracks or numbers; and the answer and the tables that every effect hands back.
 -- Assumes nothing.
-use Prim.Native.Nat.{ℕ, _+_, _≤_}
+use Prim.Native.Nat.{ℕ, _+_}
 use native.Mathlib.Omega.{arith}
-use mathlib.Core.Path.{_≡_, refl, sym, ap, _∙_, subst}
+use mathlib.Core.Path.{_≡_, sym, ap, _∙_}
 use mathlib.Core.Bool.{Bool, true, false, cond}
 use mathlib.Core.List.{List, [], _∷_, _++_}
 use lib.Dec.{eqb}
@@ -14,29 +14,28 @@ use Rattle.records.specs.declared.Why.the-variants.{Nothing}
 use Rattle.records.specs.Numbers.{resources, tableOf, withNumber}
 use Rattle.records.proofs.Table.{resources-with, fit-with}
 use Rattle.tracks.specs.declared.Tracks.{Tracks}
-use Rattle.tracks.specs.Tracks.{nobody, holders, filled, replaced}
+use Rattle.tracks.specs.Tracks.{nobody, holders, replaced}
 use Rattle.tracks.specs.Tracks as tracks
-use Rattle.tracks.proofs.Fits.{Holds, filled-holds, replaced-holds}
+use Rattle.tracks.proofs.Fits.{Holds}
 use Rattle.rules.specs.declared.Answer.{Answer}
 use Rattle.rules.specs.Answers as answers
-use Rattle.rules.specs.Plans.{Event, Plan, Release, on, becomes, timed, unloaded, held, numbered, wake, woken, fromDisc, fromGeneral}
+use Rattle.rules.specs.Plans.{Event, Release, on, becomes, timed, unloaded, held, numbered, wake, woken, fromDisc, fromGeneral}
 use Rattle.rules.specs.Requests.{Request}
 use Rattle.rules.specs.Rules.{number, quit, dismissed, ends}
 use Rattle.rules.proofs.shared.Settling.{settle, off-events}
 use Rattle.rules.specs.Keeper.{lists, view, step}
 use Rattle.rules.specs.Keeper as keeper
 use Rattle.chains.specs.declared.Listing.{Listing}
-use Rattle.chains.specs.Inner.{Lists}
 use Rattle.decisions.specs.declared.Decision.{Decision}
 use Rattle.decisions.specs.declared.Effect.{Effect}
 use Rattle.decisions.specs.declared.Effect.the-variants.{Renew}
 use Rattle.decisions.specs.Inner.{eventsFor, replyFor, Decides}
 use Rattle.tables.specs.declared.Tables.{Tables}
 use Rattle.tables.specs.Tables.{plain, lay}
-use Rattle.tables.specs.Calls.{Result, told, laid, planned, asked}
-use Rattle.tables.specs.Inner.{Orderly, Ready, Played, CanHold, CanNumber, CanSettle, Counts, Awaits, carried, counted}
+use Rattle.tables.specs.Calls.{told, laid, asked}
+use Rattle.tables.specs.Inner.{Orderly, Ready, Played, CanHold, CanNumber, CanSettle, Awaits, carried, counted}
 use Rattle.tables.proofs.Waiting.{can-settle}
-use Rattle.tables.proofs.Endings.{played-as, played-on, wake-both}
+use Rattle.tables.proofs.Endings.{played-as, wake-both}
 use Rattle.tables.proofs.Serving.{Happens, laid-says, asked-sound, served-planned}
 
 -- who wakes: they can, they are so many, and their two lists wake as one

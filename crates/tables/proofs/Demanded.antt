@@ -1,12 +1,10 @@
 -- Claims and counts of the tables themselves. On sound tables a call's plain state after it is the rule's, so what holds of the rules holds of the tables.
 -- Assumes nothing.
 use Prim.Native.Nat.{ℕ, _≤_}
-use native.Mathlib.Omega.{arith}
-use mathlib.Core.Path.{_≡_, refl, sym, ap, _∙_, subst}
+use mathlib.Core.Path.{_≡_, sym, ap, _∙_, subst}
 use mathlib.Core.Bool.{true}
-use mathlib.Core.List.{List, [], _∷_}
-use Rattle.tracks.specs.Tracks.{everybody, LowestRun}
-use Rattle.rules.specs.Book.{Book}
+use mathlib.Core.List.{[], _∷_}
+use Rattle.tracks.specs.Tracks.{everybody}
 use Rattle.rules.specs.Requests.{EXEC4, EXEC15, OF, EXEC5, EXEC16, EXEC5ALL, EXEC6, CLEAR, FREE, Request, operator, TICK, running}
 use Rattle.rules.specs.Plans.{Plan, numberOf, valuesOf, refused, eventsOf}
 use Rattle.rules.specs.Keeper.{lists, State, asks, after, view}
@@ -17,13 +15,12 @@ use Rattle.rules.proofs.soundness.SoundRuns.{sound-after}
 use Rattle.rules.proofs.counts.Claims.{exec4-claims, exec15-claims}
 use Rattle.rules.proofs.counts.CountLaws.{counts}
 use Rattle.tables.specs.declared.Tables.{Tables}
-use Rattle.tables.specs.Tables.{plain, lay, Arrays, callerOf}
+use Rattle.tables.specs.Tables.{plain, Arrays, callerOf}
 use Rattle.tables.specs.Sound.{sound}
 use Rattle.tables.specs.Calls.{Result, served, asked, planned}
 use Rattle.tables.specs.Demand.{Claim, ValueFreed, ValueAwoken, ValueRoused, Counted}
 use Rattle.tables.proofs.Agree.{sound-clauses}
-use Rattle.tables.proofs.Orderly.{orderly-lay, sound-orderly}
-use Rattle.tables.proofs.Plain.{plain-lay, sound-plain, laid-is}
+use Rattle.tables.proofs.Plain.{sound-plain, laid-is}
 use Rattle.tables.proofs.Serving.{asked-sound}
 use Rattle.rules.proofs.Statements.{Claimed, Done, TellsFreed, TellsAwoken, TellsRoused, Counts}
 

@@ -1,15 +1,11 @@
 -- FRESH: what it hands back, and the fresh tables piece by piece.
 -- Assumes nothing.
-use Prim.Native.Nat.{ℕ, _-_, _≤_, _<_}
-use mathlib.Core.Path.{_≡_, refl, sym}
-use mathlib.Core.Bool.{true, false, _&&_}
+use Prim.Native.Nat.{ℕ, _-_}
+use mathlib.Core.Path.{_≡_, refl}
+use mathlib.Core.Bool.{true, false}
 use mathlib.Core.List.{[], _∷_, _++_}
 use lib.ListN.{replicate}
-use lib.Dec.{leb}
-use borrow.Author.Tests.{le-leb, lt-leb, leb-true}
 use Rattle.rules.specs.Engine.{madeBy}
-use Rattle.lists.specs.Lists.{upTo}
-use Rattle.lists.proofs.Tests.{and, both, upTo-is, upTo-true}
 use Rattle.clock.specs.declared.Clock.{Clock}
 use Rattle.records.specs.declared.Program.{Program}
 use Rattle.records.specs.declared.Numbers.{Numbers}
@@ -23,7 +19,6 @@ use Rattle.rules.specs.declared.Answer.the-variants.{Done, NotAllowed}
 use Rattle.rules.specs.Rules.{sizes}
 use Rattle.rules.specs.Keeper.{lists, fresh}
 use Rattle.chains.specs.Links.{linksOf}
-use Rattle.ledger.proofs.Bools.{last}
 use Rattle.tables.specs.declared.Tables.{Tables}
 use Rattle.tables.specs.Tables.{lay, smallest}
 use Rattle.tables.specs.Calls.{told, made}

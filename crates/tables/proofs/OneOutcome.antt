@@ -1,9 +1,7 @@
 -- Two outcomes that say the same are the same. So a contract that says what an outcome says, `told r ≡ asked t q`, determines answer, value and tables.
 -- Assumes nothing.
 use mathlib.Core.Path.{_≡_, sym, ap, _∙_}
-use Rattle.rules.specs.declared.Answer.{Answer}
 use Rattle.rules.proofs.shared.OneAnswer.{one-answer}
-use Rattle.tables.specs.declared.Tables.{Tables}
 use Rattle.tables.specs.declared.Outcome.{Outcome}
 use Rattle.tables.specs.Calls.{Result, told}
 

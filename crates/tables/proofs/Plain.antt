@@ -14,7 +14,7 @@ use Rattle.tracks.specs.Tracks.{nobody}
 use Rattle.tracks.proofs.Fits.{holders-of}
 use Rattle.rules.specs.Book.{Book}
 use Rattle.rules.specs.Requests.{Request}
-use Rattle.rules.specs.Keeper.{lists, State, after, play, view, asks}
+use Rattle.rules.specs.Keeper.{lists, State, play, view, asks}
 use Rattle.rules.specs.Sound.{Names, Zeros, Chains, Whys, System, Users, Unlocked, Limits, Dues}
 use Rattle.rules.specs.Sound as rules
 use Rattle.rules.proofs.soundness.SoundRuns.{sound-after}

@@ -1,27 +1,21 @@
 -- What the test of the tables gives to a call, and where the caller stands: sound tables are in order, and slot 1 leads to the head of the scheduled chain.
 -- Assumes nothing.
-use Prim.Native.Nat.{ℕ, _≤_, _<_}
+use Prim.Native.Nat.{ℕ, _≤_}
 use native.Mathlib.Omega.{arith}
-use mathlib.Core.Path.{_≡_, refl, sym, ap, _∙_}
-use mathlib.Core.Bool.{Bool, true, false}
+use mathlib.Core.Path.{_≡_, sym, _∙_}
+use mathlib.Core.Bool.{Bool}
 use mathlib.Core.List.{List, [], _∷_}
 use lib.ListN.{getD}
 use Rattle.records.specs.Records.{Known}
-use Rattle.rules.specs.Requests.{Call, Request, running}
-use Rattle.rules.specs.Plans.{Plan}
-use Rattle.rules.specs.Rules.{head, plan, call, asCaller}
-use Rattle.rules.specs.Keeper.{lists, view, scheduled, asks}
-use Rattle.rules.specs.declared.Answer.the-variants.{NoCaller}
-use Rattle.rules.proofs.shared.Paths.{caller-none, caller-is}
+use Rattle.rules.specs.Rules.{head}
+use Rattle.rules.specs.Keeper.{lists, scheduled}
 use Rattle.chains.specs.Links.{read, Leads}
 use Rattle.tables.specs.declared.Tables.{Tables}
 use Rattle.tables.specs.Tables.{plain, Arrays, callerOf}
 use Rattle.tables.specs.Sound.{sound}
-use Rattle.tables.specs.Calls.{Result, told, served, asked, planned}
 use Rattle.tables.specs.Inner.{Ready, Tested}
 use Rattle.tables.proofs.Agree.{sound-clauses}
 use Rattle.tables.proofs.Orderly.{sound-orderly}
-use Rattle.tables.proofs.Serving.{refuses, asked-sound}
 
 -- the test
 pub tested-is : (t : Tables) (b : Bool) → Arrays t → b ≡ sound t → Tested t b

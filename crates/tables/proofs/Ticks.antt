@@ -10,24 +10,19 @@ use mathlib.Core.Bool.{Bool, true, false, cond, _&&_}
 use mathlib.Core.List.{List, [], _∷_, map}
 use lib.ListN.{length}
 use lib.Dec.{eqb}
-use borrow.Author.Tests.{eq-eqb, ne-eqb, lt-ltb, le-ltb}
+use borrow.Author.Tests.{eq-eqb, ne-eqb}
 use Rattle.lists.specs.Lists.{hit, keep, from, join}
 use Rattle.lists.proofs.Tests.{and}
 use Rattle.clock.specs.Clock.{ceiling, farthest}
 use Rattle.records.specs.declared.Program.{Program}
 use Rattle.records.specs.declared.Why.the-variants.{Nothing}
 use Rattle.records.specs.Records.{Known, all, recordAt}
-use Rattle.rules.specs.declared.Answer.the-variants.{Done, AtCeiling}
-use Rattle.rules.specs.Book.{Book, at, stateOf}
-use Rattle.rules.specs.Requests.{TICK}
-use Rattle.rules.specs.Plans.{Event, on, becomes, timed, clocked, done}
-use Rattle.rules.specs.Rules.{plan, dueAt, ticked}
-use Rattle.rules.specs.Keeper.{lists, State, step, play}
-use Rattle.rules.proofs.shared.Paths.{need-met, need-failed}
+use Rattle.rules.specs.Book.{at}
+use Rattle.rules.specs.Plans.{Event, on, becomes, timed, clocked}
+use Rattle.rules.specs.Rules.{dueAt, ticked}
+use Rattle.rules.specs.Keeper.{lists, State, play}
 use Rattle.tables.specs.declared.Tables.{Tables}
-use Rattle.tables.specs.declared.Outcome.{Outcome}
 use Rattle.tables.specs.Tables.{plain}
-use Rattle.tables.specs.Calls.{told, served}
 use Rattle.tables.specs.Inner.{Orderly, Ready, Played, Counts, tickEvents, startsNow}
 use Rattle.tables.proofs.Agree.{sound-clauses}
 use Rattle.tables.proofs.Serving.{play-append}

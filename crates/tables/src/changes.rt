@@ -1,5 +1,5 @@
 // What else a call changes: who holds the tracks, the resource numbers, the clock.
-ghost use mathlib.Core.List.{List, [], _∷_};
+ghost use mathlib.Core.List.{[], _∷_};
 ghost use Rattle.records.specs.Numbers.{resources};
 ghost use Rattle.tracks.specs.Tracks.{holders};
 ghost use Rattle.rules.specs.Plans.{held, numbered, clocked};

@@ -1,5 +1,5 @@
 // The ending of a program.
-ghost use mathlib.Core.List.{[], _∷_, _++_, map};
+ghost use mathlib.Core.List.{_∷_, _++_, map};
 ghost use lib.ListN.{take};
 ghost use Rattle.records.specs.Numbers.{resources, without};
 ghost use Rattle.records.specs.declared.Why.the-variants.{Nothing};

@@ -1,5 +1,5 @@
 // Whom a release wakes, and the effects that set something free or take it: tracks, and resource numbers.
-ghost use Prim.Native.Nat.{ℕ, _+_};
+ghost use Prim.Native.Nat.{_+_};
 ghost use mathlib.Core.Path.{_≡_};
 ghost use mathlib.Core.List.{[], _∷_, _++_};
 ghost use lib.ListN.{take};

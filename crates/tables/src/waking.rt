@@ -1,5 +1,4 @@
 // Waking: the programs of a list enter the scheduled chain one by one.
-ghost use mathlib.Core.Path.{_≡_};
 ghost use lib.ListN.{take};
 ghost use Rattle.rules.specs.Plans.{wake};
 ghost use Rattle.tables.specs.Inner.{Played, CanWake};

@@ -1,9 +1,7 @@
 -- `decisions::deciding::decide` meets its contract: each arm decides its request, and a call of the running program has a caller first. Assumes nothing.
 use borrow.Author.Needs.{needs}
 use native.Mathlib.Omega.{arith}
-use Prim.Native.Nat.{ℕ}
 use mathlib.Core.Path.{_≡_, refl, sym, ap, _∙_, subst}
-use mathlib.Core.List.{List}
 use Rattle.rules.specs.declared.Answer.the-variants.{NoCaller}
 use Rattle.rules.specs.declared.Request.{Request}
 use Rattle.rules.specs.Plans.{View}

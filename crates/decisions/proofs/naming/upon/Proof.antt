@@ -1,13 +1,12 @@
 -- `decisions::naming::upon` meets its contract: the figures, the name, and then the task. Assumes nothing.
 use borrow.Author.Needs.{needs}
 use native.Mathlib.Omega.{arith}
-use mathlib.Core.Path.{_≡_, refl, sym, ap, _∙_, subst}
+use mathlib.Core.Path.{refl, sym, ap, _∙_, subst}
 use borrow.Author.Tests.{not-false}
 use mathlib.Core.List.{List}
 use Rattle.records.specs.declared.Program.{Program}
 use Rattle.records.specs.Records.{Known, recordAt}
 use Rattle.rules.specs.declared.Answer.the-variants.{NotAllowed, NoProgram}
-use Rattle.decisions.specs.declared.naming.Named.{Named}
 use Rattle.decisions.specs.Inner.{KnownIn}
 use Rattle.decisions.proofs.Laws.{like, stays}
 use Rattle.decisions.proofs.Asked.{asked-not, asked-of}

@@ -1,8 +1,8 @@
 -- `tables::Tables::tested` meets its contract: tables that pass the test are in order, since their arrays are as long as their types say.
 -- Assumes nothing.
-use mathlib.Core.Path.{_≡_, sym, _∙_}
+use mathlib.Core.Path.{sym, _∙_}
 use borrow.Author.Needs.{needs}
-use lib.ListN.{length, length-map}
+use lib.ListN.{length-map}
 use Rattle.records.proofs.Program as program
 use Rattle.records.proofs.Resource as resource
 use Rattle.tables.specs.Tables.{Arrays}

@@ -4,7 +4,7 @@
 use Prim.Native.Nat.{ℕ, _+_, _-_}
 use native.Mathlib.Nat.{add-zero}
 use native.Mathlib.Omega.{arith}
-use mathlib.Core.Path.{_≡_, refl, sym, ap, subst}
+use mathlib.Core.Path.{_≡_, ap, subst}
 use Rattle.records.specs.declared.Program.{Program}
 use Rattle.records.specs.Records.{recordAt}
 use Rattle.tables.proofs.Ticks.{Ticking, ticking-start, ticking-step, tick-done, due-fits, starts-few, starts-later, not-due}
