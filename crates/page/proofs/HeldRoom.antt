@@ -3,52 +3,49 @@
 -- Assumes nothing.
 use Prim.Native.Nat.{ℕ, suc, _+_, _*_, _<_, _≤_}
 use native.Mathlib.Omega.{arith}
+use native.Mathlib.Decide.{ℕ-discrete}
 use mathlib.Core.Path.{_≡_, refl, sym, ap, _∙_}
 use mathlib.Core.Logic.{_≢_}
-use mathlib.Core.Bool.{Bool, true, false, cond, _||_}
-use mathlib.Core.List.{List, [], _∷_, _++_}
+use mathlib.Core.Bool.{Bool, true, false, cond}
+use mathlib.Core.List.{List, [], _∷_}
 use lib.ListN.{length, getD, length-append}
 use lib.Dec.{eqb}
 use borrow.Author.Tests.{eqb-true, eqb-false}
 use Rattle.lists.specs.Lists.{from, join}
-use Rattle.text.specs.Text.{text, digits, decimal}
+use Rattle.text.specs.Text.{digits, decimal}
 use Rattle.records.specs.Numbers.{globally}
 use Rattle.tracks.specs.declared.held.Run.{Run}
 use Rattle.tracks.specs.Tracks.{nobody, system}
 use Rattle.tracks.specs.Runs.{runOf, joined, runsOf}
-use Rattle.page.specs.Page.{bytes, line, heldKey, party, heldLine, heldLines}
-use Rattle.page.proofs.Writing.{pieces, pieces-join}
-use Rattle.page.proofs.Widths.{line-length, decimal-rise, gain, gain-most, party-length}
+use Rattle.page.specs.Page.{bytes, party, heldLine, heldLines}
+use Rattle.page.proofs.Writing.{pieces, pieces-join, held-free, held-system, held-some}
+use Rattle.page.proofs.Widths.{decimal-rise, gain, gain-most, party-length}
 use Rattle.page.proofs.Weights.{weigh, weigh-from}
 
 -- LINES
--- what stands behind `held=`
-abbrev value : Run → List ℕ
-value g = decimal (g .first) ++ text "-" ++ decimal (g .last) ++ text ":" ++ party (g .holder)
-
-value-length : (g : Run) → length (value g) ≡ length (decimal (g .first)) + length (decimal (g .last)) + length (party (g .holder)) + 2
-value-length g = simp length-append (omega arith)
+-- of a run that has one
+held-length : (g : Run) → g .holder ≢ nobody → g .holder ≢ system
+    → length (bytes (heldLine g)) ≡ 8 + length (decimal (g .first)) + length (decimal (g .last)) + length (party (g .holder))
+held-length g n m = rw (held-some g n m) (simp length-append (omega arith))
 
 held-most : (g : Run) → g .holder ≤ system → length (bytes (heldLine g)) ≤ 10 + length (decimal (g .first)) + length (decimal (g .last)) + 2 * gain (g .holder)
-unfolding bytes heldLine
-held-most g h = go (eqb (g .holder) nobody || eqb (g .holder) system)
+held-most g h = go (ℕ-discrete (g .holder) nobody) (ℕ-discrete (g .holder) system)
   where
-    go : (t : Bool) → length (bytes (cond t [] (line heldKey (value g) ∷ []))) ≤ 10 + length (decimal (g .first)) + length (decimal (g .last)) + 2 * gain (g .holder)
-    go true = omega arith
-    go false = omega (arith, line-length heldKey (value g), value-length g, party-length (g .holder) (omega arith))
+    go : Dec (g .holder ≡ nobody) → Dec (g .holder ≡ system)
+        → length (bytes (heldLine g)) ≤ 10 + length (decimal (g .first)) + length (decimal (g .last)) + 2 * gain (g .holder)
+    go (yes e) d = omega (arith, ap length (held-free g e))
+    go (no n) (yes e) = omega (arith, ap length (held-system g e))
+    go (no n) (no m) = omega (arith, held-length g n m, party-length (g .holder) (omega arith))
 
 -- a run that begins earlier has no longer line
 held-earlier : (i : ℕ) (g : Run) → i ≤ g .first → length (bytes (heldLine (runOf i (g .last) (g .holder)))) ≤ length (bytes (heldLine g))
-unfolding bytes heldLine
-held-earlier i g h = go (eqb (g .holder) nobody || eqb (g .holder) system)
+held-earlier i g h = go (ℕ-discrete (g .holder) nobody) (ℕ-discrete (g .holder) system)
   where
-    early : Run
-    early = runOf i (g .last) (g .holder)
-
-    go : (t : Bool) → length (bytes (cond t [] (line heldKey (value early) ∷ []))) ≤ length (bytes (cond t [] (line heldKey (value g) ∷ [])))
-    go true = omega arith
-    go false =
-        omega (arith, line-length heldKey (value early), line-length heldKey (value g), value-length early, value-length g, decimal-rise i (g .first) h)
+    go : Dec (g .holder ≡ nobody) → Dec (g .holder ≡ system)
+        → length (bytes (heldLine (runOf i (g .last) (g .holder)))) ≤ length (bytes (heldLine g))
+    go (yes e) d = omega (arith, ap length (held-free (runOf i (g .last) (g .holder)) e))
+    go (no n) (yes e) = omega (arith, ap length (held-system (runOf i (g .last) (g .holder)) e))
+    go (no n) (no m) = omega (arith, held-length (runOf i (g .last) (g .holder)) n m, held-length g n m, decimal-rise i (g .first) h)
 
 -- WEIGHTS
 abbrev track : ℕ → ℕ

@@ -2,46 +2,37 @@
 -- Assumes nothing.
 use Prim.Native.Nat.{ℕ, _+_, _≤_}
 use native.Mathlib.Omega.{arith}
+use native.Mathlib.Decide.{ℕ-discrete}
 use mathlib.Core.Path.{_≡_, refl, ap}
-use mathlib.Core.Bool.{Bool, true, false, cond}
-use mathlib.Core.List.{List, [], _∷_, _++_}
+use mathlib.Core.List.{List}
 use lib.ListN.{length, length-append}
-use lib.Dec.{eqb, ltb}
+use lib.Dec.{ltb}
 use Rattle.lists.specs.Lists.{count, from}
 use Rattle.lists.proofs.Laws.{from-in}
-use Rattle.text.specs.Text.{text, digits, decimal}
+use Rattle.text.specs.Text.{digits, decimal}
 use Rattle.records.specs.declared.Resource.{Resource}
 use Rattle.records.specs.Numbers.{globally, numberAt}
 use Rattle.rules.specs.Book.{Book}
 use Rattle.rules.specs.Sound.{Limits}
-use Rattle.page.specs.Page.{Line, bytes, line, numberKey, party, orDash, numberLine, numberLines}
-use Rattle.page.proofs.Writing.{pieces-join}
-use Rattle.page.proofs.Widths.{line-length, gain-most, party-length, orDash-length}
+use Rattle.page.specs.Page.{Line, bytes, numberLine, numberLines}
+use Rattle.page.proofs.Writing.{pieces-join, number-none, number-some}
+use Rattle.page.proofs.Widths.{gain-most, party-length, orDash-length}
 use Rattle.page.proofs.Weights.{weigh, weigh-from, lines-weigh}
 
 abbrev number : ℕ → ℕ
 number r = 18 + length (decimal r)
 
 number-most : (r : ℕ) (x : Resource) → x .owner ≤ globally → x .lock ≤ 32 → length (bytes (numberLine r x)) ≤ number r
-unfolding bytes numberLine
-number-most r x h k = go (eqb (x .owner) 0)
+number-most r x h k = go (ℕ-discrete (x .owner) 0)
   where
-    shown : List ℕ
-    shown = decimal r ++ text ":" ++ party (x .owner) ++ text ":" ++ orDash (ltb 0 (x .lock)) (x .lock)
-
-    shown-length : length shown ≡ length (decimal r) + length (party (x .owner)) + length (orDash (ltb 0 (x .lock)) (x .lock)) + 2
-    shown-length = simp length-append (omega arith)
-
-    go : (t : Bool) → length (bytes (cond t [] (line numberKey shown ∷ []))) ≤ number r
-    go true = omega arith
-    go false = omega (
+    go : Dec (x .owner ≡ 0) → length (bytes (numberLine r x)) ≤ number r
+    go (yes e) = omega (arith, ap length (number-none r x e))
+    go (no n) = rw (number-some r x n) (simp length-append (omega (
       arith,
-      line-length numberKey shown,
-      shown-length,
       party-length (x .owner) (omega arith),
       gain-most (x .owner),
       orDash-length (ltb 0 (x .lock)) 1 (x .lock) (omega arith),
-    )
+    )))
 
 -- nine numbers of one digit, seven of two
 numbers-weigh : (n : ℕ) → n ≤ 16 → weigh number (from 1 n) ≤ 311

@@ -2,6 +2,7 @@
 -- Assumes nothing.
 use Prim.Native.Nat.{_≤_}
 use native.Mathlib.Omega.{arith}
+use mathlib.Core.Path.{ap}
 use mathlib.Core.List.{List}
 use lib.ListN.{length, length-append}
 use Rattle.text.specs.Text.{text}
@@ -11,10 +12,10 @@ use Rattle.records.specs.Records.{all, recordAt}
 use Rattle.rules.specs.Book.{Book}
 use Rattle.rules.specs.Keeper.{lists, State}
 use Rattle.rules.specs.Sound.{Sound, Limits}
-use Rattle.page.specs.Page.{bytes, endKey, headLines, usedIn, page}
-use Rattle.page.proofs.Widths.{figure-length, line-length}
+use Rattle.page.specs.Page.{bytes, line, endKey, headLines, usedIn, page}
+use Rattle.page.proofs.Widths.{figure-length}
 use Rattle.page.proofs.Weights.{keep-length}
-use Rattle.page.proofs.Writing.{page-pieces}
+use Rattle.page.proofs.Writing.{bytes-line, page-pieces}
 use Rattle.page.proofs.RecordRoom.{record-room}
 use Rattle.page.proofs.ChainRoom.{chain-room}
 use Rattle.page.proofs.HeldRoom.{held-room}
@@ -46,7 +47,8 @@ page-length a S =
       chain-room b (a .kept) (S .chains),
       held-room (b .holders) (omega (arith, S .shape .holders, S .limits .most)) (λ i h. S .limits .holder i (omega (arith, S .shape .holders))),
       number-room b (S .limits),
-      line-length endKey (text "page"),
+      ap length (bytes-line (line endKey (text "page"))),
+      entry-length (text endKey) (text "page"),
     )))
 
 pub page-room : (a : State lists) → Sound a → length (page a) ≤ 8192

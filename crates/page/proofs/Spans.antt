@@ -45,29 +45,22 @@ records-all ps = pieces-join (λ q. recorded q (recordAt ps q)) (usedIn ps) ∙ 
 
 -- the record of p stands at k
 module _ (ps : List Program) (p k : ℕ) (e : k ≡ p - 1) (h : p ≤ 32) where
-  used-next : (b : Bool) → getD ps k missing .used ≡ b → usedFrom ps p ≡ cond b (p ∷ usedFrom ps (p + 1)) (usedFrom ps (p + 1))
+  pub used-next : (b : Bool) → getD ps k missing .used ≡ b → usedFrom ps p ≡ cond b (p ∷ usedFrom ps (p + 1)) (usedFrom ps (p + 1))
   used-next b u =
       ap (keep (λ q. recordAt ps q .used)) (span-next p 32 h)
       ∙ ap (λ (t : Bool). cond t (p ∷ usedFrom ps (p + 1)) (usedFrom ps (p + 1))) (at-place (λ (r : Program). r .used) ps p k b e u)
 
-  pub used-here : getD ps k missing .used ≡ true → usedFrom ps p ≡ p ∷ usedFrom ps (p + 1)
-  used-here = used-next true
-
-  pub used-on : getD ps k missing .used ≡ false → usedFrom ps p ≡ usedFrom ps (p + 1)
-  used-on = used-next false
-
   pub records-here : getD ps k missing .used ≡ true → recordsFrom ps p ≡ bytes (recorded p (getD ps k missing)) ∷ recordsFrom ps (p + 1)
-  records-here u = ap (recordsOf ps) (used-here u) ∙ ap (λ (i : ℕ). bytes (recorded p (getD ps i missing)) ∷ recordsFrom ps (p + 1)) (sym e)
+  records-here u = ap (recordsOf ps) (used-next true u) ∙ ap (λ (i : ℕ). bytes (recorded p (getD ps i missing)) ∷ recordsFrom ps (p + 1)) (sym e)
 
   pub records-on : getD ps k missing .used ≡ false → recordsFrom ps p ≡ recordsFrom ps (p + 1)
-  records-on u = ap (recordsOf ps) (used-on u)
+  records-on u = ap (recordsOf ps) (used-next false u)
 
-module _ (ps : List Program) (p : ℕ) (h : 32 < p) where
-  pub used-past : usedFrom ps p ≡ []
-  used-past = ap (keep (λ q. recordAt ps q .used)) (span-none p 32 h)
+pub used-past : (ps : List Program) (p : ℕ) → 32 < p → usedFrom ps p ≡ []
+used-past ps p h = ap (keep (λ q. recordAt ps q .used)) (span-none p 32 h)
 
-  pub records-past : recordsFrom ps p ≡ []
-  records-past = ap (recordsOf ps) used-past
+pub records-past : (ps : List Program) (p : ℕ) → 32 < p → recordsFrom ps p ≡ []
+records-past ps p h = ap (recordsOf ps) (used-past ps p h)
 
 -- CHAINS
 abbrev pub chainsFrom : List ℕ → ℕ → List (List ℕ)

@@ -6,13 +6,13 @@ use native.Mathlib.Omega.{arith}
 use native.Mathlib.Decide.{decLt}
 use mathlib.Core.Path.{_≡_, ap}
 use mathlib.Core.Bool.{Bool, true, false, cond}
-use mathlib.Core.List.{List, [], _∷_}
+use mathlib.Core.List.{[], _∷_}
 use lib.ListN.{length, length-append}
 use lib.Dec.{eqb}
 use Rattle.text.specs.Text.{text, digits, decimal, entry}
 use Rattle.text.proofs.Laws.{entry-length, ten, digits-small, digits-step, decimal-length}
 use Rattle.records.specs.Numbers.{globally}
-use Rattle.page.specs.Page.{bytes, line, party, orDash}
+use Rattle.page.specs.Page.{party, orDash}
 
 -- a higher number has no fewer digits
 small-length : (f n : ℕ) → n < 10 → length (digits (suc f) n) ≡ 1
@@ -39,11 +39,6 @@ decimal-rise m n h = digits-rise 20 m n h
 -- a line with a number of at most f + 1 digits
 pub figure-length : (key : String) (f n : ℕ) → n < ten (suc f) → length (entry (text key) (decimal n)) ≤ length (text key) + f + 3
 figure-length key f n h = omega (arith, entry-length (text key) (decimal n), decimal-length f n h)
-
--- a line that stands alone
-pub line-length : (key : String) (value : List ℕ) → length (bytes (line key value ∷ [])) ≡ length (text key) + length value + 2
-unfolding bytes
-line-length key value = omega (arith, length-append (entry (text key) value) [], entry-length (text key) value)
 
 -- half of what `global` has over the two bytes of a program's number
 abbrev pub gain : ℕ → ℕ

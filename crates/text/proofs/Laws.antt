@@ -199,22 +199,15 @@ pub decimal-pos : (n : ℕ) → 0 < length (decimal n)
 unfolding decimal
 decimal-pos n = digits-pos 19 n
 
--- an entry: its length, and the three writes that make it
+-- an entry: its length; and once its key is put, its value and its end are left
 pub entry-length : (key value : List ℕ) → length (entry key value) ≡ length key + length value + 2
 unfolding entry
 entry-length key value = omega (arith, length-append key (61 ∷ (value ++ (10 ∷ []))), length-append value (10 ∷ []))
 
-pub entry-wrote : {l₀ l₁ l₂ l₃ value : List ℕ} {at₀ at₁ at₂ at₃ : ℕ} (key : List ℕ) → Wrote l₀ at₀ (key ++ (61 ∷ [])) l₁ at₁ → Wrote l₁ at₁ value l₂ at₂
-    → Wrote l₂ at₂ (10 ∷ []) l₃ at₃ → Wrote l₀ at₀ (entry key value) l₃ at₃
+entry-pieces : (key value : List ℕ) → entry key value ≡ join ((key ++ (61 ∷ [])) ∷ value ∷ (10 ∷ []) ∷ [])
 unfolding entry
-entry-wrote {value = value} key a b c =
-    rw (← append-assoc key (61 ∷ []) (value ++ (10 ∷ []))) (wrote-then (key ++ (61 ∷ [])) (value ++ (10 ∷ [])) a (wrote-then value (10 ∷ []) b c))
+entry-pieces key value = sym (append-assoc key (61 ∷ []) (value ++ (10 ∷ [])))
 
--- room for its value, and for its end
-pub value-room : {l₀ l₁ : List ℕ} {at₀ at₁ : ℕ} (key value : List ℕ) → Wrote l₀ at₀ (key ++ (61 ∷ [])) l₁ at₁ → at₀ + length (entry key value) ≤ length l₀
-    → at₁ + length value ≤ length l₁
-value-room key value w h = omega (arith, entry-length key value, w .place, wrote-length w, length-append key (61 ∷ []))
-
-pub end-room : {l₀ l₁ l₂ value : List ℕ} {at₀ at₁ at₂ : ℕ} (key : List ℕ) → Wrote l₀ at₀ (key ++ (61 ∷ [])) l₁ at₁ → Wrote l₁ at₁ value l₂ at₂
-    → at₀ + length (entry key value) ≤ length l₀ → at₂ + 1 ≤ length l₂
-end-room {value = value} key v w h = omega (arith, value-room key value v h, entry-length key value, v .place, w .place, wrote-length v, wrote-length w, length-append key (61 ∷ []))
+pub entry-todo : {l l′ : List ℕ} {at at′ : ℕ} (key value : List ℕ) → at + length (entry key value) ≤ length l → Wrote l at (key ++ (61 ∷ [])) l′ at′
+    → Todo l at (entry key value) l′ at′ (value ∷ (10 ∷ []) ∷ [])
+entry-todo key value room w = todo-step (todo-start ((key ++ (61 ∷ [])) ∷ value ∷ (10 ∷ []) ∷ []) (entry-pieces key value) room) w

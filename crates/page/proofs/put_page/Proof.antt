@@ -29,7 +29,9 @@ after-0 s =
     (s, todo-start (pieces (λ ls. ls) (parts a)) (page-pieces a) (omega (arith, s .pre .room)))
 
 abbrev after-1 : (c : tie.After-put-heading) → From 1 (c .put-heading .last .0) (c .put-heading .result)
-after-1 c = let d = after-0 (c .before .before .before .before .before .before .before .before .before .before) in (d .0, todo-step (d .1) (wrote-as (ap (head (d .0)) (sym (c .before .before .count-used .ensures))) (c .put-heading .ensures)))
+after-1 c =
+    let d = after-0 (c .before .before .before .before .before .before .before .before .before .before) in
+    (d .0, todo-step (d .1) (wrote-as (ap (head (d .0)) (sym (c .before .before .count-used .ensures))) (c .put-heading .ensures)))
 
 abbrev after-2 : (c : tie.After-put-records) → From 2 (c .put-records .last .0) (c .put-records .result)
 after-2 c = let d = after-1 (c .before .before .before .before) in (d .0, todo-step (d .1) (c .put-records .ensures))
@@ -44,7 +46,9 @@ abbrev after-5 : (c : tie.After-put-resources) → From 5 (c .put-resources .las
 after-5 c = let d = after-4 (c .before .before .before .before) in (d .0, todo-step (d .1) (c .put-resources .ensures))
 
 abbrev after-6 : (c : tie.After-put-entry) → From 6 (c .put-entry .last .0) (c .put-entry .result)
-after-6 c = let d = after-5 (c .before .before .before .before .before .before) in (d .0, todo-step (d .1) (wrote-as (bytes-line (line endKey (text "page"))) (c .put-entry .ensures)))
+after-6 c =
+    let d = after-5 (c .before .before .before .before .before .before) in
+    (d .0, todo-step (d .1) (wrote-as (bytes-line (line endKey (text "page"))) (c .put-entry .ensures)))
 
 put-heading-requires : tie.Need-put-heading-requires
 put-heading-requires c κs =

@@ -4,10 +4,11 @@ use Prim.Native.Nat.{_+_, _-_, _≤_}
 use native.Mathlib.Omega.{arith}
 use borrow.Author.Needs.{needs}
 use mathlib.Core.Path.{_≡_, ap}
+use mathlib.Core.Bool.{true, false}
 use mathlib.Core.Logic.{⊎-elim}
 use lib.ListN.{length}
 use Rattle.page.specs.Page.{usedIn}
-use Rattle.page.proofs.Spans.{usedFrom, used-all, used-here, used-on, used-past}
+use Rattle.page.proofs.Spans.{usedFrom, used-all, used-next, used-past}
 use Rattle.page.proofs.sections.count_used.Statement.{statement}
 use Rattle.page.proofs.sections.count_used.Tie as tie
 
@@ -25,8 +26,8 @@ loop-again c =
       omega arith,
       ⊎-elim (λ w. omega arith) (λ w. omega arith) (c .if1 .came),
       ⊎-elim
-          (λ w. omega (arith, ap length (used-here ps (i + 1) i (omega arith) (omega arith) (w .0 .taken))))
-          (λ w. omega (arith, ap length (used-on ps (i + 1) i (omega arith) (omega arith) (w .0 .left))))
+          (λ w. omega (arith, ap length (used-next ps (i + 1) i (omega arith) (omega arith) true (w .0 .taken))))
+          (λ w. omega (arith, ap length (used-next ps (i + 1) i (omega arith) (omega arith) false (w .0 .left))))
           (c .if1 .came),
     )
 

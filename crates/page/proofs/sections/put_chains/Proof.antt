@@ -41,6 +41,12 @@ listed c =
     let d = c .before .before in
     ap (lineOf d) (sym (c .chain-of .ensures .some ∙ ap (λ (k : ℕ). walk (c .before .before .before .before .before .args .links) k 32) (c .before .wide .ensures)))
 
+loop-again : tie.Need-loop-again Inv-loop μ-loop
+loop-again c =
+    let p = c .before .before in
+    let f = p .before .before in
+    (omega arith, todo-step (here (f .before .before)) (wrote-as (listed f) (p .put-chain .ensures)))
+
 pub put-chains-spec : {M : Type 1} → statement M
 put-chains-spec =
     tie.close
@@ -54,9 +60,6 @@ put-chains-spec =
     (λ c κs. let f = c .before in (f .chain-of .ensures .most, omega (arith, ap length (listed f), todo-room (here (f .before .before)))))
     (λ c. omega arith)
     (λ c. omega arith)
-    (λ c.
-    let p = c .before .before in
-    let f = p .before .before in
-    (omega arith, todo-step (here (f .before .before)) (wrote-as (listed f) (p .put-chain .ensures))))
+    loop-again
     (λ c. todo-same (c .before .loop .inv .1))
     (λ c. let b = c .before in todo-end (todo-as (chains-past (b .before .before .args .links) (b .loop .i) (omega arith)) (b .loop .inv .1))))

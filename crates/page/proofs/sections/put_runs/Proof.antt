@@ -36,6 +36,17 @@ here c =
     let b = c .before .before in
     todo-as (held-here (holders (c .before .before .before .before .before .args .tracks)) (b .loop .first) (c .run-from .result) (c .run-from .ensures)) (b .loop .inv .2)
 
+loop-again : tie.Need-loop-again Inv-loop μ-loop
+loop-again c =
+    let p = c .before .before .before in
+    let r = p .before .before in
+    (omega (arith, r .run-from .ensures .high), r .before .before .loop .inv .1, todo-step (here r) (p .put-run .ensures))
+
+returns : tie.Need-returns Inv-loop μ-loop
+returns c =
+    let b = c .before in
+    todo-end (todo-as (held-past (holders (b .before .before .before .args .tracks)) (b .loop .first) (omega arith) (omega arith)) (b .loop .inv .2))
+
 pub put-runs-spec : {M : Type 1} → statement M
 put-runs-spec =
     tie.close
@@ -48,11 +59,6 @@ put-runs-spec =
     (λ c κs. todo-room (here (c .before)))
     (λ c. let r = c .before .before .before .before .before in omega (arith, r .run-from .ensures .high))
     (λ c. let r = c .before .before .before .before .before in omega (arith, r .run-from .ensures .low, r .run-from .ensures .high))
-    (λ c.
-    let p = c .before .before .before in
-    let r = p .before .before in
-    (omega (arith, r .run-from .ensures .high), r .before .before .loop .inv .1, todo-step (here r) (p .put-run .ensures)))
+    loop-again
     (λ c. todo-same (c .before .loop .inv .2))
-    (λ c.
-    let b = c .before in
-    todo-end (todo-as (held-past (holders (b .before .before .before .args .tracks)) (b .loop .first) (omega arith) (omega arith)) (b .loop .inv .2))))
+    returns)

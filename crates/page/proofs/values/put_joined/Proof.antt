@@ -32,6 +32,12 @@ put-others-requires c κs =
     let room = length-append (decimal (getD (s .args .t3) 0 0)) (others (slice 1 (s .args .len) (s .args .t3))) in
     (s .pre .0, omega (arith, ap length (first e), room, s .pre .1, n .put-number .ensures .place))
 
+returns-2 : tie.Need-returns-2
+returns-2 c =
+    let r = c .before .before in
+    let n = r .before .before .before .before in
+    wrote-as (first (n .before .before)) (wrote-then _ _ (n .put-number .ensures) (r .put-others .ensures))
+
 pub put-joined-spec : {M : Type 1} → statement M
 put-joined-spec =
     tie.close
@@ -42,7 +48,4 @@ put-joined-spec =
     put-number-requires
     put-others-requires
     (λ c. search needs)
-    (λ c.
-    let r = c .before .before in
-    let n = r .before .before .before .before in
-    wrote-as (first (n .before .before)) (wrote-then _ _ (n .put-number .ensures) (r .put-others .ensures))))
+    returns-2)

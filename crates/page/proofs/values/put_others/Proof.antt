@@ -28,6 +28,12 @@ here c =
     let s = c .before .before .before .args in
     todo-as (others-here (s .t3) (b .loop .i) (s .len) (c .loop-test .taken) (omega arith)) (b .loop .inv)
 
+returns : tie.Need-returns Inv-loop μ-loop
+returns c =
+    let b = c .before in
+    let s = b .before .before .args in
+    todo-end (todo-as (others-past (s .t3) (b .loop .i) (s .len) (omega arith) (omega arith)) (b .loop .inv))
+
 pub put-others-spec : {M : Type 1} → statement M
 put-others-spec =
     tie.close
@@ -43,7 +49,4 @@ put-others-spec =
     (λ c. omega arith)
     (λ c. let p = c .before .before in todo-step (here (p .before .before .before)) (p .put-coded .ensures))
     (λ c. todo-same (c .before .loop .inv))
-    (λ c.
-    let b = c .before in
-    let s = b .before .before .args in
-    todo-end (todo-as (others-past (s .t3) (b .loop .i) (s .len) (omega arith) (omega arith)) (b .loop .inv))))
+    returns)
