@@ -21,52 +21,41 @@ use Rattle.rules.proofs.Answer.{the-type}
 use Rattle.board.specs.Packed.{inBytes}
 use Rattle.board.specs.Board.{figures, figuresLength, answering}
 
--- an answer that holds nothing has the value 0; the places of such answers among all
-abbrev bare : List ℕ
-bare = 3 ∷ 4 ∷ 5 ∷ 7 ∷ 8 ∷ 9 ∷ 10 ∷ 11 ∷ 12 ∷ 14 ∷ 15 ∷ []
-
-pub first-none : (a : Answer) → OneOf bare (tagOf the-type a) → 0 ≡ getD (values a) 0 0
-first-none (Done v) h = absurd (miss bare 0 tt h)
-first-none (Told t) h = absurd (miss bare 1 tt h)
-first-none (Waits s) h = absurd (miss bare 2 tt h)
-first-none NoCaller h = refl
-first-none NotAllowed h = refl
-first-none NoProgram h = refl
-first-none (WrongState s) h = absurd (miss bare 6 tt h)
-first-none NameInUse h = refl
-first-none AllUsed h = refl
-first-none NoRoom h = refl
-first-none NotHolder h = refl
-first-none NotAllocated h = refl
-first-none AtCeiling h = refl
-first-none (TooShort n) h = absurd (miss bare 13 tt h)
-first-none NotUnderstood h = refl
-first-none NotSound h = refl
-
--- the five numbers; of an answer that is no time the first is its value, and the others are 0
+-- the five numbers of an answer
 abbrev pub five : Answer → List ℕ
 five a = take 5 (values a ++ replicate {A = ℕ} 5 0)
+
+-- the places among all of the answers that hold nothing, and of those that are no time: the first have the value 0, the others one value, and four 0 behind it
+abbrev bare : List ℕ
+bare = 3 ∷ 4 ∷ 5 ∷ 7 ∷ 8 ∷ 9 ∷ 10 ∷ 11 ∷ 12 ∷ 14 ∷ 15 ∷ []
 
 abbrev timeless : List ℕ
 timeless = 0 ∷ 2 ∷ 3 ∷ 4 ∷ 5 ∷ 6 ∷ 7 ∷ 8 ∷ 9 ∷ 10 ∷ 11 ∷ 12 ∷ 13 ∷ 14 ∷ 15 ∷ []
 
+said : (a : Answer)
+    → (OneOf bare (tagOf the-type a) → 0 ≡ getD (values a) 0 0) × (OneOf timeless (tagOf the-type a) → five a ≡ getD (values a) 0 0 ∷ 0 ∷ 0 ∷ 0 ∷ 0 ∷ [])
+said (Done v) = (λ h. absurd (miss bare 0 tt h), λ h. refl)
+said (Told t) = (λ h. absurd (miss bare 1 tt h), λ h. absurd (miss timeless 1 tt h))
+said (Waits s) = (λ h. absurd (miss bare 2 tt h), λ h. refl)
+said NoCaller = (λ h. refl, λ h. refl)
+said NotAllowed = (λ h. refl, λ h. refl)
+said NoProgram = (λ h. refl, λ h. refl)
+said (WrongState s) = (λ h. absurd (miss bare 6 tt h), λ h. refl)
+said NameInUse = (λ h. refl, λ h. refl)
+said AllUsed = (λ h. refl, λ h. refl)
+said NoRoom = (λ h. refl, λ h. refl)
+said NotHolder = (λ h. refl, λ h. refl)
+said NotAllocated = (λ h. refl, λ h. refl)
+said AtCeiling = (λ h. refl, λ h. refl)
+said (TooShort n) = (λ h. absurd (miss bare 13 tt h), λ h. refl)
+said NotUnderstood = (λ h. refl, λ h. refl)
+said NotSound = (λ h. refl, λ h. refl)
+
+pub first-none : (a : Answer) → OneOf bare (tagOf the-type a) → 0 ≡ getD (values a) 0 0
+first-none a = (said a) .0
+
 pub five-one : (a : Answer) → OneOf timeless (tagOf the-type a) → five a ≡ getD (values a) 0 0 ∷ 0 ∷ 0 ∷ 0 ∷ 0 ∷ []
-five-one (Done v) h = refl
-five-one (Told t) h = absurd (miss timeless 1 tt h)
-five-one (Waits s) h = refl
-five-one NoCaller h = refl
-five-one NotAllowed h = refl
-five-one NoProgram h = refl
-five-one (WrongState s) h = refl
-five-one NameInUse h = refl
-five-one AllUsed h = refl
-five-one NoRoom h = refl
-five-one NotHolder h = refl
-five-one NotAllocated h = refl
-five-one AtCeiling h = refl
-five-one (TooShort n) h = refl
-five-one NotUnderstood h = refl
-five-one NotSound h = refl
+five-one a = (said a) .1
 
 -- five writes, and those behind that of the answer's number
 pub five-wrote : {l₀ l₁ l₂ l₃ l₄ l₅ : List ℕ} {at₀ at₁ at₂ at₃ at₄ at₅ : ℕ} (a b c d e : ℕ) → Wrote l₀ at₀ (inBytes 8 a) l₁ at₁ → Wrote l₁ at₁ (inBytes 8 b) l₂ at₂

@@ -4,7 +4,7 @@ use Prim.Native.Nat.{ℕ, zero, suc, _+_, _*_, _<_, _≤_}
 use native.Mathlib.Numerals.{add-one}
 use native.Mathlib.Omega.{arith}
 use mathlib.Core.Path.{_≡_, refl, sym, ap, subst, _∙_}
-use mathlib.Core.List.{List, [], _∷_, _++_, map}
+use mathlib.Core.List.{List, [], _∷_, map, append-assoc, append-nil}
 use lib.ListN.{length, getD, drop, length-append, length-map, drop-of-length-le}
 use lib.Seq.{drop-cons}
 use mir.Val.{Val}
@@ -14,7 +14,8 @@ use denote.Struct.Declared.{row}
 use denote.Struct.Field.{u8-field}
 use Rattle.lists.specs.Lists.{hit, join}
 use Rattle.text.specs.Inner.{Wrote}
-use Rattle.text.proofs.Laws.{Left, left-start, left-step, left-end, wrote-then}
+use Rattle.text.proofs.Laws.{Left, left-start, left-step, left-end, parts-start, parts-step, parts-end}
+use Rattle.page.proofs.Writing.{wrote-as}
 use Rattle.records.specs.declared.Program.{Program}
 use Rattle.records.specs.declared.Resource.{Resource}
 use Rattle.records.proofs.Program.{the-type}
@@ -66,20 +67,11 @@ pub program-wrote : {l₀ l₁ l₂ l₃ l₄ l₅ l₆ l₇ l₈ : List ℕ} {a
     → Wrote l₄ at₄ (k ∷ []) l₅ at₅ → Wrote l₅ at₅ (inBytes 2 n) l₆ at₆ → Wrote l₆ at₆ (inBytes 8 (r .due)) l₇ at₇ → Wrote l₇ at₇ (inBytes 8 (r .interval)) l₈ at₈
     → Wrote l₀ at₀ (packProgram r) l₈ at₈
 unfolding packProgram
-program-wrote {l₀} {l₁} {l₂} {l₃} {l₄} {l₅} {l₆} {l₇} {l₈} {at₀} {at₁} {at₂} {at₃} {at₄} {at₅} {at₆} {at₇} {at₈} r u k n eu ek en a b c d e f g h =
-    let p : List ℕ = hit (r .used) ∷ r .name in
-    let q : List ℕ = p ++ inBytes 2 (r .priority) in
-    let s : List ℕ = q ++ (r .state ∷ kindOf (r .why) ∷ []) in
-    let t : List ℕ = s ++ inBytes 2 (countOf (r .why)) in
-    wrote-then (t ++ inBytes 8 (r .due)) (inBytes 8 (r .interval))
-    (wrote-then t (inBytes 8 (r .due))
-    (wrote-then s (inBytes 2 (countOf (r .why)))
-    (wrote-then q (r .state ∷ kindOf (r .why) ∷ [])
-    (wrote-then p (inBytes 2 (r .priority)) (wrote-then (hit (r .used) ∷ []) (r .name) (subst (λ (v : ℕ). Wrote l₀ at₀ (v ∷ []) l₁ at₁) eu a) b) c)
-    (wrote-then (r .state ∷ []) (kindOf (r .why) ∷ []) d (subst (λ (v : ℕ). Wrote l₄ at₄ (v ∷ []) l₅ at₅) ek e)))
-    (subst (λ (v : ℕ). Wrote l₅ at₅ (inBytes 2 v) l₆ at₆) en f))
-    g)
-    h
+program-wrote r u k n eu ek en a b c d e f g h =
+    wrote-as (rw (eu, ek, en) (simp (append-assoc, append-nil))) (parts-end
+    (parts-step (parts-step (parts-step (parts-step (parts-step (parts-step (parts-step (parts-step (parts-start (
+    (u ∷ []) ∷ r .name ∷ inBytes 2 (r .priority) ∷ (r .state ∷ []) ∷ (k ∷ []) ∷ inBytes 2 n ∷ inBytes 8 (r .due) ∷ inBytes 8 (r .interval) ∷ []
+    )) a) b) c) d) e) f) g) h))
 
 pub tables-wrote : {l₀ l₁ l₂ l₃ l₄ l₅ l₆ l₇ l₈ : List ℕ} {at₀ at₁ at₂ at₃ at₄ at₅ at₆ at₇ at₈ : ℕ} (t : Tables)
     → Wrote l₀ at₀ (inBytes 8 (t .ledger .clock .ticks)) l₁ at₁ → Wrote l₁ at₁ (inBytes 2 (t .ledger .tracks .count)) l₂ at₂ → Wrote l₂ at₂ (inBytes 2 (t .ledger .tracks .system)) l₃ at₃
@@ -87,15 +79,8 @@ pub tables-wrote : {l₀ l₁ l₂ l₃ l₄ l₅ l₆ l₇ l₈ : List ℕ} {at
     → Wrote l₆ at₆ (t .links) l₇ at₇ → Wrote l₇ at₇ (join (map packProgram (t .ledger .programs))) l₈ at₈ → Wrote l₀ at₀ (packed t) l₈ at₈
 unfolding packed
 tables-wrote t a b c d e f g h =
-    let p : List ℕ = inBytes 8 (t .ledger .clock .ticks) ++ inBytes 2 (t .ledger .tracks .count) in
-    let q : List ℕ = p ++ inBytes 2 (t .ledger .tracks .system) in
-    let r : List ℕ = q ++ (t .ledger .numbers .count ∷ []) in
-    let s : List ℕ = r ++ places (t .ledger .tracks) in
-    let u : List ℕ = s ++ join (map packResource (t .ledger .numbers .resources)) in
-    wrote-then (u ++ t .links) (join (map packProgram (t .ledger .programs)))
-    (wrote-then u (t .links)
-    (wrote-then s (join (map packResource (t .ledger .numbers .resources)))
-    (wrote-then r (places (t .ledger .tracks))
-    (wrote-then q (t .ledger .numbers .count ∷ [])
-    (wrote-then p (inBytes 2 (t .ledger .tracks .system))
-    (wrote-then (inBytes 8 (t .ledger .clock .ticks)) (inBytes 2 (t .ledger .tracks .count)) a b) c) d) e) f) g) h
+    wrote-as (simp (append-assoc, append-nil)) (parts-end
+    (parts-step (parts-step (parts-step (parts-step (parts-step (parts-step (parts-step (parts-step (parts-start (
+    inBytes 8 (t .ledger .clock .ticks) ∷ inBytes 2 (t .ledger .tracks .count) ∷ inBytes 2 (t .ledger .tracks .system) ∷ (t .ledger .numbers .count ∷ [])
+    ∷ places (t .ledger .tracks) ∷ join (map packResource (t .ledger .numbers .resources)) ∷ t .links ∷ join (map packProgram (t .ledger .programs)) ∷ []
+    )) a) b) c) d) e) f) g) h))
