@@ -18,7 +18,7 @@ use Rattle.text.proofs.Fields.{drop-take}
 use Rattle.text.proofs.Read.{upTo-over}
 use Rattle.console.specs.declared.words.Word.{Word}
 use Rattle.console.specs.Line.{Line, bad, Form, Entry, lookUp, execs, numbers, forms, lineOf}
-use Rattle.console.specs.Inner.{fieldsFrom, noWord, row, rows, rowAt, requests, taking, ended, entries, keys, behind, seek}
+use Rattle.console.specs.Inner.{fieldsFrom, noWord, lead, rows, rowAt, requests, taking, ended, entries, keys, behind, seek}
 use Rattle.console.proofs.FieldLaws.{fields-past, fields-cut, fields-all}
 
 -- of the entries, those behind the word `last`
@@ -84,6 +84,11 @@ module _ (f : List ℕ) (fs : List (List ℕ)) where
   unfolding execs numbers forms rows entries keys
   behind-seek i h = behind-look i h ∙ look-seek i f fs (ended i) rows entries refl
 
+-- behind a last word
+behind-last : (i : ℕ) → i < noWord → (fs : List (List ℕ)) → behind i fs ≡ cond (rowAt i .3) (ended i fs) (behind i fs)
+unfolding execs numbers forms rows requests ended entries behind
+behind-last i h fs = tabled-at noWord (λ j. cond (rowAt j .3) (ended j fs) (behind j fs)) i bad h
+
 -- the words as the code tells them
 pub told-keys : parts 44 (text ",FRESH,LOAD,RU,SS,GO,PR,OF,TICK,EXEC,RN,PAGE,4,15,5,16,6,7,11,9,10,12,ALLOC,LOCK,CLEAR,FREE,L,G,ALL") ≡ keys
 unfolding parts execs numbers forms entries keys
@@ -93,6 +98,11 @@ told-keys = refl
 module _ {last : ℕ} (known : last < noWord) (s : List ℕ) (at : ℕ) where
   pub word-past : length s < at → behind last (fieldsFrom s at) ≡ ended last (fieldsFrom s at)
   word-past h = ap (behind last) (fields-past s at h) ∙ behind-none last known ∙ ap (ended last) (sym (fields-past s at h))
+
+  pub word-last : {w : Word} → w ≡ rowAt last → w .3 ≡ true → behind last (fieldsFrom s at) ≡ ended last (fieldsFrom s at)
+  word-last e t =
+      let fs = fieldsFrom s at in
+      behind-last last known fs ∙ ap (λ (b : Bool). cond b (ended last fs) (behind last fs)) (ap (λ (x : Word). x .3) (sym e) ∙ t)
 
   module _ {end j : ℕ} (p : PartEnd 44 s at end) (which : j ≡ seek last (slice at end s) rows keys) where
     abbrev lines : List Line
@@ -169,7 +179,7 @@ module _ {last : ℕ} {f words : List ℕ} {i from : ℕ} (h : Seeking last f wo
     seeking-cut : seek last f (drop i rows) (fieldsFrom words from) ≡ cond b 0 (suc rest)
     unfolding rows
     seeking-cut =
-        ap₂ (seek last f) (drop-cons rows i (row 0 false 0) l ∙ ap (λ (k : ℕ). rowAt i ∷ drop k rows) (sym (add-one i))) (fields-cut p)
+        ap₂ (seek last f) (drop-cons rows i (lead 0 0) l ∙ ap (λ (k : ℕ). rowAt i ∷ drop k rows) (sym (add-one i))) (fields-cut p)
         ∙ ap (λ (w : List ℕ). cond (eqb (rowAt i .0) last && alike f w) 0 (suc rest)) taken
         ∙ ap (λ (t : Bool). cond t 0 (suc rest)) test
 

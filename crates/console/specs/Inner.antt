@@ -65,28 +65,31 @@ onNumbers k (numbersRead.Are a b c) = k a b c
 pub record NumbersRead (s : List ℕ) (at n : ℕ) (r : Numbers) : Type 0 where
   pub says : (k : ℕ → ℕ → ℕ → Line) → counted n k (fieldsFrom s at) ≡ onNumbers k r
 
--- The words as the code numbers them, each with the word before it, whether a name comes next, and how many numbers; and what each says
--- where no word comes behind it.
+-- The words as the code numbers them, each with the word before it, whether a name comes next, and how many numbers; others may come behind
+-- a leading word. And what each says where no word comes behind it.
 abbrev pub noWord : ℕ
 noWord = 29
 
 abbrev pub row : ℕ → Bool → ℕ → Word
-row before named n = record { 0 = before; 1 = named; 2 = n }
+row before named n = record { 0 = before; 1 = named; 2 = n; 3 = true }
+
+abbrev pub lead : ℕ → ℕ → Word
+lead before n = record { 0 = before; 1 = false; 2 = n; 3 = false }
 
 unfoldable pub rows : List Word
 rows =
-    row noWord false 0
+    lead noWord 0
     ∷ row 0 false 3 ∷ row 0 true 1 ∷ row 0 true 0 ∷ row 0 true 0 ∷ row 0 true 0 ∷ row 0 true 1 ∷ row 0 true 1 ∷ row 0 false 0
-    ∷ row 0 false 0 ∷ row 0 false 0 ∷ row 0 false 0
-    ∷ row 9 false 2 ∷ row 9 false 2 ∷ row 9 false 2 ∷ row 9 false 2 ∷ row 9 false 0 ∷ row 9 false 0 ∷ row 9 false 0
+    ∷ lead 0 0 ∷ lead 0 0 ∷ row 0 false 0
+    ∷ row 9 false 2 ∷ row 9 false 2 ∷ lead 9 2 ∷ row 9 false 2 ∷ row 9 false 0 ∷ row 9 false 0 ∷ row 9 false 0
     ∷ row 9 true 0 ∷ row 9 true 0 ∷ row 9 true 3
-    ∷ row 10 false 0 ∷ row 10 false 2 ∷ row 10 false 1 ∷ row 10 false 1
+    ∷ lead 10 0 ∷ row 10 false 2 ∷ row 10 false 1 ∷ row 10 false 1
     ∷ row 22 false 1 ∷ row 22 false 1
     ∷ row 14 false 0
     ∷ []
 
 abbrev pub rowAt : ℕ → Word
-rowAt i = getD rows i (row 0 false 0)
+rowAt i = getD rows i (lead 0 0)
 
 unfoldable pub requests : ℕ → ℕ → ℕ → List Said
 requests a b c =

@@ -63,6 +63,10 @@ pub(crate) fn command_of(s: &[u8]) -> Command
     let mut at = 0;
     let mut last = 0;
     while at <= s.len() {
+        let row = words::word_of(last);
+        if row.3 {
+            return end_of(s, at, last);
+        }
         let end = text::part_end(s, at, b',');
         let word = words::which(s, at, end, last, all);
         if words::NO_WORD <= word {

@@ -13,39 +13,39 @@ use rules::Request;
 // How many words there are; none has this number.
 pub(crate) const NO_WORD: usize = 29;
 
-// The word before, whether a name comes next, and how many numbers come behind that.
-pub(crate) struct Word(pub usize, pub bool, pub usize);
+// The word before, whether a name comes next, how many numbers come behind that, and whether it is a last word.
+pub(crate) struct Word(pub usize, pub bool, pub usize, pub bool);
 
 const WORDS: [Word; NO_WORD] = [
-    Word(NO_WORD, false, 0), // the start
-    Word(0, false, 3), // FRESH,T,S,R
-    Word(0, true, 1), // LOAD,name,priority
-    Word(0, true, 0), // RU,name
-    Word(0, true, 0), // SS,name
-    Word(0, true, 0), // GO,name
-    Word(0, true, 1), // PR,name,number
-    Word(0, true, 1), // OF,name,figure
-    Word(0, false, 0), // TICK
-    Word(0, false, 0), // EXEC
-    Word(0, false, 0), // RN
-    Word(0, false, 0), // PAGE
-    Word(9, false, 2), // EXEC,4,n,w
-    Word(9, false, 2), // EXEC,15,n,w
-    Word(9, false, 2), // EXEC,5,n,start
-    Word(9, false, 2), // EXEC,16,n,start
-    Word(9, false, 0), // EXEC,6
-    Word(9, false, 0), // EXEC,7
-    Word(9, false, 0), // EXEC,11
-    Word(9, true, 0), // EXEC,9,name
-    Word(9, true, 0), // EXEC,10,name
-    Word(9, true, 3), // EXEC,12,name,resolution,multiple,offset
-    Word(10, false, 0), // RN,ALLOC
-    Word(10, false, 2), // RN,LOCK,r,w
-    Word(10, false, 1), // RN,CLEAR,r
-    Word(10, false, 1), // RN,FREE,r
-    Word(22, false, 1), // RN,ALLOC,L,w
-    Word(22, false, 1), // RN,ALLOC,G,w
-    Word(14, false, 0), // EXEC,5,ALL
+    Word(NO_WORD, false, 0, false), // the start
+    Word(0, false, 3, true), // FRESH,T,S,R
+    Word(0, true, 1, true), // LOAD,name,priority
+    Word(0, true, 0, true), // RU,name
+    Word(0, true, 0, true), // SS,name
+    Word(0, true, 0, true), // GO,name
+    Word(0, true, 1, true), // PR,name,number
+    Word(0, true, 1, true), // OF,name,figure
+    Word(0, false, 0, true), // TICK
+    Word(0, false, 0, false), // EXEC
+    Word(0, false, 0, false), // RN
+    Word(0, false, 0, true), // PAGE
+    Word(9, false, 2, true), // EXEC,4,n,w
+    Word(9, false, 2, true), // EXEC,15,n,w
+    Word(9, false, 2, false), // EXEC,5,n,start
+    Word(9, false, 2, true), // EXEC,16,n,start
+    Word(9, false, 0, true), // EXEC,6
+    Word(9, false, 0, true), // EXEC,7
+    Word(9, false, 0, true), // EXEC,11
+    Word(9, true, 0, true), // EXEC,9,name
+    Word(9, true, 0, true), // EXEC,10,name
+    Word(9, true, 3, true), // EXEC,12,name,resolution,multiple,offset
+    Word(10, false, 0, false), // RN,ALLOC
+    Word(10, false, 2, true), // RN,LOCK,r,w
+    Word(10, false, 1, true), // RN,CLEAR,r
+    Word(10, false, 1, true), // RN,FREE,r
+    Word(22, false, 1, true), // RN,ALLOC,L,w
+    Word(22, false, 1, true), // RN,ALLOC,G,w
+    Word(14, false, 0, true), // EXEC,5,ALL
 ];
 
 pub(crate) fn word_of(i: usize) -> Word

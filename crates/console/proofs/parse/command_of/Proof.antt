@@ -7,7 +7,7 @@ use lib.ListN.{length}
 use borrow.Author.Needs.{needs}
 use Rattle.console.specs.Line.{lineOf}
 use Rattle.console.specs.Inner.{noWord, fieldsFrom, behind}
-use Rattle.console.proofs.WordLaws.{told-keys, word-past, word-none, word-next, line-long, line-fits}
+use Rattle.console.proofs.WordLaws.{told-keys, word-past, word-last, word-none, word-next, line-long, line-fits}
 use Rattle.console.proofs.parse.command_of.Statement.{statement}
 use Rattle.console.proofs.parse.command_of.Tie as tie
 
@@ -26,11 +26,8 @@ returns c = c .not-said .ensures ∙ sym (line-long (c .before .before .before .
 loop-holds : tie.Need-loop-holds Inv-loop μ-loop
 loop-holds c = (omega arith, omega arith, line-fits (c .before .before .before .args .s .now) (c .before .if1 .left))
 
-part-end-requires : tie.Need-part-end-requires Inv-loop μ-loop
-part-end-requires c κs = omega arith
-
-which-requires : tie.Need-which-requires Inv-loop μ-loop
-which-requires c κs = (omega arith, (omega arith, told-keys))
+word-of-requires : tie.Need-word-of-requires Inv-loop μ-loop
+word-of-requires c κs = omega arith
 
 end-of-requires : tie.Need-end-of-requires Inv-loop μ-loop
 end-of-requires c κs = (omega arith, omega arith)
@@ -38,11 +35,27 @@ end-of-requires c κs = (omega arith, omega arith)
 returns-2 : tie.Need-returns-2 Inv-loop μ-loop
 returns-2 c =
     let w = c .before .before in
-    let p = w .before .before in
-    let l = p .before .before in
+    let l = w .before .before in
     let s = l .before .before .before .before in
-    let none = word-none (l .loop .inv .0) (s .args .s .now) (l .loop .at) (p .part-end .ensures) (w .which .ensures) (c .before .if2 .taken) in
-    c .end-of .ensures ∙ sym (l .loop .inv .2 ∙ none)
+    c .end-of .ensures ∙ sym (l .loop .inv .2 ∙ word-last (l .loop .inv .0) (s .args .s .now) (l .loop .at) (w .word-of .ensures) (c .before .if2 .taken))
+
+part-end-requires : tie.Need-part-end-requires Inv-loop μ-loop
+part-end-requires c κs = omega arith
+
+which-requires : tie.Need-which-requires Inv-loop μ-loop
+which-requires c κs = (omega arith, (omega arith, told-keys))
+
+end-of-requires-2 : tie.Need-end-of-requires-2 Inv-loop μ-loop
+end-of-requires-2 c κs = (omega arith, omega arith)
+
+returns-3 : tie.Need-returns-3 Inv-loop μ-loop
+returns-3 c =
+    let w = c .before .before in
+    let p = w .before .before in
+    let l = p .before .before .before .before in
+    let s = l .before .before .before .before in
+    let none = word-none (l .loop .inv .0) (s .args .s .now) (l .loop .at) (p .part-end .ensures) (w .which .ensures) (c .before .if3 .taken) in
+    c .end-of2 .ensures ∙ sym (l .loop .inv .2 ∙ none)
 
 add-at : tie.Need-add-at Inv-loop μ-loop
 add-at c = omega arith
@@ -54,19 +67,19 @@ loop-again : tie.Need-loop-again Inv-loop μ-loop
 loop-again c =
     let w = c .before in
     let p = w .before .before in
-    let l = p .before .before in
+    let l = p .before .before .before .before in
     let s = l .before .before .before .before in
-    let next = word-next (l .loop .inv .0) (s .args .s .now) (l .loop .at) (p .part-end .ensures) (w .which .ensures) (c .if2 .left) in
-    (c .if2 .left, omega arith, l .loop .inv .2 ∙ next)
+    let next = word-next (l .loop .inv .0) (s .args .s .now) (l .loop .at) (p .part-end .ensures) (w .which .ensures) (c .if3 .left) in
+    (c .if3 .left, omega arith, l .loop .inv .2 ∙ next)
 
-end-of-requires-2 : tie.Need-end-of-requires-2 Inv-loop μ-loop
-end-of-requires-2 c κs = (omega arith, omega arith)
+end-of-requires-3 : tie.Need-end-of-requires-3 Inv-loop μ-loop
+end-of-requires-3 c κs = (omega arith, omega arith)
 
-returns-3 : tie.Need-returns-3 Inv-loop μ-loop
-returns-3 c =
+returns-4 : tie.Need-returns-4 Inv-loop μ-loop
+returns-4 c =
     let l = c .before .before in
     let s = l .before .before .before .before in
-    c .end-of2 .ensures ∙ sym (l .loop .inv .2 ∙ word-past (l .loop .inv .0) (s .args .s .now) (l .loop .at) (c .before .loop-test .left))
+    c .end-of3 .ensures ∙ sym (l .loop .inv .2 ∙ word-past (l .loop .inv .0) (s .args .s .now) (l .loop .at) (c .before .loop-test .left))
 
 pub command-of-spec : {M : Type 1} → statement M
 command-of-spec =
@@ -77,12 +90,15 @@ command-of-spec =
     not-said-requires
     returns
     loop-holds
-    part-end-requires
-    which-requires
+    word-of-requires
     end-of-requires
     returns-2
+    part-end-requires
+    which-requires
+    end-of-requires-2
+    returns-3
     add-at
     loop-less
     loop-again
-    end-of-requires-2
-    returns-3)
+    end-of-requires-3
+    returns-4)
