@@ -101,11 +101,12 @@ pub(crate) fn which(s: &[u8], at: usize, end: usize, last: usize, words: &[u8]) 
     requires { ⌜ parts 44 (now words) ≡ keys ⌝ }
     ensures { λ r. ⌜ r ≡ seek last (slice at end (now (s .entry))) rows keys ⌝ }
 {
+    let rows = WORDS;
     let mut i = 0;
     let mut from = 0;
     while i < NO_WORD {
         let to = text::part_end(words, from, b',');
-        let word = word_of(i);
+        let word = rows[i];
         if (word.0 == last) & text::is_word(s, at, end, &words[from..to]) {
             return i;
         }

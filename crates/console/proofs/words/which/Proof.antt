@@ -2,29 +2,28 @@
 -- Assumes nothing.
 use Prim.Native.Nat.{_-_}
 use native.Mathlib.Omega.{arith}
-use mathlib.Core.Path.{sym, ap₂}
+use mathlib.Core.Path.{sym, ap}
 use mathlib.Core.Bool.{Bool, _&&_}
 use lib.Dec.{eqb}
 use lib.Seq.{slice}
 use borrow.Author.Needs.{needs}
-use Rattle.console.specs.declared.words.Word.{Word}
-use Rattle.console.specs.Inner.{noWord}
+use Rattle.console.specs.Inner.{noWord, rows, rowAt}
 use Rattle.console.proofs.WordLaws.{Seeking, seeking-start, seeking-place, seeking-end, seeking-hit, seeking-next}
 use Rattle.console.proofs.words.which.Statement.{statement}
 use Rattle.console.proofs.words.which.Tie as tie
 
 abbrev Inv-loop : tie.InvT-loop
-Inv-loop s at end last words i₀ from₀ i from = Seeking last (slice at end s) words i from
+Inv-loop s at end last words table i₀ from₀ i from = Seeking last (slice at end s) words i from
 
 abbrev μ-loop : tie.MeasureT-loop
-μ-loop s at end last words i₀ from₀ i from = noWord - i
+μ-loop s at end last words table i₀ from₀ i from = noWord - i
 
 abbrev Ended : tie.After-is-word Inv-loop μ-loop → tie.After-part-end Inv-loop μ-loop
 Ended c = c .before .before .before .before
 
 -- what is tested of a word, by the table
-abbrev Tested : tie.After-is-word Inv-loop μ-loop → Word → Bool → Bool
-Tested c w b = eqb (w .0) (Ended c .before .before .before .before .before .args .last) && b
+abbrev Tested : tie.After-is-word Inv-loop μ-loop → Bool → Bool
+Tested c b = eqb (rowAt (Ended c .before .before .loop .i) .0) (Ended c .before .before .before .before .before .args .last) && b
 
 loop-holds : tie.Need-loop-holds Inv-loop μ-loop
 loop-holds c = seeking-start (c .before .before .pre .1 .1)
@@ -32,8 +31,11 @@ loop-holds c = seeking-start (c .before .before .pre .1 .1)
 part-end-requires : tie.Need-part-end-requires Inv-loop μ-loop
 part-end-requires c κs = seeking-place (c .before .loop .inv) (c .loop-test .taken)
 
-word-of-requires : tie.Need-word-of-requires Inv-loop μ-loop
-word-of-requires c κs = omega arith
+mul-word : tie.Need-mul-word Inv-loop μ-loop
+mul-word c = omega arith
+
+array-copy-out-word : tie.Need-array-copy-out-word Inv-loop μ-loop
+array-copy-out-word c = omega arith
 
 sub-is-word : tie.Need-sub-is-word Inv-loop μ-loop
 sub-is-word c = omega arith
@@ -48,10 +50,11 @@ is-word-requires : tie.Need-is-word-requires Inv-loop μ-loop
 is-word-requires c κs = search needs
 
 returns : tie.Need-returns Inv-loop μ-loop
+unfolding rows
 returns c =
     let p = Ended (c .before) in
     seeking-hit (p .before .before .loop .inv) (p .part-end .ensures) (p .before .loop-test .taken)
-    (sym (ap₂ (Tested (c .before)) (c .before .before .before .before .word-of .ensures) (c .before .is-word .ensures))) (c .if1 .taken)
+    (sym (ap (Tested (c .before)) (c .before .is-word .ensures))) (c .if1 .taken)
 
 add-from : tie.Need-add-from Inv-loop μ-loop
 add-from c = omega arith
@@ -63,10 +66,11 @@ loop-less : tie.Need-loop-less Inv-loop μ-loop
 loop-less c = omega arith
 
 loop-again : tie.Need-loop-again Inv-loop μ-loop
+unfolding rows
 loop-again c =
     let p = Ended (c .before) in
     seeking-next (p .before .before .loop .inv) (p .part-end .ensures) (p .before .loop-test .taken)
-    (sym (ap₂ (Tested (c .before)) (c .before .before .before .before .word-of .ensures) (c .before .is-word .ensures))) (c .if1 .left)
+    (sym (ap (Tested (c .before)) (c .before .is-word .ensures))) (c .if1 .left)
 
 returns-2 : tie.Need-returns-2 Inv-loop μ-loop
 returns-2 c = seeking-end (c .before .loop .inv) (c .loop-test .left)
@@ -79,7 +83,8 @@ which-spec =
     μ-loop
     loop-holds
     part-end-requires
-    word-of-requires
+    mul-word
+    array-copy-out-word
     sub-is-word
     part-is-word-start
     part-is-word-end
