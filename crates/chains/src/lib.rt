@@ -77,16 +77,6 @@ pub fn leave(links: [u8; 40], state: usize, p: u8) -> [u8; 40]
     l
 }
 
-// Program p goes from one chain into another.
-pub fn shift(links: [u8; 40], programs: [Program; 32], from: usize, to: usize, p: u8) -> [u8; 40]
-    requires { ⌜ CanLeave links from p ⌝ }
-    requires { ⌜ to < 7 ⌝ }
-    ensures { λ r. ⌜ Laid r (entered (prioIn programs) to p (left from p (read links))) ⌝ }
-{
-    let l = leave(links, from, p);
-    enter(l, programs, to, p)
-}
-
 // What stands in a slot, and 0 past the end.
 pub fn link(links: [u8; 40], at: usize) -> u8
     ensures { λ r. ⌜ r ≡ getD links at 0 ⌝ }

@@ -18,7 +18,7 @@ use Rattle.records.specs.Numbers.{free, numberAt}
 use Rattle.records.proofs.Find.{at-place}
 use Rattle.records.proofs.Search.{span, span-all, span-next, span-none}
 use Rattle.tracks.specs.declared.held.Run.{Run}
-use Rattle.tracks.specs.Runs.{RunFrom}
+use Rattle.tracks.specs.Inner.{RunFrom}
 use Rattle.tracks.proofs.RunLaws.{runsFrom, runs-past}
 use Rattle.chains.specs.Links.{walk, read}
 use Rattle.chains.proofs.Reading.{getD-read}

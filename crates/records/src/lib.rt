@@ -346,18 +346,4 @@ impl Numbers {
     {
         0 < self.lowest_of(p)
     }
-
-    // Whether p owns or locks number r; past the last it does neither, and 0 is taken for 1.
-    pub fn concerned(self, r: usize, p: u8) -> bool
-        requires { ⌜ Fit self ⌝ }
-        requires { ⌜ 1 ≤ p ⌝ }
-        ensures { λ b. ⌜ b ≡ concerns p (numberAt (resources self) r) ⌝ }
-    {
-        let i = place(r);
-        if i < wide(self.count) {
-            let x = self.resources[i];
-            return x.concerns(p);
-        }
-        false
-    }
 }

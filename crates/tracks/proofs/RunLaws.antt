@@ -12,7 +12,8 @@ use lib.Seq.{drop-cons, drop-length}
 use borrow.Author.Tests.{eq-eqb, ne-eqb}
 use Rattle.tracks.specs.declared.held.Run.{Run}
 use Rattle.tracks.specs.Tracks.{nobody}
-use Rattle.tracks.specs.Runs.{runOf, joined, runsOf, RunFrom}
+use Rattle.tracks.specs.Runs.{runOf, joined, runsOf}
+use Rattle.tracks.specs.Inner.{RunFrom}
 
 -- the run of h from i to j, and the runs gs behind it: one with the first of them where that is h's too
 abbrev pub grown : ℕ → ℕ → ℕ → List Run → List Run

@@ -3,13 +3,15 @@
 use Prim.Native.Nat.{ℕ, _+_, _≤_, _<_}
 use mathlib.Core.Path.{_≡_}
 use mathlib.Core.Bool.{Bool, true, false}
-use mathlib.Core.List.{List}
+use mathlib.Core.List.{List, _∷_}
 use mathlib.Core.Option.{Option, none, some}
-use lib.ListN.{length, getD}
+use lib.ListN.{length, getD, drop}
 use Rattle.tracks.specs.declared.Tracks.{Tracks}
+use Rattle.tracks.specs.declared.held.Run.{Run}
 use Rattle.tracks.specs.declared.Found.{Found}
 use Rattle.tracks.specs.declared.Found.the-variants.{At, Nothing}
 use Rattle.tracks.specs.Tracks.{nobody, system, places, holders, tableOf}
+use Rattle.tracks.specs.Runs.{runsOf}
 
 -- a table as the rules know it: told by its count, its system's tracks and its holders
 pub record Fit (t : Tracks) : Type 0 where
@@ -17,11 +19,7 @@ pub record Fit (t : Tracks) : Type 0 where
   pub long : length (holders t) ≡ t .count
   pub formed : t ≡ tableOf (t .count) (t .system) (holders t)
 
--- i is a track of the table; and n tracks from i on are
-pub record HasTrack (t : Tracks) (i : ℕ) : Type 0 where
-  pub fit : Fit t
-  pub below : i < t .count
-
+-- n tracks from i on are tracks of the table
 pub record HasTracks (t : Tracks) (i n : ℕ) : Type 0 where
   pub fit : Fit t
   pub within : i + n ≤ t .count
@@ -73,3 +71,13 @@ pub record Held (May : ℕ → Type 0) (t : Tracks) : Type 0 where
   pub own : SystemHolds (t .system) (places t)
   pub others : OthersHold (t .system) (t .count) May (places t)
   pub blank : NoneHolds (t .count) (places t)
+
+-- track i is there; and g is the run that begins at it
+pub record Within (t : Tracks) (i : ℕ) : Type 0 where
+  pub most : t .count ≤ 256
+  pub below : i < t .count
+
+pub record RunFrom (hs : List ℕ) (i : ℕ) (g : Run) : Type 0 where
+  pub low : i ≤ g .last
+  pub high : g .last < length hs
+  pub runs : runsOf i (drop i hs) ≡ g ∷ runsOf (g .last + 1) (drop (g .last + 1) hs)

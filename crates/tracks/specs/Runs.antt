@@ -1,12 +1,9 @@
 -- The longest runs of one holder, from the lowest track up (OUTLINE, "The page and the console line").
 -- Assumes nothing.
-use Prim.Native.Nat.{ℕ, suc, _+_, _≤_, _<_}
-use mathlib.Core.Path.{_≡_}
+use Prim.Native.Nat.{ℕ, suc}
 use mathlib.Core.Bool.{cond}
 use mathlib.Core.List.{List, [], _∷_}
-use lib.ListN.{length, drop}
 use lib.Dec.{eqb}
-use Rattle.tracks.specs.declared.Tracks.{Tracks}
 use Rattle.tracks.specs.declared.held.Run.{Run}
 
 abbrev pub runOf : ℕ → ℕ → ℕ → Run
@@ -21,13 +18,3 @@ joined i h (g ∷ gs) = cond (eqb h (g .holder)) (runOf i (g .last) h ∷ gs) (r
 abbrev pub runsOf : ℕ → List ℕ → List Run
 runsOf i [] = []
 runsOf i (h ∷ hs) = joined i h (runsOf (suc i) hs)
-
--- track i is there; and g is the run that begins at it
-pub record Within (t : Tracks) (i : ℕ) : Type 0 where
-  pub most : t .count ≤ 256
-  pub below : i < t .count
-
-pub record RunFrom (hs : List ℕ) (i : ℕ) (g : Run) : Type 0 where
-  pub low : i ≤ g .last
-  pub high : g .last < length hs
-  pub runs : runsOf i (drop i hs) ≡ g ∷ runsOf (g .last + 1) (drop (g .last + 1) hs)

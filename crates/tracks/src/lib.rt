@@ -7,10 +7,10 @@ pub use held::Run;
 ghost use Prim.Native.Nat.{_-_};
 ghost use mathlib.Core.Path.{_≡_};
 ghost use mathlib.Core.List.{_++_};
-ghost use lib.ListN.{getD, drop, replicate};
+ghost use lib.ListN.{drop, replicate};
 ghost use Rattle.lists.specs.Lists.{count};
 ghost use Rattle.tracks.specs.Tracks.{nobody, system, holders, tableOf, run, lowest, filled, replaced};
-ghost use Rattle.tracks.specs.Inner.{Fit, HasTrack, HasTracks, Sizes, foundIs};
+ghost use Rattle.tracks.specs.Inner.{Fit, HasTracks, Sizes, foundIs};
 
 // Tracks 0 to `count` - 1, the first `system` of them the system's. A place holds 0 where the track is free, a program's number, GLOBAL or
 // SYSTEM; places from `count` on hold 0.
@@ -56,14 +56,6 @@ impl Tracks {
             system: own,
             holders: holders,
         }
-    }
-
-    // Who holds track i.
-    pub fn holder(self, i: usize) -> u8
-        requires { ⌜ HasTrack self i ⌝ }
-        ensures { λ r. ⌜ r ≡ getD (holders self) i nobody ⌝ }
-    {
-        self.holders[i]
     }
 
     // Whether n tracks from `start` on are there and all h's.

@@ -18,15 +18,6 @@ Inv-loop state p links q at₀ n₀ at n = (q ≡ p) × Seek links (before p) (b
 abbrev μ-loop : tie.MeasureT-loop
 μ-loop state p links q at₀ n₀ at n = length (walk links at 32)
 
-wide-requires : tie.Need-wide-requires Inv-loop μ-loop
-wide-requires c κs = search needs
-
-array-read-wide : tie.Need-array-read-wide Inv-loop μ-loop
-array-read-wide c = omega arith
-
-wide-requires-2 : tie.Need-wide-requires-2 Inv-loop μ-loop
-wide-requires-2 c κs = search needs
-
 loop-holds : tie.Need-loop-holds Inv-loop μ-loop
 loop-holds c = (c .before .wide .ensures, seek-start _ _ (c .before .before .pre .laid) (c .before .before .pre .state) (c .wide2 .ensures))
 
@@ -40,9 +31,6 @@ add-at c = omega (arith, seek-small (c .before .before .loop .inv .1) (c .before
 
 array-read-wide-2 : tie.Need-array-read-wide-2 Inv-loop μ-loop
 array-read-wide-2 c = omega (arith, seek-small (c .before .before .loop .inv .1) (c .before .loop-test .taken))
-
-wide-requires-3 : tie.Need-wide-requires-3 Inv-loop μ-loop
-wide-requires-3 c κs = search needs
 
 loop-less : tie.Need-loop-less Inv-loop μ-loop
 loop-less c = seek-less (c .before .before .before .loop .inv .1) (c .before .before .loop-test .taken)
@@ -61,14 +49,14 @@ before-of-spec =
     (tie.spec
     Inv-loop
     μ-loop
-    wide-requires
-    array-read-wide
-    wide-requires-2
+    (λ c κs. search needs)
+    (λ c. omega arith)
+    (λ c κs. search needs)
     loop-holds
     returns
     add-at
     array-read-wide-2
-    wide-requires-3
+    (λ c κs. search needs)
     loop-less
     loop-again
     returns-2)

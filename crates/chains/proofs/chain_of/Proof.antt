@@ -19,26 +19,8 @@ abbrev μ-loop : tie.MeasureT-loop
 loop-holds : tie.Need-loop-holds Inv-loop μ-loop
 loop-holds c = record { most = omega arith; full = refl; rest = refl; so-far = refl }
 
-link-requires : tie.Need-link-requires Inv-loop μ-loop
-link-requires c κs = search needs
-
 returns : tie.Need-returns Inv-loop μ-loop
 returns c = part-end (c .before .before .before .loop .inv) (walk-end _ _ _ (sym (c .before .link .ensures) ∙ c .if1 .taken))
-
-array-write-ids : tie.Need-array-write-ids Inv-loop μ-loop
-array-write-ids c = omega arith
-
-add-len : tie.Need-add-len Inv-loop μ-loop
-add-len c = omega arith
-
-wide-requires : tie.Need-wide-requires Inv-loop μ-loop
-wide-requires c κs = search needs
-
-add-at : tie.Need-add-at Inv-loop μ-loop
-add-at c = omega arith
-
-loop-less : tie.Need-loop-less Inv-loop μ-loop
-loop-less c = omega arith
 
 loop-again : tie.Need-loop-again Inv-loop μ-loop
 loop-again c =
@@ -55,12 +37,12 @@ chain-of-spec =
     Inv-loop
     μ-loop
     loop-holds
-    link-requires
+    (λ c κs. search needs)
     returns
-    array-write-ids
-    add-len
-    wide-requires
-    add-at
-    loop-less
+    (λ c. omega arith)
+    (λ c. omega arith)
+    (λ c κs. search needs)
+    (λ c. omega arith)
+    (λ c. omega arith)
     loop-again
     returns-2)

@@ -7,20 +7,8 @@ use Rattle.chains.proofs.Splices.{enter-at, laid-enter}
 use Rattle.chains.proofs.enter.Statement.{statement}
 use Rattle.chains.proofs.enter.Tie as tie
 
-place-of-requires : tie.Need-place-of-requires
-place-of-requires c κs = search needs
-
 array-read-l : tie.Need-array-read-l
 array-read-l c = omega (arith, enter-at (prioIn (c .before .args .programs)) (c .before .pre))
-
-wide-requires : tie.Need-wide-requires
-wide-requires c κs = search needs
-
-add-l : tie.Need-add-l
-add-l c = search needs
-
-array-write-l : tie.Need-array-write-l
-array-write-l c = search needs
 
 array-write-l-2 : tie.Need-array-write-l-2
 array-write-l-2 c = omega (arith, enter-at (prioIn (c .before .before .args .programs)) (c .before .before .pre))
@@ -34,10 +22,10 @@ pub enter-spec : {M : Type 1} → statement M
 enter-spec =
     tie.close
     (tie.spec
-    place-of-requires
+    (λ c κs. search needs)
     array-read-l
-    wide-requires
-    add-l
-    array-write-l
+    (λ c κs. search needs)
+    (λ c. search needs)
+    (λ c. search needs)
     array-write-l-2
     returns)

@@ -6,15 +6,6 @@ use Rattle.chains.proofs.Splices.{leave-at, leave-who, laid-leave}
 use Rattle.chains.proofs.leave.Statement.{statement}
 use Rattle.chains.proofs.leave.Tie as tie
 
-before-of-requires : tie.Need-before-of-requires
-before-of-requires c κs = search needs
-
-wide-requires : tie.Need-wide-requires
-wide-requires c κs = search needs
-
-add-own : tie.Need-add-own
-add-own c = search needs
-
 array-read-l : tie.Need-array-read-l
 array-read-l c = omega (arith, leave-who (c .before .before .pre))
 
@@ -33,9 +24,9 @@ pub leave-spec : {M : Type 1} → statement M
 leave-spec =
     tie.close
     (tie.spec
-    before-of-requires
-    wide-requires
-    add-own
+    (λ c κs. search needs)
+    (λ c κs. search needs)
+    (λ c. search needs)
     array-read-l
     array-write-l
     array-write-l-2

@@ -7,14 +7,8 @@ use borrow.Author.Needs.{needs}
 use Rattle.chains.proofs.link.Statement.{statement}
 use Rattle.chains.proofs.link.Tie as tie
 
-array-read-result : tie.Need-array-read-result
-array-read-result c = search needs
-
-returns : tie.Need-returns
-returns c = search needs
-
 returns-2 : tie.Need-returns-2
 returns-2 c = sym (List·getD-eq-default (c .before .args .t1) 0 (omega arith))
 
 pub link-spec : {M : Type 1} → statement M
-link-spec = tie.close (tie.spec array-read-result returns returns-2)
+link-spec = tie.close (tie.spec (λ c. search needs) (λ c. search needs) returns-2)

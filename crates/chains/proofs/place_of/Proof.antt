@@ -19,31 +19,10 @@ Inv-loop state p links programs mine at₀ n₀ at n =
 abbrev μ-loop : tie.MeasureT-loop
 μ-loop state p links programs mine at₀ n₀ at n = length (walk links at 32)
 
-wide-requires : tie.Need-wide-requires Inv-loop μ-loop
-wide-requires c κs = search needs
-
-sub-own : tie.Need-sub-own Inv-loop μ-loop
-sub-own c = omega arith
-
-mul-own : tie.Need-mul-own Inv-loop μ-loop
-mul-own c = omega arith
-
-array-copy-out-own : tie.Need-array-copy-out-own Inv-loop μ-loop
-array-copy-out-own c = omega arith
-
-array-read-wide : tie.Need-array-read-wide Inv-loop μ-loop
-array-read-wide c = omega arith
-
-wide-requires-2 : tie.Need-wide-requires-2 Inv-loop μ-loop
-wide-requires-2 c κs = search needs
-
 loop-holds : tie.Need-loop-holds Inv-loop μ-loop
 loop-holds c =
     let a = c .before .before .before in
     (ap (prioIn (a .args .t2)) (c .before .before .wide .ensures), seek-start _ _ (a .pre .laid) (a .pre .state) (c .wide2 .ensures))
-
-sub-r : tie.Need-sub-r Inv-loop μ-loop
-sub-r c = omega arith
 
 mul-r : tie.Need-mul-r Inv-loop μ-loop
 mul-r c = omega (arith, seek-small (c .before .loop .inv .1) (c .loop-test .taken))
@@ -64,9 +43,6 @@ add-at c = let h = c .before .before .before in omega (arith, seek-small (h .bef
 array-read-wide-2 : tie.Need-array-read-wide-2 Inv-loop μ-loop
 array-read-wide-2 c = let h = c .before .before .before in omega (arith, seek-small (h .before .loop .inv .1) (h .loop-test .taken))
 
-wide-requires-3 : tie.Need-wide-requires-3 Inv-loop μ-loop
-wide-requires-3 c κs = search needs
-
 loop-less : tie.Need-loop-less Inv-loop μ-loop
 loop-less c = let h = c .before .before .before .before in seek-less (h .before .loop .inv .1) (h .loop-test .taken)
 
@@ -85,20 +61,20 @@ place-of-spec =
     (tie.spec
     Inv-loop
     μ-loop
-    wide-requires
-    sub-own
-    mul-own
-    array-copy-out-own
-    array-read-wide
-    wide-requires-2
+    (λ c κs. search needs)
+    (λ c. omega arith)
+    (λ c. omega arith)
+    (λ c. omega arith)
+    (λ c. omega arith)
+    (λ c κs. search needs)
     loop-holds
-    sub-r
+    (λ c. omega arith)
     mul-r
     array-copy-out-r
     returns
     add-at
     array-read-wide-2
-    wide-requires-3
+    (λ c κs. search needs)
     loop-less
     loop-again
     returns-2)

@@ -5,33 +5,18 @@ use borrow.Author.Needs.{needs}
 use Rattle.sheet.proofs.print_last.Statement.{statement}
 use Rattle.sheet.proofs.print_last.Tie as tie
 
-print-line-requires : tie.Need-print-line-requires
-print-line-requires c κs = search needs
-
-bytes-printed-requires : tie.Need-bytes-printed-requires
-bytes-printed-requires c κs = search needs
-
 write-front-requires : tie.Need-write-front-requires
 write-front-requires c κs =
     let p = c .before .before .before .before in
     omega (arith, printed-fits _ _ _ (p .print-line .last .1 .1 .0) (p .print-line .result) (p .print-line .ensures) (search needs))
 
-same-length : tie.Need-same-length
-same-length c = search needs
-
-returns : tie.Need-returns
-returns c = search needs
-
-returns-2 : tie.Need-returns-2
-returns-2 c = search needs
-
 pub print-last-spec : {M : Type 1} → statement M
 print-last-spec =
     tie.close
     (tie.spec
-    print-line-requires
-    bytes-printed-requires
+    (λ c κs. search needs)
+    (λ c κs. search needs)
     write-front-requires
-    same-length
-    returns
-    returns-2)
+    (λ c. search needs)
+    (λ c. search needs)
+    (λ c. search needs))

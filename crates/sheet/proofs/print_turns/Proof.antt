@@ -32,25 +32,13 @@ through o e = let n = onward-none o e in record { tables = λ w. n .0; rest = λ
 loop-holds : tie.Need-loop-holds Inv-loop μ-loop
 loop-holds c = let a = c .before .before .args in (refl, onward-start (a .tables) (a .block .now), ended-few (a .block .now))
 
-print-block-requires : tie.Need-print-block-requires Inv-loop μ-loop
-print-block-requires c κs = search needs
-
 write-front-requires : tie.Need-write-front-requires Inv-loop μ-loop
 write-front-requires c κs =
     let p = c .before .before .before .before .before in
     omega (arith, turned-fits _ _ _ _ _ (p .print-block .ensures) (search needs))
 
-same-length : tie.Need-same-length Inv-loop μ-loop
-same-length c = search needs
-
 returns : tie.Need-returns Inv-loop μ-loop
 returns c = record { tables = λ w. false-true w; rest = λ w. false-true w }
-
-sub-left : tie.Need-sub-left Inv-loop μ-loop
-sub-left c = search needs
-
-loop-less : tie.Need-loop-less Inv-loop μ-loop
-loop-less c = search needs
 
 loop-again : tie.Need-loop-again Inv-loop μ-loop
 loop-again c =
@@ -61,14 +49,8 @@ loop-again c =
       omega (arith, turn-fewer (l .loop .t) (Block l) (l .loop .from) (l .loop .out) _ (p .print-block .ensures) (λ q. omega arith), l .loop .inv .2),
     )
 
-same-length-2 : tie.Need-same-length-2 Inv-loop μ-loop
-same-length-2 c = search needs
-
 returns-2 : tie.Need-returns-2 Inv-loop μ-loop
 returns-2 c = let l = c .before in through (l .loop .inv .1) (no-lines-left (ended (parts 10 (drop (l .loop .from) (Block l)))) (omega (arith, l .loop .inv .2)))
-
-same-length-3 : tie.Need-same-length-3 Inv-loop μ-loop
-same-length-3 c = search needs
 
 returns-3 : tie.Need-returns-3 Inv-loop μ-loop
 returns-3 c =
@@ -85,14 +67,14 @@ print-turns-spec =
     Inv-loop
     μ-loop
     loop-holds
-    print-block-requires
+    (λ c κs. search needs)
     write-front-requires
-    same-length
+    (λ c. search needs)
     returns
-    sub-left
-    loop-less
+    (λ c. search needs)
+    (λ c. search needs)
     loop-again
-    same-length-2
+    (λ c. search needs)
     returns-2
-    same-length-3
+    (λ c. search needs)
     returns-3)

@@ -15,9 +15,6 @@ Inv-loop s from to w o₀ i₀ o i = (i ≤ length w) × (o + length w ≡ to + 
 abbrev μ-loop : tie.MeasureT-loop
 μ-loop s from to w o₀ i₀ o i = length w - i
 
-sub-if1 : tie.Need-sub-if1 Inv-loop μ-loop
-sub-if1 c = omega arith
-
 returns : tie.Need-returns Inv-loop μ-loop
 returns c =
     let a = c .before .args in
@@ -26,26 +23,11 @@ returns c =
 loop-holds : tie.Need-loop-holds Inv-loop μ-loop
 loop-holds c = (omega arith, omega arith, refl)
 
-shared-slice-read-if2 : tie.Need-shared-slice-read-if2 Inv-loop μ-loop
-shared-slice-read-if2 c = omega arith
-
-shared-slice-read-if2-2 : tie.Need-shared-slice-read-if2-2 Inv-loop μ-loop
-shared-slice-read-if2-2 c = omega arith
-
 returns-2 : tie.Need-returns-2 Inv-loop μ-loop
 returns-2 c =
     let b = c .before .before .before .before in
     let a = b .before .before .args in
     sym (b .loop .inv .2 ∙ alike-differ (a .s .now) (a .w .now) (b .loop .o) (b .loop .i) (a .to) (omega arith) (omega arith) (omega arith) (c .if2 .taken))
-
-add-o : tie.Need-add-o Inv-loop μ-loop
-add-o c = omega arith
-
-add-i : tie.Need-add-i Inv-loop μ-loop
-add-i c = omega arith
-
-loop-less : tie.Need-loop-less Inv-loop μ-loop
-loop-less c = omega arith
 
 loop-again : tie.Need-loop-again Inv-loop μ-loop
 loop-again c =
@@ -65,14 +47,14 @@ is-word-spec =
     (tie.spec
     Inv-loop
     μ-loop
-    sub-if1
+    (λ c. omega arith)
     returns
     loop-holds
-    shared-slice-read-if2
-    shared-slice-read-if2-2
+    (λ c. omega arith)
+    (λ c. omega arith)
     returns-2
-    add-o
-    add-i
-    loop-less
+    (λ c. omega arith)
+    (λ c. omega arith)
+    (λ c. omega arith)
     loop-again
     returns-3)

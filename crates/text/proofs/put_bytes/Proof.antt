@@ -18,20 +18,11 @@ abbrev μ-loop : tie.MeasureT-loop
 loop-holds : tie.Need-loop-holds Inv-loop μ-loop
 loop-holds c = (omega arith, left-start)
 
-shared-slice-read-buf : tie.Need-shared-slice-read-buf Inv-loop μ-loop
-shared-slice-read-buf c = omega arith
-
 slice-write-buf : tie.Need-slice-write-buf Inv-loop μ-loop
 slice-write-buf c = omega (arith, length-drop (c .before .before .loop .i) (c .before .before .before .args .s .now))
 
 add-o : tie.Need-add-o Inv-loop μ-loop
 add-o c = omega (arith, length-drop (c .before .before .loop .i) (c .before .before .before .args .s .now))
-
-add-i : tie.Need-add-i Inv-loop μ-loop
-add-i c = omega arith
-
-loop-less : tie.Need-loop-less Inv-loop μ-loop
-loop-less c = omega arith
 
 loop-again : tie.Need-loop-again Inv-loop μ-loop
 loop-again c = (omega arith, left-turn (c .before .before .before .args .s .now) (c .before .loop-test .taken) (c .before .before .loop .inv .1))
@@ -53,11 +44,11 @@ put-bytes-spec =
     Inv-loop
     μ-loop
     loop-holds
-    shared-slice-read-buf
+    (λ c. omega arith)
     slice-write-buf
     add-o
-    add-i
-    loop-less
+    (λ c. omega arith)
+    (λ c. omega arith)
     loop-again
     same-length
     returns)

@@ -24,9 +24,6 @@ small c = omega (arith, ten-mono (c .before .loop .i - c .before .before .args .
 loop-holds : tie.Need-loop-holds Inv-loop μ-loop
 loop-holds c = (omega arith, omega arith, ten-mono 0 (c .args .from - c .args .from) (omega arith), refl)
 
-shared-slice-read-b : tie.Need-shared-slice-read-b Inv-loop μ-loop
-shared-slice-read-b c = omega arith
-
 returns : tie.Need-returns Inv-loop μ-loop
 returns c =
     let b = c .before .before .before in
@@ -44,17 +41,8 @@ returns-2 c =
 mul-a : tie.Need-mul-a Inv-loop μ-loop
 mul-a c = omega (arith, small (c .before .before .before))
 
-cast-a : tie.Need-cast-a Inv-loop μ-loop
-cast-a c = omega arith
-
 add-a : tie.Need-add-a Inv-loop μ-loop
 add-a c = omega (arith, small (c .before .before .before))
-
-add-i : tie.Need-add-i Inv-loop μ-loop
-add-i c = omega arith
-
-loop-less : tie.Need-loop-less Inv-loop μ-loop
-loop-less c = omega arith
 
 loop-again : tie.Need-loop-again Inv-loop μ-loop
 loop-again c =
@@ -80,13 +68,13 @@ read-digits-spec =
     Inv-loop
     μ-loop
     loop-holds
-    shared-slice-read-b
+    (λ c. omega arith)
     returns
     returns-2
     mul-a
-    cast-a
+    (λ c. omega arith)
     add-a
-    add-i
-    loop-less
+    (λ c. omega arith)
+    (λ c. omega arith)
     loop-again
     returns-3)

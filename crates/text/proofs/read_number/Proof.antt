@@ -17,34 +17,22 @@ Part s = slice (s .args .from) (s .args .to) (s .args .s .now)
 long : (s : tie.Start) → length (Part s) ≡ s .args .to - s .args .from
 long s = length-slice (s .args .from) (s .args .to) (s .args .s .now) (omega arith)
 
-sub-n : tie.Need-sub-n
-sub-n c = search needs
-
 returns : tie.Need-returns
 returns c = let s = c .before .before in sym (numberOf-none 10 (Part s) (omega (arith, long s)))
 
 returns-2 : tie.Need-returns-2
 returns-2 c = let s = c .before .before .before in sym (numberOf-long 10 (Part s) (omega (arith, long s)))
 
-read-digits-requires : tie.Need-read-digits-requires
-read-digits-requires c κs = search needs
-
 returns-3 : tie.Need-returns-3
 returns-3 c =
     let s = c .before .before .before .before .before in
     c .read-digits .ensures ∙ sym (numberOf-plain 10 (Part s) (omega (arith, long s)) (omega (arith, long s)) (λ l q. omega (arith, long s)))
-
-shared-slice-read-if4 : tie.Need-shared-slice-read-if4
-shared-slice-read-if4 c = search needs
 
 returns-4 : tie.Need-returns-4
 returns-4 c =
     let s = c .before .before .before .before .before .before in
     let a = s .args in
     sym (numberOf-zero 10 (Part s) (omega (arith, long s)) (slice-head (a .s .now) (a .from) (a .to) (omega arith) (omega arith) ∙ c .if4 .taken))
-
-read-digits-requires-2 : tie.Need-read-digits-requires-2
-read-digits-requires-2 c κs = search needs
 
 returns-5 : tie.Need-returns-5
 returns-5 c =
@@ -57,12 +45,12 @@ pub read-number-spec : {M : Type 1} → statement M
 read-number-spec =
     tie.close
     (tie.spec
-    sub-n
+    (λ c. search needs)
     returns
     returns-2
-    read-digits-requires
+    (λ c κs. search needs)
     returns-3
-    shared-slice-read-if4
+    (λ c. search needs)
     returns-4
-    read-digits-requires-2
+    (λ c κs. search needs)
     returns-5)

@@ -48,9 +48,6 @@ slice-write-block c = let m = many (c .before .before .before) in omega arith
 add-i : tie.Need-add-i Inv-loop μ-loop
 add-i c = let m = many (c .before .before .before) in omega arith
 
-loop-less : tie.Need-loop-less Inv-loop μ-loop
-loop-less c = omega arith
-
 loop-again : tie.Need-loop-again Inv-loop μ-loop
 loop-again c = let m = many (c .before .before .before) in (omega arith, copied-turn (c .before .before .loop .inv .1) (omega arith) (omega arith))
 
@@ -76,7 +73,7 @@ carry-spec =
     slice-read-block
     slice-write-block
     add-i
-    loop-less
+    (λ c. omega arith)
     loop-again
     same-length
     returns-3)

@@ -42,9 +42,6 @@ fitting c =
     going-fits (i .before .loop .inv .1) (i .before .loop .end) (ends (i .before)) (i .loop-test .taken) (room-left (Entered c))
     (p .print-line .result) (p .print-line .last .1 .1 .0) (search needs) (p .print-line .ensures) (c .bytes-printed .result) (c .bytes-printed .ensures)
 
-line-end-requires : tie.Need-line-end-requires Inv-loop μ-loop
-line-end-requires c κs = search needs
-
 loop-holds : tie.Need-loop-holds Inv-loop μ-loop
 loop-holds c = let a = c .before .before .before .args in (c .line-end .ensures, going-start (a .tables) (a .block .now) (a .at) (a .out .now))
 
@@ -65,32 +62,14 @@ sub-print-line c = low (c .before)
 part-print-line-start : tie.Need-part-print-line-start Inv-loop μ-loop
 part-print-line-start c = low (c .before)
 
-part-print-line-end : tie.Need-part-print-line-end Inv-loop μ-loop
-part-print-line-end c = search needs
-
 sub-print-line-2 : tie.Need-sub-print-line-2 Inv-loop μ-loop
 sub-print-line-2 c = omega (arith, going-length (c .before .before .before .loop .inv .1))
 
 part-print-line-start-2 : tie.Need-part-print-line-start-2 Inv-loop μ-loop
 part-print-line-start-2 c = omega (arith, going-length (c .before .before .before .loop .inv .1))
 
-part-print-line-end-2 : tie.Need-part-print-line-end-2 Inv-loop μ-loop
-part-print-line-end-2 c = search needs
-
-print-line-requires : tie.Need-print-line-requires Inv-loop μ-loop
-print-line-requires c κs = search needs
-
-bytes-printed-requires : tie.Need-bytes-printed-requires Inv-loop μ-loop
-bytes-printed-requires c κs = search needs
-
 add-used : tie.Need-add-used Inv-loop μ-loop
 add-used c = record { fits = omega (arith, fitting c, small (Entered c .before .before .before .before)) }
-
-add-from : tie.Need-add-from Inv-loop μ-loop
-add-from c = search needs
-
-line-end-requires-2 : tie.Need-line-end-requires-2 Inv-loop μ-loop
-line-end-requires-2 c κs = search needs
 
 loop-less : tie.Need-loop-less Inv-loop μ-loop
 loop-less c = omega (arith, low (Entered (c .before) .before))
@@ -119,22 +98,22 @@ print-block-spec =
     (tie.spec
     Inv-loop
     μ-loop
-    line-end-requires
+    (λ c κs. search needs)
     loop-holds
     sub-if1
     same-length
     returns
     sub-print-line
     part-print-line-start
-    part-print-line-end
+    (λ c. search needs)
     sub-print-line-2
     part-print-line-start-2
-    part-print-line-end-2
-    print-line-requires
-    bytes-printed-requires
+    (λ c. search needs)
+    (λ c κs. search needs)
+    (λ c κs. search needs)
     add-used
-    add-from
-    line-end-requires-2
+    (λ c. search needs)
+    (λ c κs. search needs)
     loop-less
     loop-again
     same-length-2

@@ -5,12 +5,9 @@ use Rattle.clock.specs.Clock.{timeOf}
 use Rattle.clock.proofs.Clock.time.Statement.{statement}
 use Rattle.clock.proofs.Clock.time.Tie as tie
 
-add-t5 : tie.Need-add-t5
-add-t5 c = search needs
-
 returns : tie.Need-returns
 unfolding timeOf
 returns c = refl
 
 pub time-spec : {M : Type 1} → statement M
-time-spec = tie.close (tie.spec add-t5 returns)
+time-spec = tie.close (tie.spec (λ c. search needs) returns)

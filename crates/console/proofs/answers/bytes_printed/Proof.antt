@@ -8,9 +8,6 @@ use Rattle.console.proofs.AnswerLaws.{bytes-none}
 use Rattle.console.proofs.answers.bytes_printed.Statement.{statement}
 use Rattle.console.proofs.answers.bytes_printed.Tie as tie
 
-enum-known-answer : tie.Need-enum-known-answer
-enum-known-answer c = search needs
-
 returns : tie.Need-returns
 returns c = ap (λ (a : Answer). printedBytes (number a) (values a)) (sym (c .before .answer .given .1))
 
@@ -18,4 +15,4 @@ returns-2 : tie.Need-returns-2
 returns-2 c = bytes-none (c .before .args .answer) (c .match .keys2)
 
 pub bytes-printed-spec : {M : Type 1} → statement M
-bytes-printed-spec = tie.close (tie.spec enum-known-answer returns returns-2)
+bytes-printed-spec = tie.close (tie.spec (λ c. search needs) returns returns-2)

@@ -33,20 +33,11 @@ size : (c : tie.After-number-of)
     → length (answerBytes (begun c .args .answer)) ≡ length (decimal (c .number-of .result)) + length (valuesLine (begun c .args .answer)) + 15
 size c = answer-length (begun c .args .answer) (c .number-of .result) (c .number-of .ensures)
 
-slice-aggregate-put-bytes : tie.Need-slice-aggregate-put-bytes
-slice-aggregate-put-bytes c = search needs
-
 put-bytes-requires : tie.Need-put-bytes-requires
 put-bytes-requires c κs = omega (arith, answer-length (entry c .args .answer) (number (entry c .args .answer)) refl)
 
-number-of-requires : tie.Need-number-of-requires
-number-of-requires c κs = search needs
-
 put-number-requires : tie.Need-put-number-requires
 put-number-requires c κs = omega (arith, size c)
-
-slice-aggregate-put-bytes-2 : tie.Need-slice-aggregate-put-bytes-2
-slice-aggregate-put-bytes-2 c = search needs
 
 put-bytes-requires-2 : tie.Need-put-bytes-requires-2
 put-bytes-requires-2 c κs = omega (arith, size (keyed c))
@@ -75,11 +66,11 @@ pub put-answer-spec : {M : Type 1} → statement M
 put-answer-spec =
     tie.close
     (tie.spec
-    slice-aggregate-put-bytes
+    (λ c. search needs)
     put-bytes-requires
-    number-of-requires
+    (λ c κs. search needs)
     put-number-requires
-    slice-aggregate-put-bytes-2
+    (λ c. search needs)
     put-bytes-requires-2
     put-values-requires
     put-byte-requires

@@ -6,12 +6,6 @@ use Rattle.text.proofs.Laws.{wrote-then, wrote-length}
 use Rattle.console.proofs.answers.put_dotted.Statement.{statement}
 use Rattle.console.proofs.answers.put_dotted.Tie as tie
 
-put-byte-requires : tie.Need-put-byte-requires
-put-byte-requires c κs = search needs
-
-put-number-requires : tie.Need-put-number-requires
-put-number-requires c κs = search needs
-
 returns : tie.Need-returns
 returns c =
     let n = c .before .before in
@@ -22,4 +16,4 @@ same-length : tie.Need-same-length
 same-length c = wrote-length (returns c)
 
 pub put-dotted-spec : {M : Type 1} → statement M
-put-dotted-spec = tie.close (tie.spec put-byte-requires put-number-requires same-length returns)
+put-dotted-spec = tie.close (tie.spec (λ c κs. search needs) (λ c κs. search needs) same-length returns)

@@ -15,28 +15,16 @@ value : (c : tie.After-value-of) → valuesLine (c .before .before .before .befo
 value c =
     no-time (c .before .before .before .before .args .answer) (c .before .before .match .keys2) ∙ ap decimal (sym (c .value-of .ensures))
 
-enum-known-answer : tie.Need-enum-known-answer
-enum-known-answer c = search needs
-
 put-time-requires : tie.Need-put-time-requires
 unfolding valuesLine
 put-time-requires c κs = omega (arith, ap (λ (a : Answer). length (valuesLine a)) (c .before .before .answer .given .1))
 
-value-of-requires : tie.Need-value-of-requires
-value-of-requires c κs = search needs
-
 put-number-requires : tie.Need-put-number-requires
 put-number-requires c κs = omega (arith, ap length (value c))
-
-same-length : tie.Need-same-length
-same-length c = search needs
 
 returns : tie.Need-returns
 unfolding valuesLine
 returns c = let w = c .before .before in rw (w .before .before .before .answer .given .1) (w .put-time .ensures)
-
-same-length-2 : tie.Need-same-length-2
-same-length-2 c = search needs
 
 returns-2 : tie.Need-returns-2
 returns-2 c = let w = c .before .before in rw (value (w .before)) (w .put-number .ensures)
@@ -45,11 +33,11 @@ pub put-values-spec : {M : Type 1} → statement M
 put-values-spec =
     tie.close
     (tie.spec
-    enum-known-answer
+    (λ c. search needs)
     put-time-requires
-    value-of-requires
+    (λ c κs. search needs)
     put-number-requires
-    same-length
+    (λ c. search needs)
     returns
-    same-length-2
+    (λ c. search needs)
     returns-2)

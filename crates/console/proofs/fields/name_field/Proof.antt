@@ -19,12 +19,6 @@ abbrev μ-loop : tie.MeasureT-loop
 returns : tie.Need-returns Inv-loop μ-loop
 returns c = name-past (c .if1 .taken)
 
-part-end-requires : tie.Need-part-end-requires Inv-loop μ-loop
-part-end-requires c κs = omega arith
-
-sub-if2 : tie.Need-sub-if2 Inv-loop μ-loop
-sub-if2 c = omega arith
-
 returns-2 : tie.Need-returns-2 Inv-loop μ-loop
 returns-2 c =
     let p = c .before .part-end in
@@ -34,58 +28,22 @@ returns-2 c =
 loop-holds : tie.Need-loop-holds Inv-loop μ-loop
 loop-holds c = filling-start (c .before .part-end .ensures .low)
 
-shared-slice-read-c : tie.Need-shared-slice-read-c Inv-loop μ-loop
-shared-slice-read-c c = omega arith
-
 returns-3 : tie.Need-returns-3 Inv-loop μ-loop
 returns-3 c =
     let l = c .before .before .before in
     let p = l .before .before .part-end .ensures in
     name-not p (filling-blank (l .loop .inv) (p .high) (c .before .before .loop-test .taken) (c .if3 .taken))
 
-sub-name : tie.Need-sub-name Inv-loop μ-loop
-sub-name c = omega arith
-
-array-write-name : tie.Need-array-write-name Inv-loop μ-loop
-array-write-name c = omega arith
-
-add-i : tie.Need-add-i Inv-loop μ-loop
-add-i c = omega arith
-
-loop-less : tie.Need-loop-less Inv-loop μ-loop
-loop-less c = omega arith
-
 loop-again : tie.Need-loop-again Inv-loop μ-loop
 loop-again c =
     let l = c .before .before .before in
     filling-turn (l .loop .inv) (l .before .before .part-end .ensures .high) (c .before .before .loop-test .taken) (c .if3 .left)
-
-is-legal-requires : tie.Need-is-legal-requires Inv-loop μ-loop
-is-legal-requires c κs = search needs
 
 returns-4 : tie.Need-returns-4 Inv-loop μ-loop
 returns-4 c =
     let l = c .before .before .before in
     let p = l .before .before .part-end .ensures in
     name-not p (filled-not (l .loop .inv) (p .high) (omega arith) (omega arith) (sym (c .before .is-legal .ensures) ∙ not-true _ (c .if4 .taken)))
-
-array-read-t19 : tie.Need-array-read-t19 Inv-loop μ-loop
-array-read-t19 c = omega arith
-
-array-read-t22 : tie.Need-array-read-t22 Inv-loop μ-loop
-array-read-t22 c = omega arith
-
-array-read-t25 : tie.Need-array-read-t25 Inv-loop μ-loop
-array-read-t25 c = omega arith
-
-array-read-t28 : tie.Need-array-read-t28 Inv-loop μ-loop
-array-read-t28 c = omega arith
-
-array-read-t31 : tie.Need-array-read-t31 Inv-loop μ-loop
-array-read-t31 c = omega arith
-
-add-t7 : tie.Need-add-t7 Inv-loop μ-loop
-add-t7 c = omega arith
 
 returns-5 : tie.Need-returns-5 Inv-loop μ-loop
 returns-5 c =
@@ -100,23 +58,23 @@ name-field-spec =
     Inv-loop
     μ-loop
     returns
-    part-end-requires
-    sub-if2
+    (λ c κs. omega arith)
+    (λ c. omega arith)
     returns-2
     loop-holds
-    shared-slice-read-c
+    (λ c. omega arith)
     returns-3
-    sub-name
-    array-write-name
-    add-i
-    loop-less
+    (λ c. omega arith)
+    (λ c. omega arith)
+    (λ c. omega arith)
+    (λ c. omega arith)
     loop-again
-    is-legal-requires
+    (λ c κs. search needs)
     returns-4
-    array-read-t19
-    array-read-t22
-    array-read-t25
-    array-read-t28
-    array-read-t31
-    add-t7
+    (λ c. omega arith)
+    (λ c. omega arith)
+    (λ c. omega arith)
+    (λ c. omega arith)
+    (λ c. omega arith)
+    (λ c. omega arith)
     returns-5)

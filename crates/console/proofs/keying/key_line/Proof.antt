@@ -6,15 +6,6 @@ use Rattle.console.proofs.KeyLaws.{keyed-obeys}
 use Rattle.console.proofs.keying.key_line.Statement.{statement}
 use Rattle.console.proofs.keying.key_line.Tie as tie
 
-command-of-requires : tie.Need-command-of-requires
-command-of-requires c κs = search needs
-
-obey-requires : tie.Need-obey-requires
-obey-requires c κs = search needs
-
-same-length : tie.Need-same-length
-same-length c = search needs
-
 returns : tie.Need-returns
 returns c =
     let o = c .before .before in
@@ -25,4 +16,4 @@ returns c =
     ∙ sym (keyed-obeys (a .tables) (a .line .now) (a .buf .now))
 
 pub key-line-spec : {M : Type 1} → statement M
-key-line-spec = tie.close (tie.spec command-of-requires obey-requires same-length returns)
+key-line-spec = tie.close (tie.spec (λ c κs. search needs) (λ c κs. search needs) (λ c. search needs) returns)

@@ -5,9 +5,6 @@ use Rattle.console.proofs.KeyLaws.{refusing-sound, refusing-unsound}
 use Rattle.console.proofs.keying.not_understood.Statement.{statement}
 use Rattle.console.proofs.keying.not_understood.Tie as tie
 
-is-sound-requires : tie.Need-is-sound-requires
-is-sound-requires c κs = search needs
-
 returns : tie.Need-returns
 returns c = refusing-sound (c .before .before .args .tables) (sym (c .before .is-sound .ensures) ∙ c .if1 .taken)
 
@@ -15,4 +12,4 @@ returns-2 : tie.Need-returns-2
 returns-2 c = refusing-unsound (c .before .before .args .tables) (sym (c .before .is-sound .ensures) ∙ c .if1 .left)
 
 pub not-understood-spec : {M : Type 1} → statement M
-not-understood-spec = tie.close (tie.spec is-sound-requires returns returns-2)
+not-understood-spec = tie.close (tie.spec (λ c κs. search needs) returns returns-2)

@@ -16,24 +16,6 @@ Obeyed s x = let a = s .args in obeys (a .tables) (a .buf .now) (saying (a .comm
 told : (s : tie.Start) {x : Said} → s .args .command .said ≡ x → Obeyed s x ≡ Obeyed s (s .args .command .said)
 told s e = ap (Obeyed s) (sym e)
 
-enum-told : tie.Need-enum-told
-enum-told c = search needs
-
-not-understood-requires : tie.Need-not-understood-requires
-not-understood-requires c κs = search needs
-
-enum-told-2 : tie.Need-enum-told-2
-enum-told-2 c = search needs
-
-write-page-requires : tie.Need-write-page-requires
-write-page-requires c κs = search needs
-
-enum-known-said : tie.Need-enum-known-said
-enum-known-said c = search needs
-
-ask-requires : tie.Need-ask-requires
-ask-requires c κs = search needs
-
 returns : tie.Need-returns
 returns c =
     let s = c .before .before .before .before .before in
@@ -41,9 +23,6 @@ returns c =
     ap (beside (a .buf .now)) (c .not-understood .ensures)
     ∙ sym (obeys-bad (a .tables) (a .buf .now))
     ∙ told s (c .before .enum-told .given .1)
-
-same-length : tie.Need-same-length
-same-length c = search needs
 
 returns-2 : tie.Need-returns-2
 returns-2 c =
@@ -61,13 +40,13 @@ pub obey-spec : {M : Type 1} → statement M
 obey-spec =
     tie.close
     (tie.spec
-    enum-told
-    not-understood-requires
-    enum-told-2
-    write-page-requires
-    enum-known-said
-    ask-requires
+    (λ c. search needs)
+    (λ c κs. search needs)
+    (λ c. search needs)
+    (λ c κs. search needs)
+    (λ c. search needs)
+    (λ c κs. search needs)
     returns
-    same-length
+    (λ c. search needs)
     returns-2
     returns-3)

@@ -81,21 +81,6 @@ returns c =
     let a = c .before .before .before .args in
     sym (shown-short (a .tables) (a .line .now) (a .out .now) (c .if1 .taken))
 
-command-of-requires : tie.Need-command-of-requires
-command-of-requires c κs = search needs
-
-obey-requires : tie.Need-obey-requires
-obey-requires c κs = search needs
-
-is-page-requires : tie.Need-is-page-requires
-is-page-requires c κs = search needs
-
-enum-told : tie.Need-enum-told
-enum-told c = search needs
-
-same-length : tie.Need-same-length
-same-length c = search needs
-
 returns-2 : tie.Need-returns-2
 returns-2 c =
     let asked = c .before .before in
@@ -109,9 +94,6 @@ put-answer-requires c κs =
     let o = Obeyed (c .before .before) in
     let a = S o .args in
     printed-room (a .tables) (a .line .now) (a .out .now) (big o) (fits (S o)) (o .obey .result) (After o) (same o) (other (c .before))
-
-same-length-2 : tie.Need-same-length-2
-same-length-2 c = search needs
 
 returns-3 : tie.Need-returns-3
 returns-3 c =
@@ -127,12 +109,12 @@ print-line-spec =
     tie.close
     (tie.spec
     returns
-    command-of-requires
-    obey-requires
-    is-page-requires
-    enum-told
-    same-length
+    (λ c κs. search needs)
+    (λ c κs. search needs)
+    (λ c κs. search needs)
+    (λ c. search needs)
+    (λ c. search needs)
     returns-2
     put-answer-requires
-    same-length-2
+    (λ c. search needs)
     returns-3)

@@ -8,11 +8,8 @@ use Rattle.console.proofs.lines.line_end.Tie as tie
 returns : tie.Need-returns
 returns c = end-past _ _ (c .if1 .taken)
 
-part-end-requires : tie.Need-part-end-requires
-part-end-requires c κs = search needs
-
 returns-2 : tie.Need-returns-2
 returns-2 c = end-within _ _ _ (omega arith) (c .part-end .ensures)
 
 pub line-end-spec : {M : Type 1} → statement M
-line-end-spec = tie.close (tie.spec returns part-end-requires returns-2)
+line-end-spec = tie.close (tie.spec returns (λ c κs. search needs) returns-2)

@@ -17,17 +17,11 @@ Inv-loop s all at₀ last₀ at last = (last < noWord) × (at ≤ length s + 1) 
 abbrev μ-loop : tie.MeasureT-loop
 μ-loop s all at₀ last₀ at last = length s + 1 - at
 
-not-said-requires : tie.Need-not-said-requires Inv-loop μ-loop
-not-said-requires c κs = search needs
-
 returns : tie.Need-returns Inv-loop μ-loop
 returns c = c .not-said .ensures ∙ sym (line-long (c .before .before .before .args .s .now) (c .before .if1 .taken))
 
 loop-holds : tie.Need-loop-holds Inv-loop μ-loop
 loop-holds c = (omega arith, omega arith, line-fits (c .before .before .before .args .s .now) (c .before .if1 .left))
-
-word-of-requires : tie.Need-word-of-requires Inv-loop μ-loop
-word-of-requires c κs = omega arith
 
 end-of-requires : tie.Need-end-of-requires Inv-loop μ-loop
 end-of-requires c κs = (omega arith, omega arith)
@@ -38,9 +32,6 @@ returns-2 c =
     let l = w .before .before in
     let s = l .before .before .before .before in
     c .end-of .ensures ∙ sym (l .loop .inv .2 ∙ word-last (l .loop .inv .0) (s .args .s .now) (l .loop .at) (w .word-of .ensures) (c .before .if2 .taken))
-
-part-end-requires : tie.Need-part-end-requires Inv-loop μ-loop
-part-end-requires c κs = omega arith
 
 which-requires : tie.Need-which-requires Inv-loop μ-loop
 which-requires c κs = (omega arith, (omega arith, told-keys))
@@ -56,12 +47,6 @@ returns-3 c =
     let s = l .before .before .before .before in
     let none = word-none (l .loop .inv .0) (s .args .s .now) (l .loop .at) (p .part-end .ensures) (w .which .ensures) (c .before .if3 .taken) in
     c .end-of2 .ensures ∙ sym (l .loop .inv .2 ∙ none)
-
-add-at : tie.Need-add-at Inv-loop μ-loop
-add-at c = omega arith
-
-loop-less : tie.Need-loop-less Inv-loop μ-loop
-loop-less c = omega arith
 
 loop-again : tie.Need-loop-again Inv-loop μ-loop
 loop-again c =
@@ -87,18 +72,18 @@ command-of-spec =
     (tie.spec
     Inv-loop
     μ-loop
-    not-said-requires
+    (λ c κs. search needs)
     returns
     loop-holds
-    word-of-requires
+    (λ c κs. omega arith)
     end-of-requires
     returns-2
-    part-end-requires
+    (λ c κs. omega arith)
     which-requires
     end-of-requires-2
     returns-3
-    add-at
-    loop-less
+    (λ c. omega arith)
+    (λ c. omega arith)
     loop-again
     end-of-requires-3
     returns-4)

@@ -23,30 +23,12 @@ ends : (w : tie.After-word-of) {named : Bool} → w .word-of .result .1 ≡ name
     → ended (w .before .before .args .last) (Fields w) ≡ taking named (w .word-of .result .2) (w .before .before .args .last) (Fields w)
 ends w h = ended-as (w .before .before .args .last) (w .word-of .ensures) h (Fields w)
 
-word-of-requires : tie.Need-word-of-requires
-word-of-requires c κs = search needs
-
-name-field-requires : tie.Need-name-field-requires
-name-field-requires c κs = search needs
-
-enum-known-a : tie.Need-enum-known-a
-enum-known-a c = search needs
-
-enum-told : tie.Need-enum-told
-enum-told c = search needs
-
-not-said-requires : tie.Need-not-said-requires
-not-said-requires c κs = search needs
-
 returns : tie.Need-returns
 returns c =
     let n = c .before .before .before in
     let w = n .before .before in
     c .not-said .ensures
     ∙ sym (ends w (n .before .if1 .taken) ∙ name-told (n .name-field .ensures) (c .before .enum-told .given .1) (Behind w))
-
-with-numbers-requires : tie.Need-with-numbers-requires
-with-numbers-requires c κs = search needs
 
 returns-2 : tie.Need-returns-2
 returns-2 c =
@@ -55,9 +37,6 @@ returns-2 c =
     c .with-numbers .ensures
     ∙ sym (ends w (n .before .if1 .taken) ∙ name-told (n .name-field .ensures) (c .before .before .a .given .1) (Behind w))
 
-with-numbers-requires-2 : tie.Need-with-numbers-requires-2
-with-numbers-requires-2 c κs = search needs
-
 returns-3 : tie.Need-returns-3
 returns-3 c = c .with-numbers2 .ensures ∙ sym (ends (c .before .before) (c .before .if1 .left))
 
@@ -65,13 +44,13 @@ pub end-of-spec : {M : Type 1} → statement M
 end-of-spec =
     tie.close
     (tie.spec
-    word-of-requires
-    name-field-requires
-    enum-known-a
-    enum-told
-    not-said-requires
+    (λ c κs. search needs)
+    (λ c κs. search needs)
+    (λ c. search needs)
+    (λ c. search needs)
+    (λ c κs. search needs)
     returns
-    with-numbers-requires
+    (λ c κs. search needs)
     returns-2
-    with-numbers-requires-2
+    (λ c κs. search needs)
     returns-3)

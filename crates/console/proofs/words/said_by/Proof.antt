@@ -5,15 +5,9 @@ use Rattle.console.specs.Inner.{requests}
 use Rattle.console.proofs.words.said_by.Statement.{statement}
 use Rattle.console.proofs.words.said_by.Tie as tie
 
-mul-result : tie.Need-mul-result
-mul-result c = search needs
-
-array-copy-out-result : tie.Need-array-copy-out-result
-array-copy-out-result c = search needs
-
 returns : tie.Need-returns
 unfolding requests
 returns c = refl
 
 pub said-by-spec : {M : Type 1} → statement M
-said-by-spec = tie.close (tie.spec mul-result array-copy-out-result returns)
+said-by-spec = tie.close (tie.spec (λ c. search needs) (λ c. search needs) returns)

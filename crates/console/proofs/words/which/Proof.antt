@@ -31,39 +31,12 @@ loop-holds c = seeking-start (c .before .before .pre .1 .1)
 part-end-requires : tie.Need-part-end-requires Inv-loop μ-loop
 part-end-requires c κs = seeking-place (c .before .loop .inv) (c .loop-test .taken)
 
-mul-word : tie.Need-mul-word Inv-loop μ-loop
-mul-word c = omega arith
-
-array-copy-out-word : tie.Need-array-copy-out-word Inv-loop μ-loop
-array-copy-out-word c = omega arith
-
-sub-is-word : tie.Need-sub-is-word Inv-loop μ-loop
-sub-is-word c = omega arith
-
-part-is-word-start : tie.Need-part-is-word-start Inv-loop μ-loop
-part-is-word-start c = omega arith
-
-part-is-word-end : tie.Need-part-is-word-end Inv-loop μ-loop
-part-is-word-end c = omega arith
-
-is-word-requires : tie.Need-is-word-requires Inv-loop μ-loop
-is-word-requires c κs = search needs
-
 returns : tie.Need-returns Inv-loop μ-loop
 unfolding rows
 returns c =
     let p = Ended (c .before) in
     seeking-hit (p .before .before .loop .inv) (p .part-end .ensures) (p .before .loop-test .taken)
     (sym (ap (Tested (c .before)) (c .before .is-word .ensures))) (c .if1 .taken)
-
-add-from : tie.Need-add-from Inv-loop μ-loop
-add-from c = omega arith
-
-add-i : tie.Need-add-i Inv-loop μ-loop
-add-i c = omega arith
-
-loop-less : tie.Need-loop-less Inv-loop μ-loop
-loop-less c = omega arith
 
 loop-again : tie.Need-loop-again Inv-loop μ-loop
 unfolding rows
@@ -83,15 +56,15 @@ which-spec =
     μ-loop
     loop-holds
     part-end-requires
-    mul-word
-    array-copy-out-word
-    sub-is-word
-    part-is-word-start
-    part-is-word-end
-    is-word-requires
+    (λ c. omega arith)
+    (λ c. omega arith)
+    (λ c. omega arith)
+    (λ c. omega arith)
+    (λ c. omega arith)
+    (λ c κs. search needs)
     returns
-    add-from
-    add-i
-    loop-less
+    (λ c. omega arith)
+    (λ c. omega arith)
+    (λ c. omega arith)
     loop-again
     returns-2)

@@ -5,15 +5,9 @@ use Rattle.console.specs.Inner.{rows}
 use Rattle.console.proofs.words.word_of.Statement.{statement}
 use Rattle.console.proofs.words.word_of.Tie as tie
 
-mul-result : tie.Need-mul-result
-mul-result c = search needs
-
-array-copy-out-result : tie.Need-array-copy-out-result
-array-copy-out-result c = search needs
-
 returns : tie.Need-returns
 unfolding rows
 returns c = refl
 
 pub word-of-spec : {M : Type 1} → statement M
-word-of-spec = tie.close (tie.spec mul-result array-copy-out-result returns)
+word-of-spec = tie.close (tie.spec (λ c. search needs) (λ c. search needs) returns)

@@ -4,14 +4,8 @@ use Rattle.decisions.proofs.Numbered.{not-both, so-other}
 use Rattle.decisions.proofs.numbering.may_free.Statement.{statement}
 use Rattle.decisions.proofs.numbering.may_free.Tie as tie
 
-one-of-requires : tie.Need-one-of-requires
-one-of-requires c κs = search needs
-
 returns : tie.Need-returns
 returns c = not-both _ _ (c .before .one-of .result) (c .before .one-of .ensures) (c .if1 .taken)
-
-one-of-requires-2 : tie.Need-one-of-requires-2
-one-of-requires-2 c κs = search needs
 
 returns-2 : tie.Need-returns-2
 returns-2 c =
@@ -19,4 +13,4 @@ returns-2 c =
     so-other _ _ (b .one-of .result) _ (b .one-of .ensures) (c .before .if1 .left) (c .one-of2 .ensures)
 
 pub may-free-spec : {M : Type 1} → statement M
-may-free-spec = tie.close (tie.spec one-of-requires returns one-of-requires-2 returns-2)
+may-free-spec = tie.close (tie.spec (λ c κs. search needs) returns (λ c κs. search needs) returns-2)

@@ -5,11 +5,8 @@ use Rattle.tables.proofs.Turns.{amended-says}
 use Rattle.tables.proofs.Tables.amended.Statement.{statement}
 use Rattle.tables.proofs.Tables.amended.Tie as tie
 
-with-record-requires : tie.Need-with-record-requires
-with-record-requires c κs = search needs
-
 returns : tie.Need-returns
 returns c = rw (c .with-record .ensures) (amended-says _ _ _ (c .before .pre))
 
 pub amended-spec : {M : Type 1} → statement M
-amended-spec = tie.close (tie.spec with-record-requires returns)
+amended-spec = tie.close (tie.spec (λ c κs. search needs) returns)

@@ -5,9 +5,6 @@ use Rattle.tables.proofs.Turns.{became, can-join}
 use Rattle.tables.proofs.Tables.becomes.Statement.{statement}
 use Rattle.tables.proofs.Tables.becomes.Tie as tie
 
-left-requires : tie.Need-left-requires
-left-requires c κs = search needs
-
 entered-requires : tie.Need-entered-requires
 entered-requires c κs = let b = c .before .pre in can-join _ _ _ (record { orderly = b .orderly; known = b .known }) (c .left .ensures) _ (b .state)
 
@@ -15,4 +12,4 @@ returns : tie.Need-returns
 returns c = let b = c .before .before .pre in became _ _ _ (record { orderly = b .orderly; known = b .known }) (c .before .left .ensures) _ _ _ (c .entered .ensures)
 
 pub becomes-spec : {M : Type 1} → statement M
-becomes-spec = tie.close (tie.spec left-requires entered-requires returns)
+becomes-spec = tie.close (tie.spec (λ c κs. search needs) entered-requires returns)

@@ -5,11 +5,8 @@ use Rattle.tables.proofs.Readied.{caller-link}
 use Rattle.tables.proofs.Tables.caller.Statement.{statement}
 use Rattle.tables.proofs.Tables.caller.Tie as tie
 
-array-read-result : tie.Need-array-read-result
-array-read-result c = search needs
-
 returns : tie.Need-returns
 returns c = caller-link (c .before .args .self) (c .before .pre)
 
 pub caller-spec : {M : Type 1} → statement M
-caller-spec = tie.close (tie.spec array-read-result returns)
+caller-spec = tie.close (tie.spec (λ c. search needs) returns)

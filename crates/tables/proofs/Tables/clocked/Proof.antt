@@ -8,11 +8,8 @@ use Rattle.tables.proofs.Tables.clocked.Reads as reads
 use Rattle.tables.proofs.Tables.clocked.Lts as lts
 use Rattle.clock.proofs.Clock.from_ticks.Reads as from-ticks-reads
 
-from-ticks-requires : tie.Need-from-ticks-requires
-from-ticks-requires c κs = search needs
-
 returns : tie.Need-returns
 returns c = was-clocked _ _ _ (c .before .before .pre) (c .from-ticks .ensures)
 
 pub clocked-spec : {M : Type 1} → statement M
-clocked-spec = tie.close (tie.spec from-ticks-requires returns)
+clocked-spec = tie.close (tie.spec (λ c κs. search needs) returns)

@@ -13,9 +13,6 @@ use Rattle.ledger.proofs.without.Reads as without-reads
 returns : tie.Need-returns
 returns c = disc-none (c .before .before .args .self) _ (c .if1 .taken)
 
-chain-of-requires : tie.Need-chain-of-requires
-chain-of-requires c κs = search needs
-
 without-requires : tie.Need-without-requires
 without-requires c κs = listed-chain _ (c .before .before .before .before .pre) 5 (omega arith) (omega arith) _ _ (c .chain-of .ensures)
 
@@ -25,4 +22,4 @@ returns-2 c =
     disc-all _ _ _ _ _ _ (b .before .before .pre) (b .if1 .left) (c .before .chain-of .ensures) (c .without .ensures)
 
 pub disc-waiters-spec : {M : Type 1} → statement M
-disc-waiters-spec = tie.close (tie.spec returns chain-of-requires without-requires returns-2)
+disc-waiters-spec = tie.close (tie.spec returns (λ c κs. search needs) without-requires returns-2)

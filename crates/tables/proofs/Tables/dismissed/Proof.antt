@@ -10,21 +10,12 @@ use Rattle.tables.proofs.Tables.becomes.Reads as becomes-reads
 use Rattle.tables.proofs.Tables.timed.Reads as timed-reads
 use Rattle.tables.proofs.Tables.unloaded.Reads as unloaded-reads
 
-unloaded-requires : tie.Need-unloaded-requires
-unloaded-requires c κs = search needs
-
 returns : tie.Need-returns
 returns c = dismissed-gone _ _ _ _ (c .before .if1 .taken) (c .unloaded .ensures)
-
-becomes-requires : tie.Need-becomes-requires
-becomes-requires c κs = search needs
-
-timed-requires : tie.Need-timed-requires
-timed-requires c κs = search needs
 
 returns-2 : tie.Need-returns-2
 returns-2 c = dismissed-idle _ _ _ _ _ (c .before .before .if1 .left) (c .before .becomes .ensures) (c .timed .ensures)
 
 pub dismissed-spec : {M : Type 1} → statement M
 dismissed-spec =
-    tie.close (tie.spec unloaded-requires returns becomes-requires timed-requires returns-2)
+    tie.close (tie.spec (λ c κs. search needs) returns (λ c κs. search needs) (λ c κs. search needs) returns-2)

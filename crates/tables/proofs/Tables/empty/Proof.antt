@@ -5,18 +5,6 @@ use borrow.Author.Needs.{needs}
 use Rattle.tables.proofs.Tables.empty.Statement.{statement}
 use Rattle.tables.proofs.Tables.empty.Tie as tie
 
-unused-record-requires : tie.Need-unused-record-requires
-unused-record-requires c κs = search needs
-
-from-ticks-requires : tie.Need-from-ticks-requires
-from-ticks-requires c κs = search needs
-
-fresh-requires : tie.Need-fresh-requires
-fresh-requires c κs = search needs
-
-fresh-requires-2 : tie.Need-fresh-requires-2
-fresh-requires-2 c κs = search needs
-
 returns : tie.Need-returns
 returns c =
     let x = c .before in
@@ -27,4 +15,4 @@ returns c =
     (u .unused-record .ensures) (k .from-ticks .ensures) (x .fresh .ensures) (c .fresh2 .ensures)
 
 pub empty-spec : {M : Type 1} → statement M
-empty-spec = tie.close (tie.spec unused-record-requires from-ticks-requires fresh-requires fresh-requires-2 returns)
+empty-spec = tie.close (tie.spec (λ c κs. search needs) (λ c κs. search needs) (λ c κs. search needs) (λ c κs. search needs) returns)

@@ -5,18 +5,6 @@ use Rattle.tables.proofs.Turns.{can-enter, entered-none, entered-some}
 use Rattle.tables.proofs.Tables.entered.Statement.{statement}
 use Rattle.tables.proofs.Tables.entered.Tie as tie
 
-record-requires : tie.Need-record-requires
-record-requires c κs = search needs
-
-in-state-requires : tie.Need-in-state-requires
-in-state-requires c κs = search needs
-
-with-record-requires : tie.Need-with-record-requires
-with-record-requires c κs = search needs
-
-wide-requires : tie.Need-wide-requires
-wide-requires c κs = search needs
-
 enter-requires : tie.Need-enter-requires
 enter-requires c κs = rw (c .wide .ensures) (can-enter _ _ _ (c .before .before .before .before .before .before .before .before .pre))
 
@@ -37,10 +25,10 @@ pub entered-spec : {M : Type 1} → statement M
 entered-spec =
     tie.close
     (tie.spec
-    record-requires
-    in-state-requires
-    with-record-requires
-    wide-requires
+    (λ c κs. search needs)
+    (λ c κs. search needs)
+    (λ c κs. search needs)
+    (λ c κs. search needs)
     enter-requires
     returns
     returns-2)

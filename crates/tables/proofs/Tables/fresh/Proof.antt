@@ -8,9 +8,6 @@ use borrow.Author.Needs.{needs}
 use Rattle.tables.proofs.Tables.fresh.Statement.{statement}
 use Rattle.tables.proofs.Tables.fresh.Tie as tie
 
-is-sized-requires : tie.Need-is-sized-requires
-is-sized-requires c κs = search needs
-
 cast-empty : tie.Need-cast-empty
 cast-empty c = let s = c .before .before in omega (arith, sizes-true (s .args .tracks) (s .args .system) (s .args .numbers) (sym (c .before .is-sized .ensures) ∙ c .if1 .taken))
 
@@ -29,9 +26,6 @@ returns c =
     let s = a .before in
     made-done (s .args .tracks) (s .args .system) (s .args .numbers) (c .empty .result) (sym (a .is-sized .ensures) ∙ c .before .if1 .taken) (c .empty .ensures)
 
-empty-requires-2 : tie.Need-empty-requires-2
-empty-requires-2 c κs = search needs
-
 returns-2 : tie.Need-returns-2
 returns-2 c =
     let a = c .before .before in
@@ -39,4 +33,4 @@ returns-2 c =
     made-refused (s .args .tracks) (s .args .system) (s .args .numbers) (c .empty2 .result) (sym (a .is-sized .ensures) ∙ c .before .if1 .left) (c .empty2 .ensures)
 
 pub fresh-spec : {M : Type 1} → statement M
-fresh-spec = tie.close (tie.spec is-sized-requires cast-empty cast-empty-2 cast-empty-3 empty-requires returns empty-requires-2 returns-2)
+fresh-spec = tie.close (tie.spec (λ c κs. search needs) cast-empty cast-empty-2 cast-empty-3 empty-requires returns (λ c κs. search needs) returns-2)

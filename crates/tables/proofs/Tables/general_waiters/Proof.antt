@@ -11,9 +11,6 @@ use Rattle.chains.proofs.chain_of.Reads as chain-of-reads
 use Rattle.ledger.proofs.sift.Reads as sift-reads
 use Rattle.ledger.proofs.without.Reads as without-reads
 
-chain-of-requires : tie.Need-chain-of-requires
-chain-of-requires c κs = search needs
-
 without-requires : tie.Need-without-requires
 without-requires c κs = listed-chain _ (c .before .before .pre) 3 (omega arith) (omega arith) _ _ (c .chain-of .ensures)
 
@@ -29,4 +26,4 @@ returns c =
 
 pub general-waiters-spec : {M : Type 1} → statement M
 general-waiters-spec =
-    tie.close (tie.spec chain-of-requires without-requires sift-requires returns)
+    tie.close (tie.spec (λ c κs. search needs) without-requires sift-requires returns)

@@ -5,14 +5,8 @@ use Rattle.tables.proofs.Parted.{book-fails, book-passes}
 use Rattle.tables.proofs.Tables.is_sound.Statement.{statement}
 use Rattle.tables.proofs.Tables.is_sound.Tie as tie
 
-book-sound-requires : tie.Need-book-sound-requires
-book-sound-requires c κs = search needs
-
 returns : tie.Need-returns
 returns c = let k = c .before in book-fails (k .before .before .args .self) (k .book-sound .result) (k .book-sound .ensures) (c .if1 .taken)
-
-chains-sound-requires : tie.Need-chains-sound-requires
-chains-sound-requires c κs = search needs
 
 returns-2 : tie.Need-returns-2
 returns-2 c =
@@ -22,4 +16,4 @@ returns-2 c =
     (c .chains-sound .result) (c .chains-sound .ensures)
 
 pub is-sound-spec : {M : Type 1} → statement M
-is-sound-spec = tie.close (tie.spec book-sound-requires returns chains-sound-requires returns-2)
+is-sound-spec = tie.close (tie.spec (λ c κs. search needs) returns (λ c κs. search needs) returns-2)

@@ -5,18 +5,6 @@ use Rattle.tables.proofs.Turns.{can-leave, left-none, left-some}
 use Rattle.tables.proofs.Tables.left.Statement.{statement}
 use Rattle.tables.proofs.Tables.left.Tie as tie
 
-record-requires : tie.Need-record-requires
-record-requires c κs = search needs
-
-wide-requires : tie.Need-wide-requires
-wide-requires c κs = search needs
-
-in-state-requires : tie.Need-in-state-requires
-in-state-requires c κs = search needs
-
-with-record-requires : tie.Need-with-record-requires
-with-record-requires c κs = search needs
-
 leave-requires : tie.Need-leave-requires
 leave-requires c κs = let w = c .before .before .before .before in can-leave _ _ _ _ (w .before .before .pre) (w .before .«record» .ensures) (w .wide .ensures) (c .before .if1 .taken)
 
@@ -37,10 +25,10 @@ pub left-spec : {M : Type 1} → statement M
 left-spec =
     tie.close
     (tie.spec
-    record-requires
-    wide-requires
-    in-state-requires
-    with-record-requires
+    (λ c κs. search needs)
+    (λ c κs. search needs)
+    (λ c κs. search needs)
+    (λ c κs. search needs)
     leave-requires
     returns
     returns-2)

@@ -5,18 +5,6 @@ use Rattle.tables.proofs.Turns.{can-price, can-rejoin, was-priced}
 use Rattle.tables.proofs.Tables.priced.Statement.{statement}
 use Rattle.tables.proofs.Tables.priced.Tie as tie
 
-record-requires : tie.Need-record-requires
-record-requires c κs = search needs
-
-left-requires : tie.Need-left-requires
-left-requires c κs = search needs
-
-record-requires-2 : tie.Need-record-requires-2
-record-requires-2 c κs = search needs
-
-with-priority-requires : tie.Need-with-priority-requires
-with-priority-requires c κs = search needs
-
 amended-requires : tie.Need-amended-requires
 amended-requires c κs =
     let l = c .before .before in
@@ -41,10 +29,10 @@ pub priced-spec : {M : Type 1} → statement M
 priced-spec =
     tie.close
     (tie.spec
-    record-requires
-    left-requires
-    record-requires-2
-    with-priority-requires
+    (λ c κs. search needs)
+    (λ c κs. search needs)
+    (λ c κs. search needs)
+    (λ c κs. search needs)
     amended-requires
     entered-requires
     returns)

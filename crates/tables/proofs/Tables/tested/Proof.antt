@@ -10,9 +10,6 @@ use Rattle.tables.proofs.Readied.{tested-is}
 use Rattle.tables.proofs.Tables.tested.Statement.{statement}
 use Rattle.tables.proofs.Tables.tested.Tie as tie
 
-is-sound-requires : tie.Need-is-sound-requires
-is-sound-requires c κs = search needs
-
 arrays : (s : tie.Start) → Arrays (s .args .self)
 arrays s = record {
   programs = sym (length-map (s .args .self .ledger .programs) (program.the-field .into)) ∙ s .good .0 .1 .1 .0 .1 .1 .0 .1 .0 .1;
@@ -25,4 +22,4 @@ returns : tie.Need-returns
 returns c = tested-is (c .before .args .self) (c .is-sound .result) (arrays (c .before)) (c .is-sound .ensures)
 
 pub tested-spec : {M : Type 1} → statement M
-tested-spec = tie.close (tie.spec is-sound-requires returns)
+tested-spec = tie.close (tie.spec (λ c κs. search needs) returns)

@@ -8,12 +8,6 @@ use Rattle.tables.proofs.Tables.ticked.Tie as tie
 returns : tie.Need-returns
 returns c = let s = c .before .before in not-due (s .args .self) (s .args .p) (s .args .r) (s .args .now) (s .pre .orderly) (c .if1 .taken)
 
-next-due-requires : tie.Need-next-due-requires
-next-due-requires c κs = search needs
-
-timed-requires : tie.Need-timed-requires
-timed-requires c κs = search needs
-
 returns-2 : tie.Need-returns-2
 returns-2 c =
     let m = c .before .before in
@@ -21,9 +15,6 @@ returns-2 c =
     let s = d .before .before .before in
     due-only (s .args .self) (s .args .p) (s .args .r) (s .args .now) (s .pre .orderly) (d .next-due .result) (d .next-due .ensures) (d .before .if1 .left)
     (m .timed .result) (m .timed .ensures) (c .if2 .taken)
-
-becomes-requires : tie.Need-becomes-requires
-becomes-requires c κs = search needs
 
 returns-3 : tie.Need-returns-3
 returns-3 c =
@@ -35,4 +26,4 @@ returns-3 c =
     (m .timed .result) (m .timed .ensures) (c .becomes .result) (e .if2 .left) (c .becomes .ensures)
 
 pub ticked-spec : {M : Type 1} → statement M
-ticked-spec = tie.close (tie.spec returns next-due-requires timed-requires returns-2 becomes-requires returns-3)
+ticked-spec = tie.close (tie.spec returns (λ c κs. search needs) (λ c κs. search needs) returns-2 (λ c κs. search needs) returns-3)

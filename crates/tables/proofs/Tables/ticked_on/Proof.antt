@@ -18,9 +18,6 @@ Inv-loop programs now t₀ n₀ p₀ t n p = Ticking programs now t₀ t n p
 abbrev μ-loop : tie.MeasureT-loop
 μ-loop programs now t₀ n₀ p₀ t n p = 33 - p
 
-add-now : tie.Need-add-now Inv-loop μ-loop
-add-now c = omega arith
-
 loop-holds : tie.Need-loop-holds Inv-loop μ-loop
 loop-holds c = ticking-start _ _ _ (c .clocked .ensures .orderly)
 
@@ -97,4 +94,4 @@ returns c =
 pub ticked-on-spec : {M : Type 1} → statement M
 ticked-on-spec =
     tie.close
-    (tie.spec Inv-loop μ-loop add-now (λ c κs. search needs) loop-holds (λ c κs. search needs) sub-r (λ c. search needs) array-copy-out-r add-p loop-less loop-again (λ c κs. search needs) add-n ticked-requires add-p-2 loop-less-2 loop-again-2 returns)
+    (tie.spec Inv-loop μ-loop (λ c. omega arith) (λ c κs. search needs) loop-holds (λ c κs. search needs) sub-r (λ c. search needs) array-copy-out-r add-p loop-less loop-again (λ c κs. search needs) add-n ticked-requires add-p-2 loop-less-2 loop-again-2 returns)

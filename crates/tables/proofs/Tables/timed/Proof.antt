@@ -5,12 +5,6 @@ use Rattle.tables.proofs.Turns.{can-time, was-timed}
 use Rattle.tables.proofs.Tables.timed.Statement.{statement}
 use Rattle.tables.proofs.Tables.timed.Tie as tie
 
-record-requires : tie.Need-record-requires
-record-requires c κs = search needs
-
-with-timer-requires : tie.Need-with-timer-requires
-with-timer-requires c κs = search needs
-
 amended-requires : tie.Need-amended-requires
 amended-requires c κs = can-time _ _ (c .before .before .pre) _ _ _ _ (c .before .«record» .ensures) (c .with-timer .ensures)
 
@@ -18,4 +12,4 @@ returns : tie.Need-returns
 returns c = was-timed _ _ (c .before .before .before .pre) _ _ _ _ (c .before .before .«record» .ensures) (c .before .with-timer .ensures) _ (c .amended .ensures)
 
 pub timed-spec : {M : Type 1} → statement M
-timed-spec = tie.close (tie.spec record-requires with-timer-requires amended-requires returns)
+timed-spec = tie.close (tie.spec (λ c κs. search needs) (λ c κs. search needs) amended-requires returns)

@@ -32,9 +32,6 @@ becomes-requires c κs =
 add-i : tie.Need-add-i Inv-loop μ-loop
 add-i c = omega (arith, c .before .before .before .before .pre .most)
 
-loop-less : tie.Need-loop-less Inv-loop μ-loop
-loop-less c = omega arith
-
 loop-again : tie.Need-loop-again Inv-loop μ-loop
 loop-again c =
     let b = c .before .before in
@@ -56,6 +53,6 @@ wake-spec =
     element-copy-out-p
     becomes-requires
     add-i
-    loop-less
+    (λ c. omega arith)
     loop-again
     returns)

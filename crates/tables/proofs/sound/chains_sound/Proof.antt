@@ -5,14 +5,8 @@ use Rattle.tables.proofs.Chained.{walks-refused, walks-rest}
 use Rattle.tables.proofs.sound.chains_sound.Statement.{statement}
 use Rattle.tables.proofs.sound.chains_sound.Tie as tie
 
-walk-chains-requires : tie.Need-walk-chains-requires
-walk-chains-requires c κs = search needs
-
 returns : tie.Need-returns
 returns c = let w = c .before .before in walks-refused (w .before .args .programs) (w .before .args .links) (w .walk-chains .ensures) (c .if1 .taken)
-
-is-rest-settled-requires : tie.Need-is-rest-settled-requires
-is-rest-settled-requires c κs = search needs
 
 returns-2 : tie.Need-returns-2
 returns-2 c =
@@ -21,4 +15,4 @@ returns-2 c =
     (c .is-rest-settled .result) (c .is-rest-settled .ensures)
 
 pub chains-sound-spec : {M : Type 1} → statement M
-chains-sound-spec = tie.close (tie.spec walk-chains-requires returns is-rest-settled-requires returns-2)
+chains-sound-spec = tie.close (tie.spec (λ c κs. search needs) returns (λ c κs. search needs) returns-2)

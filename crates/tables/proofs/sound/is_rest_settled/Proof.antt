@@ -13,14 +13,8 @@ Inv-loop programs links met p₀ p = Seen programs links met p
 abbrev μ-loop : tie.MeasureT-loop
 μ-loop programs links met p₀ p = 33 - p
 
-array-read-if1 : tie.Need-array-read-if1 Inv-loop μ-loop
-array-read-if1 c = omega arith
-
 returns : tie.Need-returns Inv-loop μ-loop
 returns c = rest-fails (λ R. c .if1 .taken (R .dormant))
-
-array-read-if2 : tie.Need-array-read-if2 Inv-loop μ-loop
-array-read-if2 c = omega arith
 
 returns-2 : tie.Need-returns-2 Inv-loop μ-loop
 returns-2 c = rest-fails (λ R. c .if2 .taken (R .nobody))
@@ -35,38 +29,8 @@ loop-holds c =
       others = λ k a h. absurd (omega arith);
     }
 
-sub-r : tie.Need-sub-r Inv-loop μ-loop
-sub-r c = omega arith
-
-mul-r : tie.Need-mul-r Inv-loop μ-loop
-mul-r c = omega arith
-
-array-copy-out-r : tie.Need-array-copy-out-r Inv-loop μ-loop
-array-copy-out-r c = omega arith
-
-sub-is-settled : tie.Need-sub-is-settled Inv-loop μ-loop
-sub-is-settled c = omega arith
-
-array-read-is-settled : tie.Need-array-read-is-settled Inv-loop μ-loop
-array-read-is-settled c = omega arith
-
-add-is-settled : tie.Need-add-is-settled Inv-loop μ-loop
-add-is-settled c = omega arith
-
-array-read-is-settled-2 : tie.Need-array-read-is-settled-2 Inv-loop μ-loop
-array-read-is-settled-2 c = omega arith
-
-is-settled-requires : tie.Need-is-settled-requires Inv-loop μ-loop
-is-settled-requires c κs = search needs
-
 returns-3 : tie.Need-returns-3 Inv-loop μ-loop
 returns-3 c = let i = c .before .before .before in seen-refused (i .before .loop .inv) (i .loop-test .taken) (c .before .is-settled .result) (c .before .is-settled .ensures) (c .if3 .taken)
-
-add-p : tie.Need-add-p Inv-loop μ-loop
-add-p c = omega arith
-
-loop-less : tie.Need-loop-less Inv-loop μ-loop
-loop-less c = omega arith
 
 loop-again : tie.Need-loop-again Inv-loop μ-loop
 loop-again c = let i = c .before .before .before in seen-more (i .before .loop .inv) (i .loop-test .taken) (c .before .is-settled .result) (c .before .is-settled .ensures) (c .if3 .left)
@@ -80,21 +44,21 @@ is-rest-settled-spec =
     (tie.spec
     Inv-loop
     μ-loop
-    array-read-if1
+    (λ c. omega arith)
     returns
-    array-read-if2
+    (λ c. omega arith)
     returns-2
     loop-holds
-    sub-r
-    mul-r
-    array-copy-out-r
-    sub-is-settled
-    array-read-is-settled
-    add-is-settled
-    array-read-is-settled-2
-    is-settled-requires
+    (λ c. omega arith)
+    (λ c. omega arith)
+    (λ c. omega arith)
+    (λ c. omega arith)
+    (λ c. omega arith)
+    (λ c. omega arith)
+    (λ c. omega arith)
+    (λ c κs. search needs)
     returns-3
-    add-p
-    loop-less
+    (λ c. omega arith)
+    (λ c. omega arith)
     loop-again
     returns-4)

@@ -29,15 +29,6 @@ abbrev μ-loop : tie.MeasureT-loop
 loop-holds : tie.Need-loop-holds Inv-loop2 μ-loop2 Inv-loop μ-loop
 loop-holds c = (refl, sofar-start (c .args .t1) (c .args .t2))
 
-wide-requires : tie.Need-wide-requires Inv-loop2 μ-loop2 Inv-loop μ-loop
-wide-requires c κs = search needs
-
-array-read-wide : tie.Need-array-read-wide Inv-loop2 μ-loop2 Inv-loop μ-loop
-array-read-wide c = omega arith
-
-wide-requires-2 : tie.Need-wide-requires-2 Inv-loop2 μ-loop2 Inv-loop μ-loop
-wide-requires-2 c κs = search needs
-
 loop2-holds : tie.Need-loop2-holds Inv-loop2 μ-loop2 Inv-loop μ-loop
 loop2-holds c =
     let o = c .before .before .before in
@@ -60,32 +51,17 @@ refused h f =
 returns : tie.Need-returns Inv-loop2 μ-loop2 Inv-loop μ-loop
 returns c = refused (c .before) (λ N. omega (arith, N .known .1))
 
-sub-if2 : tie.Need-sub-if2 Inv-loop2 μ-loop2 Inv-loop μ-loop
-sub-if2 c = omega arith
-
 array-read-if2 : tie.Need-array-read-if2 Inv-loop2 μ-loop2 Inv-loop μ-loop
 array-read-if2 c = omega (arith, c .before .before .loop2 .inv .long)
 
 returns-2 : tie.Need-returns-2 Inv-loop2 μ-loop2 Inv-loop μ-loop
 returns-2 c = refused (c .before .before) (λ N. omega (arith, N .unmet))
 
-sub-r : tie.Need-sub-r Inv-loop2 μ-loop2 Inv-loop μ-loop
-sub-r c = omega arith
-
-mul-r : tie.Need-mul-r Inv-loop2 μ-loop2 Inv-loop μ-loop
-mul-r c = omega arith
-
-array-copy-out-r : tie.Need-array-copy-out-r Inv-loop2 μ-loop2 Inv-loop μ-loop
-array-copy-out-r c = omega arith
-
 returns-3 : tie.Need-returns-3 Inv-loop2 μ-loop2 Inv-loop μ-loop
 returns-3 c = refused (c .before .before .before .before .before) (λ N. omega (arith, N .state))
 
 returns-4 : tie.Need-returns-4 Inv-loop2 μ-loop2 Inv-loop μ-loop
 returns-4 c = refused (c .before .before .before .before .before .before .before) (λ N. omega (arith, N .after))
-
-sub-met : tie.Need-sub-met Inv-loop2 μ-loop2 Inv-loop μ-loop
-sub-met c = omega arith
 
 -- the walk's start, and what the tests have shown of the next program
 abbrev turn : tie.Else4 Inv-loop2 μ-loop2 Inv-loop μ-loop → tie.At-loop2 Inv-loop2 μ-loop2 Inv-loop μ-loop
@@ -105,26 +81,11 @@ next b = record {
 array-write-met : tie.Need-array-write-met Inv-loop2 μ-loop2 Inv-loop μ-loop
 array-write-met c = omega (arith, turn c .loop2 .inv .long)
 
-add-wide : tie.Need-add-wide Inv-loop2 μ-loop2 Inv-loop μ-loop
-add-wide c = omega arith
-
-array-read-wide-2 : tie.Need-array-read-wide-2 Inv-loop2 μ-loop2 Inv-loop μ-loop
-array-read-wide-2 c = omega arith
-
-wide-requires-3 : tie.Need-wide-requires-3 Inv-loop2 μ-loop2 Inv-loop μ-loop
-wide-requires-3 c κs = search needs
-
 loop2-less : tie.Need-loop2-less Inv-loop2 μ-loop2 Inv-loop μ-loop
 loop2-less c = let b = c .before in going-less (turn b .loop2 .inv) (next b)
 
 loop2-again : tie.Need-loop2-again Inv-loop2 μ-loop2 Inv-loop μ-loop
 loop2-again c = let b = c .before in going-on (turn b .loop2 .inv) (next b) _ (c .wide3 .ensures)
-
-add-state : tie.Need-add-state Inv-loop2 μ-loop2 Inv-loop μ-loop
-add-state c = omega arith
-
-loop-less : tie.Need-loop-less Inv-loop2 μ-loop2 Inv-loop μ-loop
-loop-less c = omega arith
 
 loop-again : tie.Need-loop-again Inv-loop2 μ-loop2 Inv-loop μ-loop
 loop-again c =
@@ -146,27 +107,27 @@ walk-chains-spec =
     Inv-loop
     μ-loop
     loop-holds
-    wide-requires
-    array-read-wide
-    wide-requires-2
+    (λ c κs. search needs)
+    (λ c. omega arith)
+    (λ c κs. search needs)
     loop2-holds
     returns
-    sub-if2
+    (λ c. omega arith)
     array-read-if2
     returns-2
-    sub-r
-    mul-r
-    array-copy-out-r
+    (λ c. omega arith)
+    (λ c. omega arith)
+    (λ c. omega arith)
     returns-3
     returns-4
-    sub-met
+    (λ c. omega arith)
     array-write-met
-    add-wide
-    array-read-wide-2
-    wide-requires-3
+    (λ c. omega arith)
+    (λ c. omega arith)
+    (λ c κs. search needs)
     loop2-less
     loop2-again
-    add-state
-    loop-less
+    (λ c. omega arith)
+    (λ c. omega arith)
     loop-again
     returns-5)
