@@ -4,21 +4,22 @@ use Prim.Native.Nat.{ℕ, zero, suc, _+_, _-_, _<_, _≤_}
 use native.Mathlib.Numerals.{add-one}
 use native.Mathlib.Omega.{arith}
 use mathlib.Core.Path.{_≡_, refl, sym, ap, ap₂, _∙_}
+use mathlib.Core.Logic.{_≢_}
 use mathlib.Core.Bool.{Bool, true, false, cond, _&&_}
 use mathlib.Core.List.{List, [], _∷_, map}
-use lib.Dec.{eqb, ltb}
+use lib.Dec.{eqb, ltb, leb}
 use lib.ListN.{length, getD, take, drop, drop-of-length-le, List·getD-eq-default}
 use lib.Seq.{slice, drop-cons}
-use borrow.Author.Tests.{ltb-true, ltb-false}
+use borrow.Author.Tests.{ltb-true, leb-true, eq-eqb, ne-eqb}
 use Rattle.lists.specs.Lists.{upTo, alike}
-use Rattle.lists.proofs.Tests.{upTo-is}
+use Rattle.lists.proofs.Tests.{both, upTo-is}
 use Rattle.text.specs.Text.{text, parts}
 use Rattle.text.specs.Inner.{PartEnd}
 use Rattle.text.proofs.Fields.{drop-take}
 use Rattle.text.proofs.Read.{upTo-over}
 use Rattle.console.specs.declared.words.Word.{Word}
 use Rattle.console.specs.Line.{Line, bad, Form, Entry, lookUp, execs, numbers, forms, lineOf}
-use Rattle.console.specs.Inner.{fieldsFrom, noWord, lead, rows, rowAt, requests, taking, ended, entries, keys, behind, seek}
+use Rattle.console.specs.Inner.{fieldsFrom, noWord, lead, rows, rowAt, requests, taking, ended, entries, keys, behind, seek, starts, startAt, Row}
 use Rattle.console.proofs.FieldLaws.{fields-past, fields-cut, fields-all}
 
 -- of the entries, those behind the word `last`
@@ -61,11 +62,11 @@ getD-within (z ∷ l) zero x y h = refl
 getD-within (z ∷ l) (suc i) x y h = getD-within l i x y (omega arith)
 
 -- a list told by its places
-abbrev tabled : ℕ → (ℕ → Line) → List Line
+abbrev tabled : {A : Type 0} → ℕ → (ℕ → A) → List A
 tabled zero g = []
 tabled (suc n) g = g 0 ∷ tabled n (λ i. g (suc i))
 
-tabled-at : (n : ℕ) (g : ℕ → Line) (i : ℕ) (x : Line) → i < n → getD (tabled n g) i x ≡ g i
+tabled-at : {A : Type 0} (n : ℕ) (g : ℕ → A) (i : ℕ) (x : A) → i < n → getD (tabled n g) i x ≡ g i
 tabled-at zero g i x h = absurd (omega arith)
 tabled-at (suc n) g zero x h = refl
 tabled-at (suc n) g (suc i) x h = tabled-at n (λ j. g (suc j)) i x (omega arith)
@@ -89,10 +90,34 @@ behind-last : (i : ℕ) → i < noWord → (fs : List (List ℕ)) → behind i f
 unfolding execs numbers forms rows requests ended entries behind
 behind-last i h fs = tabled-at noWord (λ j. cond (rowAt j .3) (ended j fs) (behind j fs)) i bad h
 
--- the words as the code tells them
-pub told-keys : parts 44 (text ",FRESH,LOAD,RU,SS,GO,PR,OF,TICK,EXEC,RN,PAGE,4,15,5,16,6,7,11,9,10,12,ALLOC,LOCK,CLEAR,FREE,L,G,ALL") ≡ keys
-unfolding parts execs numbers forms entries keys
-told-keys = refl
+-- a test that all of some places pass
+abbrev pass : ℕ → (ℕ → Bool) → Bool
+pass zero t = true
+pass (suc n) t = t 0 && pass n (λ i. t (suc i))
+
+passes : (n : ℕ) (t : ℕ → Bool) → pass n t ≡ true → (i : ℕ) → i < n → t i ≡ true
+passes zero t e i h = absurd (omega arith)
+passes (suc n) t e zero h = both (t 0) (pass n (λ i. t (suc i))) e .0
+passes (suc n) t e (suc i) h = passes n (λ j. t (suc j)) (both (t 0) (pass n (λ j. t (suc j))) e .1) i (omega arith)
+
+-- the words as the code tells them, in a row
+abbrev told : List ℕ
+told = text ",FRESH,LOAD,RU,SS,GO,PR,OF,TICK,EXEC,RN,PAGE,4,15,5,16,6,7,11,9,10,12,ALLOC,LOCK,CLEAR,FREE,L,G,ALL"
+
+abbrev cut : ℕ → List ℕ
+cut i = slice (startAt i) (startAt (i + 1) - 1) told
+
+cut-keys : tabled noWord cut ≡ keys
+unfolding starts execs numbers forms entries keys
+cut-keys = refl
+
+pub told-row : Row told
+unfolding starts
+told-row = record {
+  low = λ i h. ltb-true (startAt i) (startAt (i + 1)) (passes noWord (λ j. ltb (startAt j) (startAt (j + 1))) refl i h);
+  high = λ i h. leb-true (startAt (i + 1)) (length told + 1) (passes noWord (λ j. leb (startAt (j + 1)) (length told + 1)) refl i h);
+  there = λ i h. sym (tabled-at noWord cut i [] h) ∙ ap (λ (ws : List (List ℕ)). getD ws i []) cut-keys;
+}
 
 -- behind word `last`: no field, a field that is no word there, a field that is word j
 module _ {last : ℕ} (known : last < noWord) (s : List ℕ) (at : ℕ) where
@@ -143,51 +168,51 @@ pub ended-as : (i : ℕ) {w : Word} {named : Bool} → w ≡ rowAt i → w .1 �
 unfolding ended
 ended-as i {w} e h fs = ap (λ (x : Word). taking (x .1) (x .2) i fs) (sym e) ∙ ap (λ (b : Bool). taking b (w .2) i fs) h
 
--- The search among the words: what is left of them, from word i and the place `from` on, is searched in the same way.
-pub record Seeking (last : ℕ) (f words : List ℕ) (i from : ℕ) : Type 0 where
-  pub left : length (fieldsFrom words from) + i ≡ noWord
-  pub same : seek last f rows keys ≡ i + seek last f (drop i rows) (fieldsFrom words from)
+-- The search among the words: what is left of them, from word i on, is searched in the same way.
+pub record Seeking (last : ℕ) (f : List ℕ) (i : ℕ) : Type 0 where
+  pub same : seek last f rows keys ≡ i + seek last f (drop i rows) (drop i keys)
 
-pub seeking-start : {last : ℕ} {f words : List ℕ} → parts 44 words ≡ keys → Seeking last f words 0 0
-unfolding execs numbers forms entries keys
-seeking-start {last} {f} {words} h = record {
-  left = omega (arith, ap length (fields-all words ∙ h));
-  same = omega (arith, ap (seek last f rows) (fields-all words ∙ h));
-}
+pub seeking-start : {last : ℕ} {f : List ℕ} → Seeking last f 0
+seeking-start = record { same = omega arith }
 
-module _ {last : ℕ} {f words : List ℕ} {i from : ℕ} (h : Seeking last f words i from) where
-  pub seeking-place : i < noWord → from ≤ length words
-  seeking-place l = go (ltb (length words) from) refl
-    where
-      go : (b : Bool) → ltb (length words) from ≡ b → from ≤ length words
-      go true t = absurd (omega (arith, h .left, ap length (fields-past words from (ltb-true (length words) from t))))
-      go false t = ltb-false (length words) from t
-
+module _ {last : ℕ} {f : List ℕ} {i : ℕ} (h : Seeking last f i) where
   pub seeking-end : noWord ≤ i → i ≡ seek last f rows keys
   unfolding rows
-  seeking-end l =
-      omega (arith, h .same, ap (λ (rs : List Word). seek last f rs (fieldsFrom words from)) (drop-of-length-le rows {i = i} l))
+  seeking-end l = omega (arith, h .same, ap (λ (rs : List Word). seek last f rs (drop i keys)) (drop-of-length-le rows {i = i} l))
 
-  module _ {to : ℕ} (p : PartEnd 44 words from to) (l : i < noWord) {b : Bool}
-      (test : (eqb (rowAt i .0) last && alike f (take (to - from) (drop from words))) ≡ b) where
+  module _ (l : i < noWord) where
     abbrev rest : ℕ
-    rest = seek last f (drop (i + 1) rows) (fieldsFrom words (to + 1))
+    rest = seek last f (drop (i + 1) rows) (drop (i + 1) keys)
 
-    taken : slice from to words ≡ take (to - from) (drop from words)
-    taken = let e : to ≡ from + (to - from) = omega arith in ap (λ (k : ℕ). slice from k words) e ∙ drop-take from (to - from) words
-
-    seeking-cut : seek last f (drop i rows) (fieldsFrom words from) ≡ cond b 0 (suc rest)
-    unfolding rows
+    seeking-cut : seek last f (drop i rows) (drop i keys) ≡ cond (eqb (rowAt i .0) last && alike f (getD keys i [])) 0 (suc rest)
+    unfolding rows execs numbers forms entries keys
     seeking-cut =
-        ap₂ (seek last f) (drop-cons rows i (lead 0 0) l ∙ ap (λ (k : ℕ). rowAt i ∷ drop k rows) (sym (add-one i))) (fields-cut p)
-        ∙ ap (λ (w : List ℕ). cond (eqb (rowAt i .0) last && alike f w) 0 (suc rest)) taken
-        ∙ ap (λ (t : Bool). cond t 0 (suc rest)) test
+        ap₂ (seek last f) (drop-cons rows i (lead 0 0) l ∙ ap (λ (k : ℕ). rowAt i ∷ drop k rows) (sym (add-one i)))
+        (drop-cons keys i [] l ∙ ap (λ (k : ℕ). getD keys i [] ∷ drop k keys) (sym (add-one i)))
 
-    pub seeking-hit : b ≡ true → i ≡ seek last f rows keys
-    seeking-hit e = omega (arith, h .same, seeking-cut ∙ ap (λ (t : Bool). cond t 0 (suc rest)) e)
+    pub seeking-other : rowAt i .0 ≢ last → Seeking last f (i + 1)
+    seeking-other n =
+        let e = seeking-cut ∙ ap (λ (t : Bool). cond (t && alike f (getD keys i [])) 0 (suc rest)) (ne-eqb (rowAt i .0) last n) in
+        record { same = omega (arith, h .same, e) }
 
-    pub seeking-next : b ≡ false → Seeking last f words (i + 1) (to + 1)
-    seeking-next e = record {
-      left = omega (arith, h .left, ap length (fields-cut p));
-      same = omega (arith, h .same, seeking-cut ∙ ap (λ (t : Bool). cond t 0 (suc rest)) e);
-    }
+    -- a word behind the last: it stands in the row, and is the field or not
+    module _ (here : rowAt i .0 ≡ last) {words : List ℕ} (R : Row words) {b : Bool}
+        (test : b ≡ alike f (take (startAt (i + 1) - 1 - startAt i) (drop (startAt i) words))) where
+      taken : take (startAt (i + 1) - 1 - startAt i) (drop (startAt i) words) ≡ getD keys i []
+      taken =
+          let n = startAt (i + 1) - 1 - startAt i in
+          let e : startAt (i + 1) - 1 ≡ startAt i + n = omega (arith, R .low i l) in
+          sym (drop-take (startAt i) n words) ∙ ap (λ (k : ℕ). slice (startAt i) k words) (sym e) ∙ R .there i l
+
+      seeking-test : seek last f (drop i rows) (drop i keys) ≡ cond b 0 (suc rest)
+      seeking-test =
+          seeking-cut
+          ∙ ap (λ (t : Bool). cond (t && alike f (getD keys i [])) 0 (suc rest)) (eq-eqb (rowAt i .0) last here)
+          ∙ ap (λ (w : List ℕ). cond (alike f w) 0 (suc rest)) (sym taken)
+          ∙ ap (λ (t : Bool). cond t 0 (suc rest)) (sym test)
+
+      pub seeking-hit : b ≡ true → i ≡ seek last f rows keys
+      seeking-hit e = omega (arith, h .same, seeking-test ∙ ap (λ (t : Bool). cond t 0 (suc rest)) e)
+
+      pub seeking-next : b ≡ false → Seeking last f (i + 1)
+      seeking-next e = record { same = omega (arith, h .same, seeking-test ∙ ap (λ (t : Bool). cond t 0 (suc rest)) e) }

@@ -1,11 +1,12 @@
 -- What inner functions ask and promise; nothing here need be believed for the calls.
 -- Assumes nothing.
-use Prim.Native.Nat.{ℕ, zero, suc}
+use Prim.Native.Nat.{ℕ, zero, suc, _+_, _-_, _<_, _≤_}
 use mathlib.Core.Path.{_≡_}
 use mathlib.Core.Bool.{Bool, true, false, cond, _&&_}
 use mathlib.Core.List.{List, [], _∷_, _++_, map}
 use lib.ListN.{length, getD, drop, replicate}
 use lib.Dec.{leb, eqb}
+use lib.Seq.{slice}
 use Rattle.lists.specs.Lists.{alike}
 use Rattle.text.specs.Text.{text, decimal, between, parts}
 use Rattle.rules.specs.Requests.{EXEC5ALL, ALLOC}
@@ -135,6 +136,18 @@ abbrev pub seek : ℕ → List ℕ → List Word → List (List ℕ) → ℕ
 seek last f [] ws = 0
 seek last f (r ∷ rs) [] = 0
 seek last f (r ∷ rs) (w ∷ ws) = cond (eqb (r .0) last && alike f w) 0 (suc (seek last f rs ws))
+
+-- where each word begins in a row of all of them, with commas between; and that it does
+unfoldable pub starts : List ℕ
+starts = 0 ∷ 1 ∷ 7 ∷ 12 ∷ 15 ∷ 18 ∷ 21 ∷ 24 ∷ 27 ∷ 32 ∷ 37 ∷ 40 ∷ 45 ∷ 47 ∷ 50 ∷ 52 ∷ 55 ∷ 57 ∷ 59 ∷ 62 ∷ 64 ∷ 67 ∷ 70 ∷ 76 ∷ 81 ∷ 87 ∷ 92 ∷ 94 ∷ 96 ∷ 100 ∷ []
+
+abbrev pub startAt : ℕ → ℕ
+startAt i = getD starts i 0
+
+pub record Row (words : List ℕ) : Type 0 where
+  pub low : (i : ℕ) → i < noWord → startAt i < startAt (i + 1)
+  pub high : (i : ℕ) → i < noWord → startAt (i + 1) ≤ length words + 1
+  pub there : (i : ℕ) → i < noWord → slice (startAt i) (startAt (i + 1) - 1) words ≡ getD keys i []
 
 -- what a line that says l does
 unfoldable pub obeys : Tables → List ℕ → Line → Written

@@ -3,8 +3,7 @@ ghost use mathlib.Core.Path.{_≡_};
 ghost use Prim.Native.Nat.{_≤_, _<_};
 ghost use lib.ListN.{length, getD};
 ghost use lib.Seq.{slice};
-ghost use Rattle.text.specs.Text.{parts};
-ghost use Rattle.console.specs.Inner.{noWord, rows, rowAt, requests, keys, seek};
+ghost use Rattle.console.specs.Inner.{noWord, rows, rowAt, requests, keys, seek, Row};
 use super::Said;
 use rules::Call;
 use rules::Order;
@@ -94,23 +93,61 @@ pub(crate) fn said_by(i: usize, a: u64, b: u64, c: u64) -> Said
     all[i]
 }
 
-// Which word behind word `last` the field s[at..end] is, or `NO_WORD`; the words are told in order, with commas between them.
+// Where each word begins in the row of all words, with commas between them; and where another would.
+const STARTS: [usize; 30] = [
+    0,
+    1,
+    7,
+    12,
+    15,
+    18,
+    21,
+    24,
+    27,
+    32,
+    37,
+    40,
+    45,
+    47,
+    50,
+    52,
+    55,
+    57,
+    59,
+    62,
+    64,
+    67,
+    70,
+    76,
+    81,
+    87,
+    92,
+    94,
+    96,
+    100,
+];
+
+// Which word behind word `last` the field s[at..end] is, or `NO_WORD`; `words` are all of them in a row.
 pub(crate) fn which(s: &[u8], at: usize, end: usize, last: usize, words: &[u8]) -> usize
     requires { ⌜ at ≤ end ⌝ }
     requires { ⌜ end ≤ length (now s) ⌝ }
-    requires { ⌜ parts 44 (now words) ≡ keys ⌝ }
+    requires { ⌜ Row (now words) ⌝ }
     ensures { λ r. ⌜ r ≡ seek last (slice at end (now (s .entry))) rows keys ⌝ }
 {
     let rows = WORDS;
+    let starts = STARTS;
     let mut i = 0;
-    let mut from = 0;
     while i < NO_WORD {
-        let to = text::part_end(words, from, b',');
         let word = rows[i];
-        if (word.0 == last) & text::is_word(s, at, end, &words[from..to]) {
+        if word.0 != last {
+            i += 1;
+            continue;
+        }
+        let from = starts[i];
+        let to = starts[i + 1] - 1;
+        if text::is_word(s, at, end, &words[from..to]) {
             return i;
         }
-        from = to + 1;
         i += 1;
     }
     i

@@ -7,7 +7,7 @@ use lib.ListN.{length}
 use borrow.Author.Needs.{needs}
 use Rattle.console.specs.Line.{lineOf}
 use Rattle.console.specs.Inner.{noWord, fieldsFrom, behind}
-use Rattle.console.proofs.WordLaws.{told-keys, word-past, word-last, word-none, word-next, line-long, line-fits}
+use Rattle.console.proofs.WordLaws.{told-row, word-past, word-last, word-none, word-next, line-long, line-fits}
 use Rattle.console.proofs.parse.command_of.Statement.{statement}
 use Rattle.console.proofs.parse.command_of.Tie as tie
 
@@ -34,7 +34,7 @@ returns-2 c =
     c .end-of .ensures ∙ sym (l .loop .inv .2 ∙ word-last (l .loop .inv .0) (s .args .s .now) (l .loop .at) (w .word-of .ensures) (c .before .if2 .taken))
 
 which-requires : tie.Need-which-requires Inv-loop μ-loop
-which-requires c κs = (omega arith, (omega arith, told-keys))
+which-requires c κs = (omega arith, (omega arith, told-row))
 
 end-of-requires-2 : tie.Need-end-of-requires-2 Inv-loop μ-loop
 end-of-requires-2 c κs = (omega arith, omega arith)
