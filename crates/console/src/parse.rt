@@ -46,9 +46,9 @@ fn end_of(s: &[u8], at: usize, last: usize) -> Command
         let NameField::Is(a, b, c, d, e, next) = fields::name_field(s, at) else {
             return not_said();
         };
-        return with_numbers(s, next, last, [a, b, c, d, e], word.2);
+        return with_numbers(s, next, last, [a, b, c, d, e], word.2 as usize);
     }
-    with_numbers(s, at, last, [32; 5], word.2)
+    with_numbers(s, at, last, [32; 5], word.2 as usize)
 }
 
 // What a line of any bytes says: word after word is taken, as long as there is one behind the last.

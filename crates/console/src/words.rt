@@ -13,10 +13,10 @@ use rules::Request;
 pub(crate) const NO_WORD: usize = 29;
 
 // The word before, whether a name comes next, how many numbers come behind that, and whether it is a last word.
-pub(crate) struct Word(pub usize, pub bool, pub usize, pub bool);
+pub(crate) struct Word(pub u8, pub bool, pub u8, pub bool);
 
 const WORDS: [Word; NO_WORD] = [
-    Word(NO_WORD, false, 0, false), // the start
+    Word(29, false, 0, false), // the start
     Word(0, false, 3, true), // FRESH,T,S,R
     Word(0, true, 1, true), // LOAD,name,priority
     Word(0, true, 0, true), // RU,name
@@ -139,7 +139,7 @@ pub(crate) fn which(s: &[u8], at: usize, end: usize, last: usize, words: &[u8]) 
     let mut i = 0;
     while i < NO_WORD {
         let word = rows[i];
-        if word.0 != last {
+        if word.0 as usize != last {
             i += 1;
             continue;
         }

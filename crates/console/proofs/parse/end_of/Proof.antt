@@ -32,13 +32,14 @@ returns c =
 
 returns-2 : tie.Need-returns-2
 returns-2 c =
-    let n = c .before .before .before .before in
+    let k = c .before .before in
+    let n = k .before .before .before in
     let w = n .before .before in
     c .with-numbers .ensures
-    ∙ sym (ends w (n .before .if1 .taken) ∙ name-told (n .name-field .ensures) (c .before .before .a .given .1) (Behind w))
+    ∙ sym (ends w (n .before .if1 .taken) ∙ name-told (n .name-field .ensures) (k .before .a .given .1) (Behind w))
 
 returns-3 : tie.Need-returns-3
-returns-3 c = c .with-numbers2 .ensures ∙ sym (ends (c .before .before) (c .before .if1 .left))
+returns-3 c = c .with-numbers2 .ensures ∙ sym (ends (c .before .before .before) (c .before .before .if1 .left))
 
 pub end-of-spec : {M : Type 1} → statement M
 end-of-spec =
@@ -50,7 +51,9 @@ end-of-spec =
     (λ c. search needs)
     (λ c κs. search needs)
     returns
+    (λ c. search needs)
     (λ c κs. search needs)
     returns-2
+    (λ c. search needs)
     (λ c κs. search needs)
     returns-3)
