@@ -56,10 +56,10 @@ eventsFor v nm (Number r o l) = rules.number v r o l ∷ []
 eventsFor v nm (Release r o l d) = rules.number v r o l ∷ wake (woken v (clears r d))
 eventsFor v nm Tick = clocked (v .book .clock + 1) ∷ join (map (λ p. ticked p (at (v .book) p)) (keep (dueAt (v .book)) all))
 
--- the number and the values: those of the answer, or how many are woken or started
+-- the number and the values: those of the answer, or what the effect tells: how many are woken or started, and 0 for new tables
 abbrev pub replyFor : View → Answer → Effect → ℕ × List ℕ
 replyFor v a Stay = (number a, values a)
-replyFor v a (Renew T S R) = (number a, values a)
+replyFor v a (Renew T S R) = (0, 0 ∷ [])
 replyFor v a (Load p n) = (number a, values a)
 replyFor v a (Price p n) = (number a, values a)
 replyFor v a (Time p d i) = (number a, values a)

@@ -35,7 +35,7 @@ pub enum Effect {
     Tick,
 }
 
-// The answer's value is the effect's own count where that wakes or starts programs: End, Release and Tick.
+// The answer is the effect's own where that counts programs or makes new tables: End, Release, Tick and Renew.
 pub struct Decision {
     pub answer: Answer,
     pub effect: Effect,

@@ -2,12 +2,14 @@
 -- Assumes nothing.
 use Prim.Native.Nat.{ℕ, _+_}
 use native.Mathlib.Omega.{arith}
-use mathlib.Core.Path.{_≡_, sym, ap, _∙_}
+use mathlib.Core.Path.{_≡_, refl, sym, ap, _∙_}
 use mathlib.Core.Bool.{Bool, true, false, cond}
 use mathlib.Core.List.{List, [], _∷_, _++_}
 use lib.Dec.{eqb}
 use lib.ListN.{length, take, length-append}
 use lib.Seq.{length-take-le}
+use borrow.Author.Tests.{le-leb}
+use Rattle.lists.proofs.Tests.{and, upTo-is}
 use Rattle.records.specs.declared.Resource.{Resource}
 use Rattle.records.specs.declared.Numbers.{Numbers}
 use Rattle.records.specs.declared.Why.the-variants.{Nothing}
@@ -24,15 +26,16 @@ use Rattle.rules.specs.Requests.{Request}
 use Rattle.rules.specs.Rules.{number, quit, dismissed, ends}
 use Rattle.rules.proofs.shared.Settling.{settle, off-events}
 use Rattle.rules.specs.Keeper.{lists, view, step}
+use Rattle.rules.specs.Engine.{madeBy}
 use Rattle.rules.specs.Keeper as keeper
 use Rattle.chains.specs.declared.Listing.{Listing}
 use Rattle.decisions.specs.declared.Decision.{Decision}
 use Rattle.decisions.specs.declared.Effect.{Effect}
 use Rattle.decisions.specs.declared.Effect.the-variants.{Renew}
-use Rattle.decisions.specs.Inner.{eventsFor, replyFor, Decides}
+use Rattle.decisions.specs.Inner.{Sizes, eventsFor, replyFor, Decides}
 use Rattle.tables.specs.declared.Tables.{Tables}
-use Rattle.tables.specs.Tables.{plain, lay}
-use Rattle.tables.specs.Calls.{told, laid, asked}
+use Rattle.tables.specs.Tables.{plain}
+use Rattle.tables.specs.Calls.{told, laid, made, asked}
 use Rattle.tables.specs.Inner.{Orderly, Ready, Played, CanHold, CanNumber, CanSettle, Awaits, carried, counted}
 use Rattle.tables.proofs.Waiting.{can-settle}
 use Rattle.tables.proofs.Endings.{played-as, wake-both}
@@ -82,16 +85,15 @@ module _ (t : Tables) (O : Orderly t) (k o l : ℕ) (n : Numbers)
 -- what is handed back: the answer as it was decided, or a count
 module _ (t : Tables) (nm : List ℕ) (a : Answer) (e : Effect) (u : Tables) (h : Happens (eventsFor (view lists (plain t)) nm e))
     (S : Played t (eventsFor (view lists (plain t)) nm e) u) where
-  pub made : replyFor (view lists (plain t)) a e ≡ (answers.number a, answers.values a) → told (record { answer = a; tables = u }) ≡ carried t nm a e
-  made w = λ i. record { number = sym w i .0; values = sym w i .1; tables = laid-says t u (eventsFor (view lists (plain t)) nm e) h S i }
+  pub moved : replyFor (view lists (plain t)) a e ≡ (answers.number a, answers.values a) → told (record { answer = a; tables = u }) ≡ carried t nm a e
+  moved w = λ i. record { number = sym w i .0; values = sym w i .1; tables = laid-says t u (eventsFor (view lists (plain t)) nm e) h S i }
 
   pub made-counted : (n : ℕ) → replyFor (view lists (plain t)) a e ≡ (0, n ∷ []) → counted n u ≡ carried t nm a e
   made-counted n w = λ i. record { number = sym w i .0; values = sym w i .1; tables = laid-says t u (eventsFor (view lists (plain t)) nm e) h S i }
 
-pub made-anew : (t : Tables) (nm : List ℕ) (a : Answer) (T S R : ℕ) (u : Tables) → u ≡ lay (keeper.fresh lists T S R)
-    → told (record { answer = a; tables = u }) ≡ carried t nm a (Renew T S R)
-unfolding step
-made-anew t nm a T S R u e = λ i. record { number = answers.number a; values = answers.values a; tables = e i }
+pub made-anew : (t : Tables) (nm : List ℕ) (a : Answer) (T S R : ℕ) → Sizes T S R → made T S R ≡ carried t nm a (Renew T S R)
+unfolding step madeBy
+made-anew t nm a T S R Z = rw (and (and (upTo-is 1 256 T (Z .least) (Z .most)) (le-leb S T (Z .part))) (le-leb R 16 (Z .few)), madeBy) refl
 
 -- OF
 pub dismissal : (t : Tables) (p k n : ℕ) (u : Tables)

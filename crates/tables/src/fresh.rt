@@ -30,7 +30,7 @@ impl Tables {
     }
 
     // Clock 0, no record used, every track from `system` up and every number free.
-    pub(crate) fn empty(tracks: u16, system: u16, numbers: u8) -> Tables
+    fn empty(tracks: u16, system: u16, numbers: u8) -> Tables
         requires { ⌜ Sizes tracks system numbers ⌝ }
         ensures { λ t. ⌜ t ≡ lay (fresh lists tracks system numbers) ⌝ }
     {

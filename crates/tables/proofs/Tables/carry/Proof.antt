@@ -13,7 +13,7 @@ use Rattle.tables.specs.Tables.{plain}
 use Rattle.tables.specs.Calls.{Result, told}
 use Rattle.tables.specs.Inner.{Played, carried, counted}
 use Rattle.tables.proofs.Serving.{Happens}
-use Rattle.tables.proofs.Carrying.{made, made-counted, made-anew, dismissal, dismissal-happens}
+use Rattle.tables.proofs.Carrying.{moved, made-counted, made-anew, dismissal, dismissal-happens}
 use Rattle.tables.proofs.Tables.carry.Statement.{statement}
 use Rattle.tables.proofs.Tables.carry.Tie as tie
 
@@ -29,14 +29,11 @@ module _ (s : tie.Start) (e : Effect) {u : Tables} (q : s .args .d .effect ≡ e
     (S : Played (s .args .self) (eventsFor (view lists (plain (s .args .self))) (s .args .name) e) u) where
   moves : replyFor (view lists (plain (s .args .self))) (s .args .d .answer) e ≡ (number (s .args .d .answer), values (s .args .d .answer))
       → told (record { answer = s .args .d .answer; tables = u }) ≡ carried (s .args .self) (s .args .name) (s .args .d .answer) (s .args .d .effect)
-  moves w = on s q (made (s .args .self) (s .args .name) (s .args .d .answer) e u h S w)
+  moves w = on s q (moved (s .args .self) (s .args .name) (s .args .d .answer) e u h S w)
 
   counts : {n m : ℕ} → n ≡ m → replyFor (view lists (plain (s .args .self))) (s .args .d .answer) e ≡ (0, m ∷ [])
       → counted n u ≡ carried (s .args .self) (s .args .name) (s .args .d .answer) (s .args .d .effect)
   counts {n} N w = on s q (made-counted (s .args .self) (s .args .name) (s .args .d .answer) e u h S n (w ∙ ap (λ (k : ℕ). (0, k ∷ [])) (sym N)))
-
-empty-requires : tie.Need-empty-requires
-empty-requires c κs = let s = c .before .before .before in apt s (c .before .effect .given .1)
 
 loaded-requires : tie.Need-loaded-requires
 loaded-requires c κs = let s = c .before .before .before in record { orderly = s .pre .ready .orderly; known = apt s (c .before .effect2 .given .1) }
@@ -81,7 +78,8 @@ returns-2 : tie.Need-returns-2
 returns-2 c =
     let x = c .before .before .effect .given .0 in
     let s = c .before .before .before .before in
-    on s (c .before .before .effect .given .1) (made-anew (s .args .self) (s .args .name) (s .args .d .answer) (x .0) (x .1 .0) (x .1 .1 .0) _ (c .empty .ensures))
+    let q = c .before .before .effect .given .1 in
+    on s q (c .fresh .ensures ∙ made-anew (s .args .self) (s .args .name) (s .args .d .answer) (x .0) (x .1 .0) (x .1 .1 .0) (apt s q))
 
 returns-3 : tie.Need-returns-3
 returns-3 c = let x = c .before .before .effect2 .given .0 in moves (c .before .before .before .before) (Load (x .0) (x .1 .0)) (c .before .before .effect2 .given .1) tt (c .loaded .ensures) refl
@@ -126,4 +124,4 @@ returns-15 : tie.Need-returns-15
 returns-15 c = let k = c .before in c .count-of3 .ensures ∙ counts (c .before .before .before .before) Tick (k .before .enum-told2 .given .1) tt (k .ticked-on .ensures .played) (k .ticked-on .ensures .number) refl
 
 pub carry-spec : {M : Type 1} → statement M
-carry-spec = tie.close (tie.spec (λ c. search needs) (λ c. search needs) empty-requires (λ c. search needs) loaded-requires (λ c. search needs) priced-requires (λ c. search needs) timed-requires (λ c. search needs) becomes-requires (λ c. search needs) awaited-requires (λ c. search needs) ended-requires (λ c. search needs) ended-self-requires (λ c κs. search needs) (λ c. search needs) taken-requires (λ c. search needs) given-requires (λ c. search needs) (λ c κs. search needs) (λ c. search needs) with-number-requires (λ c. search needs) released-requires (λ c κs. search needs) (λ c. search needs) ticked-on-requires (λ c κs. search needs) returns returns-2 returns-3 returns-4 returns-5 returns-6 returns-7 returns-8 returns-9 returns-10 returns-11 returns-12 returns-13 returns-14 returns-15)
+carry-spec = tie.close (tie.spec (λ c. search needs) (λ c. search needs) (λ c. search needs) (λ c. search needs) (λ c. search needs) (λ c κs. search needs) (λ c. search needs) loaded-requires (λ c. search needs) priced-requires (λ c. search needs) timed-requires (λ c. search needs) becomes-requires (λ c. search needs) awaited-requires (λ c. search needs) ended-requires (λ c. search needs) ended-self-requires (λ c κs. search needs) (λ c. search needs) taken-requires (λ c. search needs) given-requires (λ c. search needs) (λ c κs. search needs) (λ c. search needs) with-number-requires (λ c. search needs) released-requires (λ c κs. search needs) (λ c. search needs) ticked-on-requires (λ c κs. search needs) returns returns-2 returns-3 returns-4 returns-5 returns-6 returns-7 returns-8 returns-9 returns-10 returns-11 returns-12 returns-13 returns-14 returns-15)
