@@ -4,10 +4,10 @@ ghost use mathlib.Core.Path.{_≡_};
 ghost use mathlib.Core.List.{List};
 ghost use Rattle.rules.specs.Plans.{View};
 ghost use Rattle.rules.specs.Rules.{head, sizes, plan, call};
-ghost use Rattle.rules.specs.Requests.{FRESH, TICK};
+ghost use Rattle.rules.specs.Requests.{FRESH, LOAD, TICK};
 ghost use Rattle.rules.specs.Coded.{theCall, theRequest};
 ghost use Rattle.ledger.specs.Ledger.{bookOf};
-ghost use Rattle.decisions.specs.Inner.{Decides, CanCall, CanDecide, taskOf};
+ghost use Rattle.decisions.specs.Inner.{CanAsk, CanCall, CanDecide, Decides, asking, taskOf};
 use super::Decision;
 use super::Effect;
 use super::discs;
@@ -78,21 +78,33 @@ fn task_of(o: Order) -> Task
     }
 }
 
+// A task of the program of that name. The records are copied here, where they are looked at.
+fn asks(book: Ledger, c: u8, name: [u8; 5], task: Task) -> Decision
+    requires { ⌜ CanAsk (book .tracks) (book .clock .ticks) c task ⌝ }
+    ensures { λ r. ⌜ ((v : View) (nm : List ℕ) → v .book ≡ bookOf book → Decides v nm (asking v c name task) r) ⌝ }
+{
+    let programs = book.programs;
+    naming::upon(programs, book.tracks, book.clock.ticks, c, name, task)
+}
+
+fn loads(book: Ledger, name: [u8; 5], priority: u64) -> Decision
+    ensures { λ r. ⌜ ((v : View) → v .book ≡ bookOf book → Decides v name (plan v (LOAD name priority)) r) ⌝ }
+{
+    let programs = book.programs;
+    naming::loads(programs, name, priority)
+}
+
 // What program c asks.
 fn called(book: Ledger, c: u8, name: [u8; 5], q: Call) -> Decision
     requires { ⌜ CanCall book c ⌝ }
     ensures { λ r. ⌜ ((v : View) (nm : List ℕ) → v .book ≡ bookOf book → Decides v nm (call v c (theCall name q)) r) ⌝ }
 {
-    let programs = book.programs;
-    let tracks = book.tracks;
-    let numbers = book.numbers;
-    let clock = book.clock;
     match q {
-        Call::Exec4(n, w) => discs::takes(tracks, c, c, n, w),
-        Call::Exec15(n, w) => discs::takes(tracks, c, Tracks::GLOBAL, n, w),
-        Call::Exec5(n, start) => discs::gives(tracks, c, n, start),
-        Call::Exec16(n, start) => discs::gives(tracks, Tracks::GLOBAL, n, start),
-        Call::Exec5All => discs::gives_all(tracks, c),
+        Call::Exec4(n, w) => discs::takes(book.tracks, c, c, n, w),
+        Call::Exec15(n, w) => discs::takes(book.tracks, c, Tracks::GLOBAL, n, w),
+        Call::Exec5(n, start) => discs::gives(book.tracks, c, n, start),
+        Call::Exec16(n, start) => discs::gives(book.tracks, Tracks::GLOBAL, n, start),
+        Call::Exec5All => discs::gives_all(book.tracks, c),
         Call::Exec6 => Decision {
             answer: Answer::Done(0),
             effect: Effect::End(c),
@@ -101,21 +113,14 @@ fn called(book: Ledger, c: u8, name: [u8; 5], q: Call) -> Decision
             answer: Answer::Done(0),
             effect: Effect::Become(c, 6, Why::Nothing),
         },
-        Call::Exec11 => stay(Answer::Told(clock.time())),
-        Call::Exec9 => naming::upon(programs, tracks, clock.ticks, c, name, Task::Await),
-        Call::Exec10 => naming::upon(programs, tracks, clock.ticks, c, name, Task::Send),
-        Call::Exec12(r, m, o) => naming::upon(
-            programs,
-            tracks,
-            clock.ticks,
-            c,
-            name,
-            Task::Time(r, m, o),
-        ),
-        Call::Alloc(global, w) => numbering::allocates(numbers, c, global, w),
-        Call::Lock(r, w) => numbering::of_number(numbers, c, r, Wanted::Lock(w)),
-        Call::Clear(r) => numbering::of_number(numbers, c, r, Wanted::Clear),
-        Call::Free(r) => numbering::of_number(numbers, c, r, Wanted::Free),
+        Call::Exec11 => stay(Answer::Told(book.clock.time())),
+        Call::Exec9 => asks(book, c, name, Task::Await),
+        Call::Exec10 => asks(book, c, name, Task::Send),
+        Call::Exec12(r, m, o) => asks(book, c, name, Task::Time(r, m, o)),
+        Call::Alloc(global, w) => numbering::allocates(book.numbers, c, global, w),
+        Call::Lock(r, w) => numbering::of_number(book.numbers, c, r, Wanted::Lock(w)),
+        Call::Clear(r) => numbering::of_number(book.numbers, c, r, Wanted::Clear),
+        Call::Free(r) => numbering::of_number(book.numbers, c, r, Wanted::Free),
     }
 }
 
@@ -124,14 +129,11 @@ pub fn decide(book: Ledger, c: u8, name: [u8; 5], q: Request) -> Decision
     requires { ⌜ CanDecide book c ⌝ }
     ensures { λ r. ⌜ ((v : View) → v .book ≡ bookOf book → head (v .chain 1) ≡ c → Decides v name (plan v (theRequest name q)) r) ⌝ }
 {
-    let programs = book.programs;
-    let tracks = book.tracks;
-    let ticks = book.clock.ticks;
     match q {
         Request::Fresh(t, s, r) => renews(t, s, r),
-        Request::Load(n) => naming::loads(programs, name, n),
-        Request::Operator(o) => naming::upon(programs, tracks, ticks, 0, name, task_of(o)),
-        Request::Tick => ticks_on(ticks),
+        Request::Load(n) => loads(book, name, n),
+        Request::Operator(o) => asks(book, 0, name, task_of(o)),
+        Request::Tick => ticks_on(book.clock.ticks),
         Request::Running(call) => {
             if c == 0 {
                 return stay(Answer::NoCaller);

@@ -16,12 +16,9 @@ use Rattle.decisions.proofs.Laws.{rests, tracks-in, numbers-in, book-in
 use Rattle.decisions.proofs.deciding.called.Statement.{statement}
 use Rattle.decisions.proofs.deciding.called.Tie as tie
 
-abbrev S : tie.After-clock → tie.Start
-S k = k .before .before .before .before
-
-on : (k : tie.After-clock) (v : View) (nm : List ℕ) {q : Call} {d : Decision} → S k .args .q ≡ q → Decides v nm (call v (S k .args .c) (theCall (S k .args .name) q)) d
-    → Decides v nm (call v (S k .args .c) (theCall (S k .args .name) (S k .args .q))) d
-on k v nm {d = d} e = subst (λ (q : Call). Decides v nm (call v (S k .args .c) (theCall (S k .args .name) q)) d) (sym e)
+on : (k : tie.Start) (v : View) (nm : List ℕ) {q : Call} {d : Decision} → k .args .q ≡ q → Decides v nm (call v (k .args .c) (theCall (k .args .name) q)) d
+    → Decides v nm (call v (k .args .c) (theCall (k .args .name) (k .args .q))) d
+on k v nm {d = d} e = subst (λ (q : Call). Decides v nm (call v (k .args .c) (theCall (k .args .name) q)) d) (sym e)
 
 returns : tie.Need-returns
 unfolding call
@@ -45,11 +42,11 @@ returns-5 c = let k = c .before .before .before in λ v nm O. on k v nm (c .befo
 
 returns-6 : tie.Need-returns-6
 unfolding call
-returns-6 c = let k = c .before .before in λ v nm O. on k v nm (c .enum-told2 .given .1) (record { number = refl; values = refl; events = refl; apt = S k .pre .known })
+returns-6 c = let k = c .before .before in λ v nm O. on k v nm (c .enum-told2 .given .1) (record { number = refl; values = refl; events = refl; apt = k .pre .known })
 
 returns-7 : tie.Need-returns-7
 unfolding call
-returns-7 c = let k = c .before .before in λ v nm O. on k v nm (c .enum-told3 .given .1) (record { number = refl; values = refl; events = refl; apt = (S k .pre .known, omega arith) })
+returns-7 c = let k = c .before .before in λ v nm O. on k v nm (c .enum-told3 .given .1) (record { number = refl; values = refl; events = refl; apt = (k .pre .known, omega arith) })
 
 returns-8 : tie.Need-returns-8
 unfolding call
@@ -57,15 +54,15 @@ returns-8 c = let k = c .before .before .before .before in λ v nm O. on k v nm 
 
 returns-9 : tie.Need-returns-9
 unfolding call need asking going awaiting winding
-returns-9 c = let k = c .before .before .before in λ v nm O. on k v nm (c .before .enum-told5 .given .1) (c .upon .ensures v nm (book-in v _ O))
+returns-9 c = let k = c .before .before .before in λ v nm O. on k v nm (c .before .enum-told5 .given .1) (c .asks .ensures v nm O)
 
 returns-10 : tie.Need-returns-10
 unfolding call need asking going awaiting winding
-returns-10 c = let k = c .before .before .before in λ v nm O. on k v nm (c .before .enum-told6 .given .1) (c .upon2 .ensures v nm (book-in v _ O))
+returns-10 c = let k = c .before .before .before in λ v nm O. on k v nm (c .before .enum-told6 .given .1) (c .asks2 .ensures v nm O)
 
 returns-11 : tie.Need-returns-11
 unfolding call need asking going awaiting winding
-returns-11 c = let k = c .before .before .before .before in λ v nm O. on k v nm (c .before .before .q5 .given .1) (c .upon3 .ensures v nm (book-in v _ O))
+returns-11 c = let k = c .before .before .before .before in λ v nm O. on k v nm (c .before .before .q5 .given .1) (c .asks3 .ensures v nm O)
 
 returns-12 : tie.Need-returns-12
 unfolding call
