@@ -34,5 +34,4 @@ returns-3 c =
     soundly-is (e .before .before .before .args .tables .now) (t .tables-at .result) false (form e) (t .tables-at .ensures) (sym (c .before .is-sound .ensures) ∙ c .if2 .left)
 
 pub board-sound-spec : {M : Type 1} → statement M
-board-sound-spec =
-    tie.close (tie.spec (λ c κs. search needs) returns tables-at-requires (λ c κs. search needs) returns-2 returns-3)
+board-sound-spec = tie.close (tie.spec (λ c κs. search needs) returns tables-at-requires (λ c κs. search needs) returns-2 returns-3)

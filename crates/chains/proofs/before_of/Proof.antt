@@ -46,17 +46,5 @@ returns-2 c = seek-end (c .before .loop .inv .1) (c .loop-test .left)
 pub before-of-spec : {M : Type 1} → statement M
 before-of-spec =
     tie.close
-    (tie.spec
-    Inv-loop
-    μ-loop
-    (λ c κs. search needs)
-    (λ c. omega arith)
-    (λ c κs. search needs)
-    loop-holds
-    returns
-    add-at
-    array-read-wide-2
-    (λ c κs. search needs)
-    loop-less
-    loop-again
-    returns-2)
+    (tie.spec Inv-loop μ-loop (λ c κs. search needs) (λ c. omega arith) (λ c κs. search needs) loop-holds returns add-at
+    array-read-wide-2 (λ c κs. search needs) loop-less loop-again returns-2)

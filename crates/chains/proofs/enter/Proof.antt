@@ -21,11 +21,5 @@ returns c =
 pub enter-spec : {M : Type 1} → statement M
 enter-spec =
     tie.close
-    (tie.spec
-    (λ c κs. search needs)
-    array-read-l
-    (λ c κs. search needs)
-    (λ c. search needs)
-    (λ c. search needs)
-    array-write-l-2
+    (tie.spec (λ c κs. search needs) array-read-l (λ c κs. search needs) (λ c. search needs) (λ c. search needs) array-write-l-2
     returns)

@@ -23,11 +23,4 @@ returns c =
 pub leave-spec : {M : Type 1} → statement M
 leave-spec =
     tie.close
-    (tie.spec
-    (λ c κs. search needs)
-    (λ c κs. search needs)
-    (λ c. search needs)
-    array-read-l
-    array-write-l
-    array-write-l-2
-    returns)
+    (tie.spec (λ c κs. search needs) (λ c κs. search needs) (λ c. search needs) array-read-l array-write-l array-write-l-2 returns)

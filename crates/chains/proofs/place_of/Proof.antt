@@ -58,23 +58,6 @@ returns-2 c = seek-end (c .before .loop .inv .1) (c .loop-test .left)
 pub place-of-spec : {M : Type 1} → statement M
 place-of-spec =
     tie.close
-    (tie.spec
-    Inv-loop
-    μ-loop
-    (λ c κs. search needs)
-    (λ c. omega arith)
-    (λ c. omega arith)
-    (λ c. omega arith)
-    (λ c. omega arith)
-    (λ c κs. search needs)
-    loop-holds
-    (λ c. omega arith)
-    mul-r
-    array-copy-out-r
-    returns
-    add-at
-    array-read-wide-2
-    (λ c κs. search needs)
-    loop-less
-    loop-again
-    returns-2)
+    (tie.spec Inv-loop μ-loop (λ c κs. search needs) (λ c. omega arith) (λ c. omega arith) (λ c. omega arith) (λ c. omega arith)
+    (λ c κs. search needs) loop-holds (λ c. omega arith) mul-r array-copy-out-r returns add-at array-read-wide-2
+    (λ c κs. search needs) loop-less loop-again returns-2)

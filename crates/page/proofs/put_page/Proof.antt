@@ -61,15 +61,9 @@ put-entry-requires c κs = omega (arith, ap length (bytes-line (line endKey (tex
 pub put-page-spec : {M : Type 1} → statement M
 put-page-spec =
     tie.close
-    (tie.spec
-    (λ c κs. search needs)
-    put-heading-requires
-    (λ c κs. todo-room (after-1 (c .before .before .before) .1))
+    (tie.spec (λ c κs. search needs) put-heading-requires (λ c κs. todo-room (after-1 (c .before .before .before) .1))
     (λ c κs. todo-room (after-2 (c .before .before .before) .1))
     (λ c κs. let d = after-3 (c .before .before .before) in (d .0 .pre .tracks, todo-room (d .1)))
-    (λ c κs. let d = after-4 (c .before .before .before) in (d .0 .pre .numbers, todo-room (d .1)))
-    (λ c. search needs)
-    (λ c. search needs)
-    put-entry-requires
-    (λ c. todo-same (after-6 (c .before .before) .1))
+    (λ c κs. let d = after-4 (c .before .before .before) in (d .0 .pre .numbers, todo-room (d .1))) (λ c. search needs)
+    (λ c. search needs) put-entry-requires (λ c. todo-same (after-6 (c .before .before) .1))
     (λ c. todo-end (after-6 (c .before .before) .1)))

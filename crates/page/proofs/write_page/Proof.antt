@@ -70,14 +70,8 @@ returns-3 c =
 pub write-page-spec : {M : Type 1} → statement M
 write-page-spec =
     tie.close
-    (tie.spec
-    (λ c κs. search needs)
-    (λ c. let s = c .before .before .before in handed-unsound (s .args .tables) (s .args .buf .now) (unsound c))
-    (λ c. search needs)
-    (λ c κs. fits c)
-    returns-2
-    (λ c. within (c .before .before .before))
+    (tie.spec (λ c κs. search needs)
+    (λ c. let s = c .before .before .before in handed-unsound (s .args .tables) (s .args .buf .now) (unsound c)) (λ c. search needs)
+    (λ c κs. fits c) returns-2 (λ c. within (c .before .before .before))
     (λ c. let p = c .before .before .before .before in sym (length-take-le (p .put-page .result) (p .put-page .last .0) (within p)))
-    put-bytes-requires
-    (λ c. wrote-length (c .before .before .put-bytes .ensures))
-    returns-3)
+    put-bytes-requires (λ c. wrote-length (c .before .before .put-bytes .ensures)) returns-3)

@@ -50,18 +50,5 @@ returns-3 c =
 pub is-legal-spec : {M : Type 1} → statement M
 is-legal-spec =
     tie.close
-    (tie.spec
-    Inv-loop
-    μ-loop
-    (λ c. search needs)
-    (λ c κs. search needs)
-    returns
-    loop-holds
-    (λ c. omega arith)
-    (λ c κs. search needs)
-    (λ c κs. search needs)
-    returns-2
-    (λ c. omega arith)
-    (λ c. omega arith)
-    loop-again
-    returns-3)
+    (tie.spec Inv-loop μ-loop (λ c. search needs) (λ c κs. search needs) returns loop-holds (λ c. omega arith)
+    (λ c κs. search needs) (λ c κs. search needs) returns-2 (λ c. omega arith) (λ c. omega arith) loop-again returns-3)

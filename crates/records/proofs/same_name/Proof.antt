@@ -32,14 +32,5 @@ returns-2 c =
 pub same-name-spec : {M : Type 1} → statement M
 same-name-spec =
     tie.close
-    (tie.spec
-    Inv-loop
-    μ-loop
-    (λ c. refl)
-    (λ c. omega arith)
-    (λ c. omega arith)
-    returns
-    (λ c. omega arith)
-    (λ c. omega arith)
-    loop-again
-    returns-2)
+    (tie.spec Inv-loop μ-loop (λ c. refl) (λ c. omega arith) (λ c. omega arith) returns (λ c. omega arith) (λ c. omega arith)
+    loop-again returns-2)

@@ -13,10 +13,5 @@ write-front-requires c κs =
 pub print-last-spec : {M : Type 1} → statement M
 print-last-spec =
     tie.close
-    (tie.spec
-    (λ c κs. search needs)
-    (λ c κs. search needs)
-    write-front-requires
-    (λ c. search needs)
-    (λ c. search needs)
+    (tie.spec (λ c κs. search needs) (λ c κs. search needs) write-front-requires (λ c. search needs) (λ c. search needs)
     (λ c. search needs))

@@ -63,18 +63,5 @@ returns-3 c =
 pub print-turns-spec : {M : Type 1} → statement M
 print-turns-spec =
     tie.close
-    (tie.spec
-    Inv-loop
-    μ-loop
-    loop-holds
-    (λ c κs. search needs)
-    write-front-requires
-    (λ c. search needs)
-    returns
-    (λ c. search needs)
-    (λ c. search needs)
-    loop-again
-    (λ c. search needs)
-    returns-2
-    (λ c. search needs)
-    returns-3)
+    (tie.spec Inv-loop μ-loop loop-holds (λ c κs. search needs) write-front-requires (λ c. search needs) returns (λ c. search needs)
+    (λ c. search needs) loop-again (λ c. search needs) returns-2 (λ c. search needs) returns-3)

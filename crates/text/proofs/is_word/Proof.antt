@@ -44,17 +44,5 @@ returns-3 c =
 pub is-word-spec : {M : Type 1} → statement M
 is-word-spec =
     tie.close
-    (tie.spec
-    Inv-loop
-    μ-loop
-    (λ c. omega arith)
-    returns
-    loop-holds
-    (λ c. omega arith)
-    (λ c. omega arith)
-    returns-2
-    (λ c. omega arith)
-    (λ c. omega arith)
-    (λ c. omega arith)
-    loop-again
-    returns-3)
+    (tie.spec Inv-loop μ-loop (λ c. omega arith) returns loop-holds (λ c. omega arith) (λ c. omega arith) returns-2
+    (λ c. omega arith) (λ c. omega arith) (λ c. omega arith) loop-again returns-3)

@@ -43,13 +43,4 @@ returns-2 c =
 pub part-end-spec : {M : Type 1} → statement M
 part-end-spec =
     tie.close
-    (tie.spec
-    Inv-loop
-    μ-loop
-    loop-holds
-    (λ c. omega arith)
-    returns
-    (λ c. omega arith)
-    (λ c. omega arith)
-    loop-again
-    returns-2)
+    (tie.spec Inv-loop μ-loop loop-holds (λ c. omega arith) returns (λ c. omega arith) (λ c. omega arith) loop-again returns-2)

@@ -21,9 +21,7 @@ returns c =
 pub put-entry-spec : {M : Type 1} → statement M
 put-entry-spec =
     tie.close
-    (tie.spec
-    (λ c κs. let s = c .before .before .before .before .args in omega (arith, entry-length (s .key .now) (s .value .now)))
+    (tie.spec (λ c κs. let s = c .before .before .before .before .args in omega (arith, entry-length (s .key .now) (s .value .now)))
     (λ c κs. todo-room (opened (c .before .before .before)))
     (λ c κs. let v = c .before .before .before in todo-room (todo-step (opened (v .before .before .before .before)) (v .put-bytes .ensures)))
-    (λ c. search needs)
-    returns)
+    (λ c. search needs) returns)

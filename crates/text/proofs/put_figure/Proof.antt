@@ -21,9 +21,7 @@ returns c =
 pub put-figure-spec : {M : Type 1} → statement M
 put-figure-spec =
     tie.close
-    (tie.spec
-    (λ c κs. let s = c .before .before .before .args in omega (arith, entry-length (s .key .now) (decimal (s .n))))
+    (tie.spec (λ c κs. let s = c .before .before .before .args in omega (arith, entry-length (s .key .now) (decimal (s .n))))
     (λ c κs. todo-room (opened (c .before .before .before)))
     (λ c κs. let v = c .before .before .before in todo-room (todo-step (opened (v .before .before .before .before)) (v .put-number .ensures)))
-    (λ c. search needs)
-    returns)
+    (λ c. search needs) returns)

@@ -64,17 +64,5 @@ returns-3 c =
 pub read-digits-spec : {M : Type 1} → statement M
 read-digits-spec =
     tie.close
-    (tie.spec
-    Inv-loop
-    μ-loop
-    loop-holds
-    (λ c. omega arith)
-    returns
-    returns-2
-    mul-a
-    (λ c. omega arith)
-    add-a
-    (λ c. omega arith)
-    (λ c. omega arith)
-    loop-again
-    returns-3)
+    (tie.spec Inv-loop μ-loop loop-holds (λ c. omega arith) returns returns-2 mul-a (λ c. omega arith) add-a (λ c. omega arith)
+    (λ c. omega arith) loop-again returns-3)

@@ -44,13 +44,5 @@ returns-5 c =
 pub read-number-spec : {M : Type 1} → statement M
 read-number-spec =
     tie.close
-    (tie.spec
-    (λ c. search needs)
-    returns
-    returns-2
-    (λ c κs. search needs)
-    returns-3
-    (λ c. search needs)
-    returns-4
-    (λ c κs. search needs)
-    returns-5)
+    (tie.spec (λ c. search needs) returns returns-2 (λ c κs. search needs) returns-3 (λ c. search needs) returns-4
+    (λ c κs. search needs) returns-5)

@@ -63,17 +63,5 @@ returns-3 c =
 pub carry-spec : {M : Type 1} → statement M
 carry-spec =
     tie.close
-    (tie.spec
-    Inv-loop
-    μ-loop
-    returns
-    returns-2
-    loop-holds
-    add-block
-    slice-read-block
-    slice-write-block
-    add-i
-    (λ c. omega arith)
-    loop-again
-    same-length
-    returns-3)
+    (tie.spec Inv-loop μ-loop returns returns-2 loop-holds add-block slice-read-block slice-write-block add-i (λ c. omega arith)
+    loop-again same-length returns-3)

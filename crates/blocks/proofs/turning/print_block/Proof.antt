@@ -95,26 +95,6 @@ returns-2 c =
 pub print-block-spec : {M : Type 1} → statement M
 print-block-spec =
     tie.close
-    (tie.spec
-    Inv-loop
-    μ-loop
-    (λ c κs. search needs)
-    loop-holds
-    sub-if1
-    same-length
-    returns
-    sub-print-line
-    part-print-line-start
-    (λ c. search needs)
-    sub-print-line-2
-    part-print-line-start-2
-    (λ c. search needs)
-    (λ c κs. search needs)
-    (λ c κs. search needs)
-    add-used
-    (λ c. search needs)
-    (λ c κs. search needs)
-    loop-less
-    loop-again
-    same-length-2
-    returns-2)
+    (tie.spec Inv-loop μ-loop (λ c κs. search needs) loop-holds sub-if1 same-length returns sub-print-line part-print-line-start
+    (λ c. search needs) sub-print-line-2 part-print-line-start-2 (λ c. search needs) (λ c κs. search needs) (λ c κs. search needs)
+    add-used (λ c. search needs) (λ c κs. search needs) loop-less loop-again same-length-2 returns-2)

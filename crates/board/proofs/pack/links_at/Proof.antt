@@ -13,4 +13,6 @@ returns c =
     part-whole 301 40 (w .before .before .before .before .args .s .now) (omega arith) (length-replicate {A = ℕ} 40 0) (w .put-bytes .ensures)
 
 pub links-at-spec : {M : Type 1} → statement M
-links-at-spec = tie.close (tie.spec (λ c. search needs) (λ c. search needs) (λ c. search needs) (λ c. search needs) (λ c κs. search needs) returns)
+links-at-spec =
+    tie.close
+    (tie.spec (λ c. search needs) (λ c. search needs) (λ c. search needs) (λ c. search needs) (λ c κs. search needs) returns)

@@ -15,12 +15,6 @@ returns c = figure-two (c .before .before .args .s .now) (c .before .before .arg
 pub pair-at-spec : {M : Type 1} → statement M
 pair-at-spec =
     tie.close
-    (tie.spec
-    (λ c. search needs)
-    (λ c. omega (arith, c .shared-slice-known .given (c .before .args .at)))
-    (λ c. search needs)
-    (λ c. search needs)
-    (λ c. omega (arith, c .shared-slice-known2 .given (c .before .before .args .at + 1)))
-    (λ c. omega (arith, c .shared-slice-known2 .given (c .before .before .args .at + 1)))
-    add-result-2
-    returns)
+    (tie.spec (λ c. search needs) (λ c. omega (arith, c .shared-slice-known .given (c .before .args .at))) (λ c. search needs)
+    (λ c. search needs) (λ c. omega (arith, c .shared-slice-known2 .given (c .before .before .args .at + 1)))
+    (λ c. omega (arith, c .shared-slice-known2 .given (c .before .before .args .at + 1))) add-result-2 returns)

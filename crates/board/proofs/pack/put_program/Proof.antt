@@ -52,17 +52,9 @@ same-length c = wrote-length (returns c)
 pub put-program-spec : {M : Type 1} → statement M
 put-program-spec =
     tie.close
-    (tie.spec
-    (λ c κs. search needs)
-    (λ c. search needs)
+    (tie.spec (λ c κs. search needs) (λ c. search needs)
     (λ c κs. omega (arith, long (c .before .before .before .before .before .before .before .before .before)))
     (λ c κs. omega (arith, long (begun (c .before .before .before))))
-    (λ c κs. omega (arith, long (begun (c .before .before .before .before .before .before .before))))
-    (λ c κs. search needs)
-    put-byte-requires-3
-    (λ c κs. search needs)
-    put-pair-requires-2
-    (λ c κs. omega (arith, room (c .before .before .before)))
-    (λ c κs. omega (arith, room (c .before .before .before .before .before .before .before)))
-    same-length
-    returns)
+    (λ c κs. omega (arith, long (begun (c .before .before .before .before .before .before .before)))) (λ c κs. search needs)
+    put-byte-requires-3 (λ c κs. search needs) put-pair-requires-2 (λ c κs. omega (arith, room (c .before .before .before)))
+    (λ c κs. omega (arith, room (c .before .before .before .before .before .before .before))) same-length returns)

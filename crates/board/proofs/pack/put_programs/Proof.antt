@@ -42,15 +42,6 @@ returns c = items-end packProgram 28 (c .before .before .before .args .t3) (omeg
 pub put-programs-spec : {M : Type 1} → statement M
 put-programs-spec =
     tie.close
-    (tie.spec
-    Inv-loop
-    μ-loop
-    loop-holds
-    (λ c. omega arith)
-    (λ c. omega (arith, long (c .before .before .before)))
-    put-program-requires
-    (λ c. omega (arith, long (c .before .before .before .before .before .before .before .before)))
-    (λ c. omega (arith, long (c .before .before .before .before .before .before .before .before)))
-    loop-again
-    same-length
-    returns)
+    (tie.spec Inv-loop μ-loop loop-holds (λ c. omega arith) (λ c. omega (arith, long (c .before .before .before)))
+    put-program-requires (λ c. omega (arith, long (c .before .before .before .before .before .before .before .before)))
+    (λ c. omega (arith, long (c .before .before .before .before .before .before .before .before))) loop-again same-length returns)

@@ -52,16 +52,5 @@ returns c = items-end packResource 2 (c .before .before .before .args .t3) (omeg
 pub put-resources-spec : {M : Type 1} → statement M
 put-resources-spec =
     tie.close
-    (tie.spec
-    Inv-loop
-    μ-loop
-    loop-holds
-    (λ c. omega arith)
-    (λ c. omega (arith, long (c .before .before .before)))
-    put-byte-requires
-    put-byte-requires-2
-    add-i
-    loop-less
-    loop-again
-    same-length
-    returns)
+    (tie.spec Inv-loop μ-loop loop-holds (λ c. omega arith) (λ c. omega (arith, long (c .before .before .before))) put-byte-requires
+    put-byte-requires-2 add-i loop-less loop-again same-length returns)

@@ -74,17 +74,7 @@ same-length c = wrote-length (returns c)
 pub put-tables-spec : {M : Type 1} → statement M
 put-tables-spec =
     tie.close
-    (tie.spec
-    (λ c κs. search needs)
-    (λ c κs. search needs)
-    (λ c κs. search needs)
-    (λ c κs. search needs)
-    (λ c κs. search needs)
-    slice-aggregate-put-bytes
-    (λ c κs. omega (arith, long (c .before .before .before .before)))
-    (λ c κs. omega (arith, room (c .before .before .before)))
-    slice-aggregate-put-bytes-2
-    put-bytes-requires-2
-    put-programs-requires
-    same-length
-    returns)
+    (tie.spec (λ c κs. search needs) (λ c κs. search needs) (λ c κs. search needs) (λ c κs. search needs) (λ c κs. search needs)
+    slice-aggregate-put-bytes (λ c κs. omega (arith, long (c .before .before .before .before)))
+    (λ c κs. omega (arith, room (c .before .before .before))) slice-aggregate-put-bytes-2 put-bytes-requires-2 put-programs-requires
+    same-length returns)

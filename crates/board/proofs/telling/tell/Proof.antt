@@ -20,5 +20,4 @@ returns-2 c =
     (e .before .number-of .ensures, answering-put (number (a .answer)) (values (a .answer)) (a .buf .now) (e .if1 .left) (p .put-figures .ensures))
 
 pub tell-spec : {M : Type 1} → statement M
-tell-spec =
-    tie.close (tie.spec (λ c κs. search needs) returns (λ c κs. search needs) (λ c. search needs) returns-2)
+tell-spec = tie.close (tie.spec (λ c κs. search needs) returns (λ c κs. search needs) (λ c. search needs) returns-2)

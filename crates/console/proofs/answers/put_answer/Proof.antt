@@ -65,14 +65,5 @@ same-length c = wrote-length (returns c)
 pub put-answer-spec : {M : Type 1} → statement M
 put-answer-spec =
     tie.close
-    (tie.spec
-    (λ c. search needs)
-    put-bytes-requires
-    (λ c κs. search needs)
-    put-number-requires
-    (λ c. search needs)
-    put-bytes-requires-2
-    put-values-requires
-    put-byte-requires
-    same-length
-    returns)
+    (tie.spec (λ c. search needs) put-bytes-requires (λ c κs. search needs) put-number-requires (λ c. search needs)
+    put-bytes-requires-2 put-values-requires put-byte-requires same-length returns)

@@ -62,11 +62,5 @@ same-length c = wrote-length (returns c)
 pub put-time-spec : {M : Type 1} → statement M
 put-time-spec =
     tie.close
-    (tie.spec
-    put-number-requires
-    put-dotted-requires
-    put-dotted-requires-2
-    put-dotted-requires-3
-    put-dotted-requires-4
-    same-length
+    (tie.spec put-number-requires put-dotted-requires put-dotted-requires-2 put-dotted-requires-3 put-dotted-requires-4 same-length
     returns)

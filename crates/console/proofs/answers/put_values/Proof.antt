@@ -32,12 +32,5 @@ returns-2 c = let w = c .before .before in rw (value (w .before)) (w .put-number
 pub put-values-spec : {M : Type 1} → statement M
 put-values-spec =
     tie.close
-    (tie.spec
-    (λ c. search needs)
-    put-time-requires
-    (λ c κs. search needs)
-    put-number-requires
-    (λ c. search needs)
-    returns
-    (λ c. search needs)
-    returns-2)
+    (tie.spec (λ c. search needs) put-time-requires (λ c κs. search needs) put-number-requires (λ c. search needs) returns
+    (λ c. search needs) returns-2)

@@ -54,27 +54,6 @@ returns-5 c =
 pub name-field-spec : {M : Type 1} → statement M
 name-field-spec =
     tie.close
-    (tie.spec
-    Inv-loop
-    μ-loop
-    returns
-    (λ c κs. omega arith)
-    (λ c. omega arith)
-    returns-2
-    loop-holds
-    (λ c. omega arith)
-    returns-3
-    (λ c. omega arith)
-    (λ c. omega arith)
-    (λ c. omega arith)
-    (λ c. omega arith)
-    loop-again
-    (λ c κs. search needs)
-    returns-4
-    (λ c. omega arith)
-    (λ c. omega arith)
-    (λ c. omega arith)
-    (λ c. omega arith)
-    (λ c. omega arith)
-    (λ c. omega arith)
-    returns-5)
+    (tie.spec Inv-loop μ-loop returns (λ c κs. omega arith) (λ c. omega arith) returns-2 loop-holds (λ c. omega arith) returns-3
+    (λ c. omega arith) (λ c. omega arith) (λ c. omega arith) (λ c. omega arith) loop-again (λ c κs. search needs) returns-4
+    (λ c. omega arith) (λ c. omega arith) (λ c. omega arith) (λ c. omega arith) (λ c. omega arith) (λ c. omega arith) returns-5)

@@ -69,21 +69,6 @@ returns-4 c =
 pub command-of-spec : {M : Type 1} → statement M
 command-of-spec =
     tie.close
-    (tie.spec
-    Inv-loop
-    μ-loop
-    (λ c κs. search needs)
-    returns
-    loop-holds
-    (λ c κs. omega arith)
-    end-of-requires
-    returns-2
-    (λ c κs. omega arith)
-    which-requires
-    end-of-requires-2
-    returns-3
-    (λ c. omega arith)
-    (λ c. omega arith)
-    loop-again
-    end-of-requires-3
-    returns-4)
+    (tie.spec Inv-loop μ-loop (λ c κs. search needs) returns loop-holds (λ c κs. omega arith) end-of-requires returns-2
+    (λ c κs. omega arith) which-requires end-of-requires-2 returns-3 (λ c. omega arith) (λ c. omega arith) loop-again
+    end-of-requires-3 returns-4)

@@ -66,7 +66,7 @@ loop-again-2 c =
 pub which-spec : {M : Type 1} → statement M
 which-spec =
     tie.close
-    (tie.spec Inv-loop μ-loop (λ c. seeking-start) (λ c. omega arith) (λ c. omega arith)
-    (λ c. search needs) (λ c. omega arith) (λ c. omega arith) loop-again
-    (λ c. omega arith) (λ c. omega arith) (λ c. omega arith) (λ c. omega arith) (λ c. omega arith) sub-to sub-is-word part-is-word-start part-is-word-end
-    (λ c κs. search needs) returns (λ c. omega arith) (λ c. omega arith) loop-again-2 (λ c. seeking-end (c .before .loop .inv) (c .loop-test .left)))
+    (tie.spec Inv-loop μ-loop (λ c. seeking-start) (λ c. omega arith) (λ c. omega arith) (λ c. search needs) (λ c. omega arith)
+    (λ c. omega arith) loop-again (λ c. omega arith) (λ c. omega arith) (λ c. omega arith) (λ c. omega arith) (λ c. omega arith)
+    sub-to sub-is-word part-is-word-start part-is-word-end (λ c κs. search needs) returns (λ c. omega arith) (λ c. omega arith)
+    loop-again-2 (λ c. seeking-end (c .before .loop .inv) (c .loop-test .left)))

@@ -50,4 +50,8 @@ returns-6 : tie.Need-returns-6
 returns-6 c = let k = c .before .before .before .before .before in λ v O C. on k v (c .before .before .before .q4 .given .1) (like v _ (by-caller v _ _ C (omega arith)) (c .called .ensures v _ O))
 
 pub decide-spec : {M : Type 1} → statement M
-decide-spec = tie.close (tie.spec (λ c. search needs) (λ c κs. search needs) (λ c. search needs) (λ c κs. search needs) (λ c. search needs) (λ c κs. search needs) asks-requires (λ c. search needs) (λ c κs. search needs) (λ c. search needs) (λ c κs. search needs) returns called-requires returns-2 returns-3 returns-4 returns-5 returns-6)
+decide-spec =
+    tie.close
+    (tie.spec (λ c. search needs) (λ c κs. search needs) (λ c. search needs) (λ c κs. search needs) (λ c. search needs)
+    (λ c κs. search needs) asks-requires (λ c. search needs) (λ c κs. search needs) (λ c. search needs) (λ c κs. search needs)
+    returns called-requires returns-2 returns-3 returns-4 returns-5 returns-6)

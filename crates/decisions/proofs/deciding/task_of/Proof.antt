@@ -12,4 +12,7 @@ returns-5 : tie.Need-returns-5
 returns-5 c = sym (ap taskOf (c .before .o2 .given .1))
 
 pub task-of-spec : {M : Type 1} → statement M
-task-of-spec = tie.close (tie.spec (λ c. search needs) (λ c. search needs) (λ c. search needs) (λ c. search needs) (λ c. search needs) (λ c. search needs) (λ c. search needs) (λ c. search needs) returns-4 returns-5)
+task-of-spec =
+    tie.close
+    (tie.spec (λ c. search needs) (λ c. search needs) (λ c. search needs) (λ c. search needs) (λ c. search needs)
+    (λ c. search needs) (λ c. search needs) (λ c. search needs) returns-4 returns-5)

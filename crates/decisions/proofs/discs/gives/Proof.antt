@@ -39,4 +39,7 @@ returns-5 c =
     stays v nm NotHolder 0 (c .stay4 .ensures) refl (gives-stray v _ _ _ _ O (passed (r .before) v O) _ (r .run-at .ensures) (c .before .if4 .left))
 
 pub gives-spec : {M : Type 1} → statement M
-gives-spec = tie.close (tie.spec (λ c κs. search needs) (λ c κs. search needs) returns (λ c κs. search needs) returns-2 (λ c κs. search needs) returns-3 (λ c κs. search needs) returns-4 (λ c κs. search needs) returns-5)
+gives-spec =
+    tie.close
+    (tie.spec (λ c κs. search needs) (λ c κs. search needs) returns (λ c κs. search needs) returns-2 (λ c κs. search needs)
+    returns-3 (λ c κs. search needs) returns-4 (λ c κs. search needs) returns-5)

@@ -40,4 +40,8 @@ returns-5 c =
     (record { number = refl; values = refl; events = refl; apt = omega (arith, takes-room _ _ _ _ (S (f .before) .pre .fit) (passed (f .before) v O .least) (f .lowest-run .ensures) (c .before .found .given .1), O .size) })
 
 pub takes-spec : {M : Type 1} → statement M
-takes-spec = tie.close (tie.spec (λ c κs. search needs) returns (λ c κs. search needs) (λ c κs. search needs) returns-2 (λ c κs. search needs) returns-3 (λ c κs. search needs) (λ c. search needs) (λ c. search needs) (λ c. search needs) (λ c κs. search needs) returns-4 returns-5)
+takes-spec =
+    tie.close
+    (tie.spec (λ c κs. search needs) returns (λ c κs. search needs) (λ c κs. search needs) returns-2 (λ c κs. search needs)
+    returns-3 (λ c κs. search needs) (λ c. search needs) (λ c. search needs) (λ c. search needs) (λ c κs. search needs) returns-4
+    returns-5)

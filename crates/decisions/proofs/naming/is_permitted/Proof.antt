@@ -15,4 +15,8 @@ returns-6 : tie.Need-returns-6
 returns-6 c = c .timer-allowed .ensures ∙ sym (ap permitted (c .before .before .task3 .given .1))
 
 pub is-permitted-spec : {M : Type 1} → statement M
-is-permitted-spec = tie.close (tie.spec (λ c. search needs) (λ c. search needs) (λ c κs. search needs) (λ c. search needs) (λ c κs. search needs) (λ c. search needs) (λ c. search needs) (λ c. search needs) (λ c κs. search needs) (λ c. search needs) returns-2 returns-3 (λ c. search needs) (λ c. search needs) returns-6)
+is-permitted-spec =
+    tie.close
+    (tie.spec (λ c. search needs) (λ c. search needs) (λ c κs. search needs) (λ c. search needs) (λ c κs. search needs)
+    (λ c. search needs) (λ c. search needs) (λ c. search needs) (λ c κs. search needs) (λ c. search needs) returns-2 returns-3
+    (λ c. search needs) (λ c. search needs) returns-6)

@@ -50,4 +50,8 @@ returns-6 : tie.Need-returns-6
 returns-6 c = let s = c .before .before .before .before in λ v nm O. on s v nm (c .before .before .task4 .given .1) (c .times .ensures v nm (O .clock))
 
 pub performs-spec : {M : Type 1} → statement M
-performs-spec = tie.close (tie.spec (λ c. search needs) shifts-requires (λ c. search needs) prices-requires (λ c. search needs) (λ c κs. search needs) (λ c. search needs) awaits-requires (λ c. search needs) (λ c κs. search needs) (λ c. search needs) times-requires returns returns-2 returns-3 returns-4 returns-5 returns-6)
+performs-spec =
+    tie.close
+    (tie.spec (λ c. search needs) shifts-requires (λ c. search needs) prices-requires (λ c. search needs) (λ c κs. search needs)
+    (λ c. search needs) awaits-requires (λ c. search needs) (λ c κs. search needs) (λ c. search needs) times-requires returns
+    returns-2 returns-3 returns-4 returns-5 returns-6)

@@ -51,4 +51,8 @@ returns-4 c =
     (c .performs .ensures v nm (record { row = ap (λ (ps : List Program). recordAt ps (k .before .p .given .0 .0)) (O .programs) ∙ ap (recordAt (f .before .before .before .args .t1)) (sym (w .wide .ensures)); tracks = O .tracks; clock = O .clock }))
 
 pub upon-spec : {M : Type 1} → statement M
-upon-spec = tie.close (tie.spec (λ c κs. search needs) (λ c κs. search needs) returns (λ c κs. search needs) (λ c. search needs) (λ c κs. search needs) (λ c. search needs) (λ c κs. search needs) (λ c. search needs) (λ c κs. search needs) sub-performs (λ c. search needs) array-copy-out-performs performs-requires returns-2 returns-3 returns-4)
+upon-spec =
+    tie.close
+    (tie.spec (λ c κs. search needs) (λ c κs. search needs) returns (λ c κs. search needs) (λ c. search needs)
+    (λ c κs. search needs) (λ c. search needs) (λ c κs. search needs) (λ c. search needs) (λ c κs. search needs) sub-performs
+    (λ c. search needs) array-copy-out-performs performs-requires returns-2 returns-3 returns-4)

@@ -23,4 +23,7 @@ returns-3 c =
     (record { number = refl; values = refl; events = refl; apt = (omega (arith, lowest-within (l .before .before .args .numbers) _ (l .lowest-free .ensures) (e .if2 .left) .0), omega (arith, lowest-within (l .before .before .args .numbers) _ (l .lowest-free .ensures) (e .if2 .left) .1, O .size)) })
 
 pub allocates-spec : {M : Type 1} → statement M
-allocates-spec = tie.close (tie.spec (λ c κs. search needs) returns (λ c κs. search needs) (λ c κs. search needs) returns-2 (λ c κs. search needs) returns-3)
+allocates-spec =
+    tie.close
+    (tie.spec (λ c κs. search needs) returns (λ c κs. search needs) (λ c κs. search needs) returns-2 (λ c κs. search needs)
+    returns-3)

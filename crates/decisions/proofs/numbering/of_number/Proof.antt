@@ -74,4 +74,9 @@ returns-7 c =
     like v nm (owned m v O) (subst (λ (q : Wanted). Decides v nm (wanted v (S n .args .c) (S n .args .r) q (n .number .result)) (c .frees .result)) (sym (c .before .enum-told2 .given .1)) (c .frees .ensures v nm (most n v O)))
 
 pub of-number-spec : {M : Type 1} → statement M
-of-number-spec = tie.close (tie.spec (λ c κs. search needs) (λ c κs. search needs) returns (λ c κs. search needs) returns-2 (λ c κs. search needs) (λ c κs. search needs) returns-3 (λ c κs. search needs) (λ c κs. search needs) returns-4 (λ c. search needs) (λ c κs. search needs) (λ c. search needs) (λ c κs. search needs) (λ c. search needs) (λ c κs. search needs) returns-5 returns-6 returns-7)
+of-number-spec =
+    tie.close
+    (tie.spec (λ c κs. search needs) (λ c κs. search needs) returns (λ c κs. search needs) returns-2 (λ c κs. search needs)
+    (λ c κs. search needs) returns-3 (λ c κs. search needs) (λ c κs. search needs) returns-4 (λ c. search needs)
+    (λ c κs. search needs) (λ c. search needs) (λ c κs. search needs) (λ c. search needs) (λ c κs. search needs) returns-5 returns-6
+    returns-7)

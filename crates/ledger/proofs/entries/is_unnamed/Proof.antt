@@ -10,10 +10,4 @@ returns c = unnamed (c .args .t1) (search needs)
 pub is-unnamed-spec : {M : Type 1} → statement M
 is-unnamed-spec =
     tie.close
-    (tie.spec
-    (λ c. search needs)
-    (λ c. search needs)
-    (λ c. search needs)
-    (λ c. search needs)
-    (λ c. search needs)
-    returns)
+    (tie.spec (λ c. search needs) (λ c. search needs) (λ c. search needs) (λ c. search needs) (λ c. search needs) returns)

@@ -49,13 +49,5 @@ returns-5 c = tells-yes (sits (c .before .before) (λ z. absurd (c .if4 .left z)
 pub number-fits-spec : {M : Type 1} → statement M
 number-fits-spec =
     tie.close
-    (tie.spec
-    (λ c κs. search needs)
-    (λ c. search needs)
-    returns
-    (λ c κs. search needs)
-    (λ c. search needs)
-    returns-2
-    returns-3
-    returns-4
-    returns-5)
+    (tie.spec (λ c κs. search needs) (λ c. search needs) returns (λ c κs. search needs) (λ c. search needs) returns-2 returns-3
+    returns-4 returns-5)

@@ -29,17 +29,6 @@ loop-again c =
 pub rest-ok-spec : {M : Type 1} → statement M
 rest-ok-spec =
     tie.close
-    (tie.spec
-    Inv-loop
-    μ-loop
-    (λ c. (omega arith, omega arith, tally-start))
-    (λ c. omega arith)
-    (λ c. omega arith)
-    (λ c κs. search needs)
-    (λ c κs. search needs)
-    (λ c. omega arith)
-    (λ c. omega arith)
-    (λ c. omega arith)
-    (λ c. omega arith)
-    loop-again
-    (λ c. tally-end 16 (c .before .loop .inv .2) (omega arith)))
+    (tie.spec Inv-loop μ-loop (λ c. (omega arith, omega arith, tally-start)) (λ c. omega arith) (λ c. omega arith)
+    (λ c κs. search needs) (λ c κs. search needs) (λ c. omega arith) (λ c. omega arith) (λ c. omega arith) (λ c. omega arith)
+    loop-again (λ c. tally-end 16 (c .before .loop .inv .2) (omega arith)))

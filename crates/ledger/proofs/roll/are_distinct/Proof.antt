@@ -51,18 +51,7 @@ returns-2 c = tells-yes (seen-end (c .before .loop .inv) (c .before .before .pre
 pub are-distinct-spec : {M : Type 1} → statement M
 are-distinct-spec =
     tie.close
-    (tie.spec
-    Inv-loop
-    μ-loop
-    loop-holds
-    (λ c. omega (arith, c .before .before .pre .most))
-    (λ c. omega (arith, c .before .before .pre .most))
-    (λ c κs. search needs)
-    (λ c. omega (arith, within c, c .before .before .before .loop .inv .long))
-    is-new-requires
-    returns
-    array-write-seen
-    (λ c. omega arith)
-    (λ c. omega arith)
-    loop-again
-    returns-2)
+    (tie.spec Inv-loop μ-loop loop-holds (λ c. omega (arith, c .before .before .pre .most))
+    (λ c. omega (arith, c .before .before .pre .most)) (λ c κs. search needs)
+    (λ c. omega (arith, within c, c .before .before .before .loop .inv .long)) is-new-requires returns array-write-seen
+    (λ c. omega arith) (λ c. omega arith) loop-again returns-2)

@@ -76,27 +76,8 @@ returns-3 c =
 pub enrolled-spec : {M : Type 1} → statement M
 enrolled-spec =
     tie.close
-    (tie.spec
-    Inv-loop
-    μ-loop
-    loop-holds
-    (λ c. omega arith)
-    (λ c. omega arith)
-    (λ c. omega arith)
-    (λ c κs. search needs)
-    returns
-    (λ c κs. search needs)
-    (λ c. omega arith)
-    (λ c. omega (arith, c .before .before .before .before .before .before .before .loop .inv .names .long))
-    (λ c κs. search needs)
-    array-write-sons
-    array-write-states
-    array-write-used
-    (λ c. omega arith)
-    (λ c. omega arith)
-    (λ c. omega arith)
-    loop-again
-    are-distinct-requires
-    returns-2
-    sons-ok-requires
-    returns-3)
+    (tie.spec Inv-loop μ-loop loop-holds (λ c. omega arith) (λ c. omega arith) (λ c. omega arith) (λ c κs. search needs) returns
+    (λ c κs. search needs) (λ c. omega arith)
+    (λ c. omega (arith, c .before .before .before .before .before .before .before .loop .inv .names .long)) (λ c κs. search needs)
+    array-write-sons array-write-states array-write-used (λ c. omega arith) (λ c. omega arith) (λ c. omega arith) loop-again
+    are-distinct-requires returns-2 sons-ok-requires returns-3)

@@ -37,18 +37,7 @@ returns-4 c = tells-yes (λ n j h. c .before .loop .inv j (omega arith))
 pub is-new-spec : {M : Type 1} → statement M
 is-new-spec =
     tie.close
-    (tie.spec
-    Inv-loop
-    μ-loop
-    returns
-    (λ c. omega (arith, c .before .pre .within))
-    (λ c. omega (arith, c .before .pre .within))
-    returns-2
-    loop-holds
-    (λ c. omega (arith, c .before .before .before .before .before .pre .within))
-    (λ c. omega (arith, c .before .before .before .before .before .pre .within))
-    returns-3
-    (λ c. omega arith)
-    (λ c. omega arith)
-    loop-again
-    returns-4)
+    (tie.spec Inv-loop μ-loop returns (λ c. omega (arith, c .before .pre .within)) (λ c. omega (arith, c .before .pre .within))
+    returns-2 loop-holds (λ c. omega (arith, c .before .before .before .before .before .pre .within))
+    (λ c. omega (arith, c .before .before .before .before .before .pre .within)) returns-3 (λ c. omega arith) (λ c. omega arith)
+    loop-again returns-4)

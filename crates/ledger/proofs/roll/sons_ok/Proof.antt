@@ -56,19 +56,8 @@ returns-3 c = tells-yes (meeting-end (c .before .loop .inv) (c .before .before .
 pub sons-ok-spec : {M : Type 1} → statement M
 sons-ok-spec =
     tie.close
-    (tie.spec
-    Inv-loop
-    μ-loop
-    loop-holds
-    (λ c. omega (arith, c .before .before .pre .ended .most))
-    (λ c. record { fits = omega (arith, (place c) .1) })
-    (λ c. omega (arith, c .if1 .taken))
-    (λ c. omega (arith, place c))
-    returns
-    (λ c. omega (arith, place (c .before .before), c .before .before .before .before .before .loop .inv .long))
-    returns-2
+    (tie.spec Inv-loop μ-loop loop-holds (λ c. omega (arith, c .before .before .pre .ended .most))
+    (λ c. record { fits = omega (arith, (place c) .1) }) (λ c. omega (arith, c .if1 .taken)) (λ c. omega (arith, place c)) returns
+    (λ c. omega (arith, place (c .before .before), c .before .before .before .before .before .loop .inv .long)) returns-2
     (λ c. omega (arith, place (c .before .before .before), c .before .before .before .before .before .before .loop .inv .long))
-    (λ c. omega arith)
-    (λ c. omega arith)
-    loop-again
-    returns-3)
+    (λ c. omega arith) (λ c. omega arith) loop-again returns-3)

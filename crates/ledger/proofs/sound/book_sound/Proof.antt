@@ -75,14 +75,5 @@ returns-4 c =
 pub book-sound-spec : {M : Type 1} → statement M
 book-sound-spec =
     tie.close
-    (tie.spec
-    (λ c κs. search needs)
-    returns
-    (λ c κs. search needs)
-    returns-2
-    (λ c κs. search needs)
-    held-soundly-requires
-    returns-3
-    (λ c. search needs)
-    numbers-ok-requires
-    returns-4)
+    (tie.spec (λ c κs. search needs) returns (λ c κs. search needs) returns-2 (λ c κs. search needs) held-soundly-requires returns-3
+    (λ c. search needs) numbers-ok-requires returns-4)

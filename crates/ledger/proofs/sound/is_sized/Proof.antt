@@ -20,9 +20,5 @@ returns-5 c = record {
 pub is-sized-spec : {M : Type 1} → statement M
 is-sized-spec =
     tie.close
-    (tie.spec
-    (λ c. tells-no (λ S. omega (arith, S .tracks .least)))
-    (λ c. tells-no (λ S. omega (arith, S .tracks .most)))
-    (λ c. tells-no (λ S. omega (arith, S .tracks .part)))
-    (λ c. tells-no (λ S. omega (arith, S .few)))
-    returns-5)
+    (tie.spec (λ c. tells-no (λ S. omega (arith, S .tracks .least))) (λ c. tells-no (λ S. omega (arith, S .tracks .most)))
+    (λ c. tells-no (λ S. omega (arith, S .tracks .part))) (λ c. tells-no (λ S. omega (arith, S .few))) returns-5)

@@ -40,19 +40,10 @@ after-6 c = let d = after-5 (c .before .before .before .before .before) in (d .0
 pub put-heading-spec : {M : Type 1} → statement M
 put-heading-spec =
     tie.close
-    (tie.spec
-    (λ c. search needs)
-    (λ c. search needs)
-    (λ c κs. todo-room (after-0 (c .before .before .before .before) .1))
-    (λ c. search needs)
-    (λ c κs. todo-room (after-1 (c .before .before .before .before) .1))
-    (λ c. search needs)
-    (λ c κs. todo-room (after-2 (c .before .before .before .before) .1))
-    (λ c. search needs)
-    (λ c κs. todo-room (after-3 (c .before .before .before .before) .1))
-    (λ c. search needs)
-    (λ c κs. todo-room (after-4 (c .before .before .before .before) .1))
-    (λ c. search needs)
-    (λ c κs. todo-room (after-5 (c .before .before .before .before) .1))
-    (λ c. todo-same (after-6 (c .before .before) .1))
+    (tie.spec (λ c. search needs) (λ c. search needs) (λ c κs. todo-room (after-0 (c .before .before .before .before) .1))
+    (λ c. search needs) (λ c κs. todo-room (after-1 (c .before .before .before .before) .1)) (λ c. search needs)
+    (λ c κs. todo-room (after-2 (c .before .before .before .before) .1)) (λ c. search needs)
+    (λ c κs. todo-room (after-3 (c .before .before .before .before) .1)) (λ c. search needs)
+    (λ c κs. todo-room (after-4 (c .before .before .before .before) .1)) (λ c. search needs)
+    (λ c κs. todo-room (after-5 (c .before .before .before .before) .1)) (λ c. todo-same (after-6 (c .before .before) .1))
     (λ c. todo-end (after-6 (c .before .before) .1)))

@@ -22,9 +22,7 @@ returns c =
 pub put-name-line-spec : {M : Type 1} → statement M
 put-name-line-spec =
     tie.close
-    (tie.spec
-    (λ c κs. let s = c .before .before .before .args in omega (arith, entry-length (s .key .now) (bare (s .name))))
+    (tie.spec (λ c κs. let s = c .before .before .before .args in omega (arith, entry-length (s .key .now) (bare (s .name))))
     (λ c κs. todo-room (opened (c .before .before .before)))
     (λ c κs. let v = c .before .before .before in todo-room (todo-step (opened (v .before .before .before .before)) (v .put-name .ensures)))
-    (λ c. search needs)
-    returns)
+    (λ c. search needs) returns)

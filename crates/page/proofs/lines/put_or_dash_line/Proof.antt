@@ -26,5 +26,4 @@ put-or-dash-line-spec =
     (λ c κs. let s = c .before .before .before .args in omega (arith, entry-length (s .key .now) (orDash (s .there) (s .n))))
     (λ c κs. todo-room (opened (c .before .before .before)))
     (λ c κs. let v = c .before .before .before in todo-room (todo-step (opened (v .before .before .before .before)) (v .put-or-dash .ensures)))
-    (λ c. search needs)
-    returns)
+    (λ c. search needs) returns)

@@ -41,15 +41,10 @@ after-6 c = let d = after-5 (c .before .before .before .before) in (d .0, todo-s
 pub put-resource-spec : {M : Type 1} → statement M
 put-resource-spec =
     tie.close
-    (tie.spec
-    (λ c. let s = c .before .before .before .args in wrote-as (number-none (s .number) (s .x) (c .if1 .taken)) wrote-none)
-    (λ c. search needs)
-    (λ c κs. omega (arith, todo-room (after-0 (c .before .before) .1)))
-    (λ c κs. todo-room (after-1 (c .before .before .before) .1))
-    (λ c κs. todo-room (after-2 (c .before .before .before) .1))
-    (λ c κs. todo-room (after-3 (c .before .before .before) .1))
-    (λ c. search needs)
+    (tie.spec (λ c. let s = c .before .before .before .args in wrote-as (number-none (s .number) (s .x) (c .if1 .taken)) wrote-none)
+    (λ c. search needs) (λ c κs. omega (arith, todo-room (after-0 (c .before .before) .1)))
+    (λ c κs. todo-room (after-1 (c .before .before .before) .1)) (λ c κs. todo-room (after-2 (c .before .before .before) .1))
+    (λ c κs. todo-room (after-3 (c .before .before .before) .1)) (λ c. search needs)
     (λ c κs. todo-room (after-4 (c .before .before .before .before .before) .1))
-    (λ c κs. todo-room (after-5 (c .before .before .before) .1))
-    (λ c. todo-same (after-6 (c .before .before) .1))
+    (λ c κs. todo-room (after-5 (c .before .before .before) .1)) (λ c. todo-same (after-6 (c .before .before) .1))
     (λ c. todo-end (after-6 (c .before .before) .1)))

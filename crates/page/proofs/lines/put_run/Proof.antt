@@ -37,14 +37,9 @@ after-5 c = let d = after-4 (c .before .before .before .before) in (d .0, todo-s
 pub put-run-spec : {M : Type 1} → statement M
 put-run-spec =
     tie.close
-    (tie.spec
-    (λ c. wrote-as (held-free (c .before .before .before .args .run) (c .if1 .taken)) wrote-none)
+    (tie.spec (λ c. wrote-as (held-free (c .before .before .before .args .run) (c .if1 .taken)) wrote-none)
     (λ c. wrote-as (held-system (c .before .before .before .before .before .args .run) (c .if2 .taken)) wrote-none)
-    (λ c. search needs)
-    (λ c κs. omega (arith, todo-room (after-0 (c .before .before) .1)))
-    (λ c κs. todo-room (after-1 (c .before .before .before) .1))
-    (λ c κs. todo-room (after-2 (c .before .before .before) .1))
-    (λ c κs. todo-room (after-3 (c .before .before .before) .1))
-    (λ c κs. todo-room (after-4 (c .before .before .before) .1))
-    (λ c. todo-same (after-5 (c .before .before) .1))
-    (λ c. todo-end (after-5 (c .before .before) .1)))
+    (λ c. search needs) (λ c κs. omega (arith, todo-room (after-0 (c .before .before) .1)))
+    (λ c κs. todo-room (after-1 (c .before .before .before) .1)) (λ c κs. todo-room (after-2 (c .before .before .before) .1))
+    (λ c κs. todo-room (after-3 (c .before .before .before) .1)) (λ c κs. todo-room (after-4 (c .before .before .before) .1))
+    (λ c. todo-same (after-5 (c .before .before) .1)) (λ c. todo-end (after-5 (c .before .before) .1)))

@@ -22,9 +22,7 @@ returns c =
 pub put-why-line-spec : {M : Type 1} → statement M
 put-why-line-spec =
     tie.close
-    (tie.spec
-    (λ c κs. let s = c .before .before .before .args in omega (arith, entry-length (s .key .now) (reason (s .why))))
+    (tie.spec (λ c κs. let s = c .before .before .before .args in omega (arith, entry-length (s .key .now) (reason (s .why))))
     (λ c κs. todo-room (opened (c .before .before .before)))
     (λ c κs. let v = c .before .before .before in todo-room (todo-step (opened (v .before .before .before .before)) (v .put-reason .ensures)))
-    (λ c. search needs)
-    returns)
+    (λ c. search needs) returns)

@@ -34,14 +34,6 @@ loop-again c =
 pub count-used-spec : {M : Type 1} → statement M
 count-used-spec =
     tie.close
-    (tie.spec
-    Inv-loop
-    μ-loop
-    (λ c. (omega arith, omega arith, omega (arith, ap length (used-all (c .args .t1)))))
-    (λ c. search needs)
-    (λ c. search needs)
-    (λ c. omega arith)
-    (λ c. omega arith)
-    (λ c. omega arith)
-    loop-again
+    (tie.spec Inv-loop μ-loop (λ c. (omega arith, omega arith, omega (arith, ap length (used-all (c .args .t1)))))
+    (λ c. search needs) (λ c. search needs) (λ c. omega arith) (λ c. omega arith) (λ c. omega arith) loop-again
     (λ c. let l = c .before in omega (arith, ap length (used-past (l .before .args .t1) (l .loop .i + 1) (omega arith)))))

@@ -50,16 +50,8 @@ loop-again c =
 pub put-chains-spec : {M : Type 1} → statement M
 put-chains-spec =
     tie.close
-    (tie.spec
-    Inv-loop
-    μ-loop
-    (λ c. let s = c .before in (omega arith, todo-start _ (chains-all (s .args .links)) (s .pre)))
-    (λ c. omega arith)
-    (λ c κs. search needs)
-    (λ c κs. search needs)
+    (tie.spec Inv-loop μ-loop (λ c. let s = c .before in (omega arith, todo-start _ (chains-all (s .args .links)) (s .pre)))
+    (λ c. omega arith) (λ c κs. search needs) (λ c κs. search needs)
     (λ c κs. let f = c .before in (f .chain-of .ensures .most, omega (arith, ap length (listed f), todo-room (here (f .before .before)))))
-    (λ c. omega arith)
-    (λ c. omega arith)
-    loop-again
-    (λ c. todo-same (c .before .loop .inv .1))
+    (λ c. omega arith) (λ c. omega arith) loop-again (λ c. todo-same (c .before .loop .inv .1))
     (λ c. let b = c .before in todo-end (todo-as (chains-past (b .before .before .args .links) (b .loop .i) (omega arith)) (b .loop .inv .1))))

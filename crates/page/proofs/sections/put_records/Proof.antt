@@ -41,17 +41,8 @@ loop-again c =
 pub put-records-spec : {M : Type 1} → statement M
 put-records-spec =
     tie.close
-    (tie.spec
-    Inv-loop
-    μ-loop
+    (tie.spec Inv-loop μ-loop
     (λ c. let s = c .before in (omega arith, omega arith, todo-start (recordsFrom (s .args .t3) 1) (records-all (s .args .t3)) (s .pre)))
-    (λ c κs. search needs)
-    (λ c. omega arith)
-    (λ c. search needs)
-    (λ c. search needs)
-    put-record-requires
-    (λ c. search needs)
-    (λ c. search needs)
-    loop-again
-    (λ c. todo-same (c .before .loop .inv .2))
+    (λ c κs. search needs) (λ c. omega arith) (λ c. search needs) (λ c. search needs) put-record-requires (λ c. search needs)
+    (λ c. search needs) loop-again (λ c. todo-same (c .before .loop .inv .2))
     (λ c. let b = c .before in todo-end (todo-as (records-past (b .before .before .args .t3) (b .loop .p) (omega arith)) (b .loop .inv .2))))

@@ -48,17 +48,7 @@ returns c =
 pub put-resources-spec : {M : Type 1} → statement M
 put-resources-spec =
     tie.close
-    (tie.spec
-    Inv-loop
-    μ-loop
-    (λ c κs. search needs)
-    loop-holds
-    (λ c. search needs)
-    (λ c. search needs)
-    (λ c. search needs)
-    (λ c κs. todo-room (here (c .before .before)))
-    (λ c. search needs)
-    (λ c. search needs)
+    (tie.spec Inv-loop μ-loop (λ c κs. search needs) loop-holds (λ c. search needs) (λ c. search needs) (λ c. search needs)
+    (λ c κs. todo-room (here (c .before .before))) (λ c. search needs) (λ c. search needs)
     (λ c. let p = c .before .before in (omega arith, todo-step (here (p .before .before .before)) (p .put-resource .ensures)))
-    (λ c. todo-same (c .before .loop .inv .1))
-    returns)
+    (λ c. todo-same (c .before .loop .inv .1)) returns)

@@ -50,15 +50,9 @@ returns c =
 pub put-runs-spec : {M : Type 1} → statement M
 put-runs-spec =
     tie.close
-    (tie.spec
-    Inv-loop
-    μ-loop
-    (λ c. search needs)
-    loop-holds
+    (tie.spec Inv-loop μ-loop (λ c. search needs) loop-holds
     (λ c κs. record { most = c .before .before .before .before .pre .0; below = omega arith })
     (λ c κs. todo-room (here (c .before)))
     (λ c. let r = c .before .before .before .before .before in omega (arith, r .run-from .ensures .high))
     (λ c. let r = c .before .before .before .before .before in omega (arith, r .run-from .ensures .low, r .run-from .ensures .high))
-    loop-again
-    (λ c. todo-same (c .before .loop .inv .2))
-    returns)
+    loop-again (λ c. todo-same (c .before .loop .inv .2)) returns)

@@ -41,11 +41,5 @@ returns-2 c =
 pub put-joined-spec : {M : Type 1} → statement M
 put-joined-spec =
     tie.close
-    (tie.spec
-    (λ c. let s = c .before .before .args in wrote-as (joined-none (s .t3) (s .len) (c .if1 .taken)) wrote-none)
-    (λ c. omega arith)
-    (λ c. search needs)
-    put-number-requires
-    put-others-requires
-    (λ c. search needs)
-    returns-2)
+    (tie.spec (λ c. let s = c .before .before .args in wrote-as (joined-none (s .t3) (s .len) (c .if1 .taken)) wrote-none)
+    (λ c. omega arith) (λ c. search needs) put-number-requires put-others-requires (λ c. search needs) returns-2)

@@ -38,15 +38,7 @@ loop-again c =
 pub put-name-spec : {M : Type 1} → statement M
 put-name-spec =
     tie.close
-    (tie.spec
-    Inv-loop
-    μ-loop
-    (λ c. (omega arith, left-start))
-    (λ c. omega arith)
-    (λ c. omega (arith, next c .end, next c .same))
-    (λ c. omega (arith, next c .end, next c .same))
-    (λ c. omega arith)
-    (λ c. omega arith)
-    loop-again
+    (tie.spec Inv-loop μ-loop (λ c. (omega arith, left-start)) (λ c. omega arith) (λ c. omega (arith, next c .end, next c .same))
+    (λ c. omega (arith, next c .end, next c .same)) (λ c. omega arith) (λ c. omega arith) loop-again
     (λ c. c .before .loop .inv .1 .same)
     (λ c. let b = c .before in left-end (b .loop .inv .1) (ap bare (drop-of-length-le (b .before .args .t3) {i = b .loop .i} (omega arith)))))

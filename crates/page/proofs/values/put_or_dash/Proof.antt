@@ -19,11 +19,7 @@ dash c = ap (λ (t : Bool). orDash t (c .before .before .args .n)) (c .if1 .left
 pub put-or-dash-spec : {M : Type 1} → statement M
 put-or-dash-spec =
     tie.close
-    (tie.spec
-    (λ c κs. omega (arith, ap length (number (c .before))))
-    (λ c. search needs)
-    (λ c. let n = c .before .before in wrote-as (number (n .before .before)) (n .put-number .ensures))
-    (λ c. search needs)
-    (λ c κs. omega (arith, ap length (dash (c .before .before))))
-    (λ c. search needs)
+    (tie.spec (λ c κs. omega (arith, ap length (number (c .before)))) (λ c. search needs)
+    (λ c. let n = c .before .before in wrote-as (number (n .before .before)) (n .put-number .ensures)) (λ c. search needs)
+    (λ c κs. omega (arith, ap length (dash (c .before .before)))) (λ c. search needs)
     (λ c. let n = c .before .before in wrote-as (dash (n .before .before .before)) (n .put-bytes .ensures)))

@@ -37,16 +37,7 @@ returns c =
 pub put-others-spec : {M : Type 1} → statement M
 put-others-spec =
     tie.close
-    (tie.spec
-    Inv-loop
-    μ-loop
-    (λ c. let s = c .before in todo-start (othersFrom (s .args .t3) (s .args .len) 1) refl (s .pre .1))
-    (λ c. search needs)
-    (λ c. omega arith)
-    (λ c. search needs)
-    (λ c κs. todo-room (here (c .before .before)))
-    (λ c. omega arith)
-    (λ c. omega arith)
-    (λ c. let p = c .before .before in todo-step (here (p .before .before .before)) (p .put-coded .ensures))
-    (λ c. todo-same (c .before .loop .inv))
-    returns)
+    (tie.spec Inv-loop μ-loop (λ c. let s = c .before in todo-start (othersFrom (s .args .t3) (s .args .len) 1) refl (s .pre .1))
+    (λ c. search needs) (λ c. omega arith) (λ c. search needs) (λ c κs. todo-room (here (c .before .before))) (λ c. omega arith)
+    (λ c. omega arith) (λ c. let p = c .before .before in todo-step (here (p .before .before .before)) (p .put-coded .ensures))
+    (λ c. todo-same (c .before .loop .inv)) returns)

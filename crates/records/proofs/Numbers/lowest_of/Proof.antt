@@ -30,14 +30,5 @@ loop-again c =
 pub lowest-of-spec : {M : Type 1} → statement M
 lowest-of-spec =
     tie.close
-    (tie.spec
-    Inv-loop
-    μ-loop
-    (λ c κs. search needs)
-    (λ c. seek-start _ _)
-    (λ c κs. search needs)
-    returns
-    (λ c. omega arith)
-    (λ c. omega arith)
-    loop-again
-    (λ c. seek-none (c .before .loop .inv) (omega arith)))
+    (tie.spec Inv-loop μ-loop (λ c κs. search needs) (λ c. seek-start _ _) (λ c κs. search needs) returns (λ c. omega arith)
+    (λ c. omega arith) loop-again (λ c. seek-none (c .before .loop .inv) (omega arith)))

@@ -47,4 +47,6 @@ returns-2 : tie.Need-returns-2
 returns-2 c = let t = c .before .before in ap told (c .refused .ensures) ∙ asked-unsound _ _ (sym (t .tested .ensures .is) ∙ c .before .if1 .left)
 
 pub ask-spec : {M : Type 1} → statement M
-ask-spec = tie.close (tie.spec (λ c κs. search needs) caller-requires decide-requires carry-requires returns (λ c κs. search needs) returns-2)
+ask-spec =
+    tie.close
+    (tie.spec (λ c κs. search needs) caller-requires decide-requires carry-requires returns (λ c κs. search needs) returns-2)

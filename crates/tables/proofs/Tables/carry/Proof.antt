@@ -124,4 +124,13 @@ returns-15 : tie.Need-returns-15
 returns-15 c = let k = c .before in c .count-of3 .ensures ∙ counts (c .before .before .before .before) Tick (k .before .enum-told2 .given .1) tt (k .ticked-on .ensures .played) (k .ticked-on .ensures .number) refl
 
 pub carry-spec : {M : Type 1} → statement M
-carry-spec = tie.close (tie.spec (λ c. search needs) (λ c. search needs) (λ c. search needs) (λ c. search needs) (λ c. search needs) (λ c κs. search needs) (λ c. search needs) loaded-requires (λ c. search needs) priced-requires (λ c. search needs) timed-requires (λ c. search needs) becomes-requires (λ c. search needs) awaited-requires (λ c. search needs) ended-requires (λ c. search needs) ended-self-requires (λ c κs. search needs) (λ c. search needs) taken-requires (λ c. search needs) given-requires (λ c. search needs) (λ c κs. search needs) (λ c. search needs) with-number-requires (λ c. search needs) released-requires (λ c κs. search needs) (λ c. search needs) ticked-on-requires (λ c κs. search needs) returns returns-2 returns-3 returns-4 returns-5 returns-6 returns-7 returns-8 returns-9 returns-10 returns-11 returns-12 returns-13 returns-14 returns-15)
+carry-spec =
+    tie.close
+    (tie.spec (λ c. search needs) (λ c. search needs) (λ c. search needs) (λ c. search needs) (λ c. search needs)
+    (λ c κs. search needs) (λ c. search needs) loaded-requires (λ c. search needs) priced-requires (λ c. search needs)
+    timed-requires (λ c. search needs) becomes-requires (λ c. search needs) awaited-requires (λ c. search needs) ended-requires
+    (λ c. search needs) ended-self-requires (λ c κs. search needs) (λ c. search needs) taken-requires (λ c. search needs)
+    given-requires (λ c. search needs) (λ c κs. search needs) (λ c. search needs) with-number-requires (λ c. search needs)
+    released-requires (λ c κs. search needs) (λ c. search needs) ticked-on-requires (λ c κs. search needs) returns returns-2
+    returns-3 returns-4 returns-5 returns-6 returns-7 returns-8 returns-9 returns-10 returns-11 returns-12 returns-13 returns-14
+    returns-15)

@@ -17,5 +17,4 @@ returns-2 : tie.Need-returns-2
 returns-2 c = dismissed-idle _ _ _ _ _ (c .before .before .if1 .left) (c .before .becomes .ensures) (c .timed .ensures)
 
 pub dismissed-spec : {M : Type 1} → statement M
-dismissed-spec =
-    tie.close (tie.spec (λ c κs. search needs) returns (λ c κs. search needs) (λ c κs. search needs) returns-2)
+dismissed-spec = tie.close (tie.spec (λ c κs. search needs) returns (λ c κs. search needs) (λ c κs. search needs) returns-2)

@@ -34,4 +34,7 @@ returns c =
     (those w .disc) (those w .general) _ _ (h .held .ensures) (c .settled .ensures)
 
 pub ended-spec : {M : Type 1} → statement M
-ended-spec = tie.close (tie.spec (λ c κs. search needs) (λ c κs. search needs) (λ c κs. search needs) (λ c κs. search needs) held-requires settled-requires returns)
+ended-spec =
+    tie.close
+    (tie.spec (λ c κs. search needs) (λ c κs. search needs) (λ c κs. search needs) (λ c κs. search needs) held-requires
+    settled-requires returns)

@@ -36,4 +36,6 @@ returns c =
     }
 
 pub ended-self-spec : {M : Type 1} → statement M
-ended-self-spec = tie.close (tie.spec (λ c κs. search needs) (λ c κs. search needs) (λ c κs. search needs) settled-requires how-many-requires returns)
+ended-self-spec =
+    tie.close
+    (tie.spec (λ c κs. search needs) (λ c κs. search needs) (λ c κs. search needs) settled-requires how-many-requires returns)

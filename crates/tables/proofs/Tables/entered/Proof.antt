@@ -24,11 +24,5 @@ returns-2 c =
 pub entered-spec : {M : Type 1} → statement M
 entered-spec =
     tie.close
-    (tie.spec
-    (λ c κs. search needs)
-    (λ c κs. search needs)
-    (λ c κs. search needs)
-    (λ c κs. search needs)
-    enter-requires
-    returns
+    (tie.spec (λ c κs. search needs) (λ c κs. search needs) (λ c κs. search needs) (λ c κs. search needs) enter-requires returns
     returns-2)

@@ -33,4 +33,6 @@ returns-2 c =
     made-refused (s .args .tracks) (s .args .system) (s .args .numbers) (c .empty2 .result) (sym (a .is-sized .ensures) ∙ c .before .if1 .left) (c .empty2 .ensures)
 
 pub fresh-spec : {M : Type 1} → statement M
-fresh-spec = tie.close (tie.spec (λ c κs. search needs) cast-empty cast-empty-2 cast-empty-3 empty-requires returns (λ c κs. search needs) returns-2)
+fresh-spec =
+    tie.close
+    (tie.spec (λ c κs. search needs) cast-empty cast-empty-2 cast-empty-3 empty-requires returns (λ c κs. search needs) returns-2)

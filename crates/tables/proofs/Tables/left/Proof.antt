@@ -24,11 +24,5 @@ returns-2 c =
 pub left-spec : {M : Type 1} → statement M
 left-spec =
     tie.close
-    (tie.spec
-    (λ c κs. search needs)
-    (λ c κs. search needs)
-    (λ c κs. search needs)
-    (λ c κs. search needs)
-    leave-requires
-    returns
+    (tie.spec (λ c κs. search needs) (λ c κs. search needs) (λ c κs. search needs) (λ c κs. search needs) leave-requires returns
     returns-2)

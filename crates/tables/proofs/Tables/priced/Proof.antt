@@ -28,11 +28,5 @@ returns c =
 pub priced-spec : {M : Type 1} → statement M
 priced-spec =
     tie.close
-    (tie.spec
-    (λ c κs. search needs)
-    (λ c κs. search needs)
-    (λ c κs. search needs)
-    (λ c κs. search needs)
-    amended-requires
-    entered-requires
-    returns)
+    (tie.spec (λ c κs. search needs) (λ c κs. search needs) (λ c κs. search needs) (λ c κs. search needs) amended-requires
+    entered-requires returns)

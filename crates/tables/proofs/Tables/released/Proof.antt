@@ -43,4 +43,6 @@ returns c =
     }
 
 pub released-spec : {M : Type 1} → statement M
-released-spec = tie.close (tie.spec (λ c κs. search needs) (λ c κs. search needs) (λ c κs. search needs) roused-requires how-many-requires returns)
+released-spec =
+    tie.close
+    (tie.spec (λ c κs. search needs) (λ c κs. search needs) (λ c κs. search needs) roused-requires how-many-requires returns)

@@ -94,4 +94,6 @@ returns c =
 pub ticked-on-spec : {M : Type 1} → statement M
 ticked-on-spec =
     tie.close
-    (tie.spec Inv-loop μ-loop (λ c. omega arith) (λ c κs. search needs) loop-holds (λ c κs. search needs) sub-r (λ c. search needs) array-copy-out-r add-p loop-less loop-again (λ c κs. search needs) add-n ticked-requires add-p-2 loop-less-2 loop-again-2 returns)
+    (tie.spec Inv-loop μ-loop (λ c. omega arith) (λ c κs. search needs) loop-holds (λ c κs. search needs) sub-r (λ c. search needs)
+    array-copy-out-r add-p loop-less loop-again (λ c κs. search needs) add-n ticked-requires add-p-2 loop-less-2 loop-again-2
+    returns)

@@ -46,13 +46,4 @@ returns c =
 pub wake-spec : {M : Type 1} → statement M
 wake-spec =
     tie.close
-    (tie.spec
-    Inv-loop
-    μ-loop
-    loop-holds
-    element-copy-out-p
-    becomes-requires
-    add-i
-    (λ c. omega arith)
-    loop-again
-    returns)
+    (tie.spec Inv-loop μ-loop loop-holds element-copy-out-p becomes-requires add-i (λ c. omega arith) loop-again returns)

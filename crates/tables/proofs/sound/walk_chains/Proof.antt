@@ -101,33 +101,7 @@ returns-5 c = sofar-end (c .before .loop .inv .1) (c .loop-test .left)
 pub walk-chains-spec : {M : Type 1} → statement M
 walk-chains-spec =
     tie.close
-    (tie.spec
-    Inv-loop2
-    μ-loop2
-    Inv-loop
-    μ-loop
-    loop-holds
-    (λ c κs. search needs)
-    (λ c. omega arith)
-    (λ c κs. search needs)
-    loop2-holds
-    returns
-    (λ c. omega arith)
-    array-read-if2
-    returns-2
-    (λ c. omega arith)
-    (λ c. omega arith)
-    (λ c. omega arith)
-    returns-3
-    returns-4
-    (λ c. omega arith)
-    array-write-met
-    (λ c. omega arith)
-    (λ c. omega arith)
-    (λ c κs. search needs)
-    loop2-less
-    loop2-again
-    (λ c. omega arith)
-    (λ c. omega arith)
-    loop-again
-    returns-5)
+    (tie.spec Inv-loop2 μ-loop2 Inv-loop μ-loop loop-holds (λ c κs. search needs) (λ c. omega arith) (λ c κs. search needs)
+    loop2-holds returns (λ c. omega arith) array-read-if2 returns-2 (λ c. omega arith) (λ c. omega arith) (λ c. omega arith)
+    returns-3 returns-4 (λ c. omega arith) array-write-met (λ c. omega arith) (λ c. omega arith) (λ c κs. search needs) loop2-less
+    loop2-again (λ c. omega arith) (λ c. omega arith) loop-again returns-5)

@@ -31,12 +31,5 @@ returns-3 c =
 pub held-soundly-spec : {M : Type 1} → statement M
 held-soundly-spec =
     tie.close
-    (tie.spec
-    (λ c. search needs)
-    (λ c. search needs)
-    (λ c κs. omega arith)
-    returns
-    (λ c κs. search needs)
-    returns-2
-    (λ c κs. omega arith)
-    returns-3)
+    (tie.spec (λ c. search needs) (λ c. search needs) (λ c κs. omega arith) returns (λ c κs. search needs) returns-2
+    (λ c κs. omega arith) returns-3)

@@ -64,21 +64,6 @@ returns-4 c =
 pub lowest-run-spec : {M : Type 1} → statement M
 lowest-run-spec =
     tie.close
-    (tie.spec
-    Inv-loop
-    μ-loop
-    (λ c κs. search needs)
-    returns
-    returns-2
-    loop-holds
-    (λ c. omega arith)
-    (λ c. search needs)
-    (λ c. search needs)
-    (λ c. search needs)
-    loop-again
-    (λ c. search needs)
-    (λ c. search needs)
-    returns-3
-    (λ c. search needs)
-    loop-again-2
-    returns-4)
+    (tie.spec Inv-loop μ-loop (λ c κs. search needs) returns returns-2 loop-holds (λ c. omega arith) (λ c. search needs)
+    (λ c. search needs) (λ c. search needs) loop-again (λ c. search needs) (λ c. search needs) returns-3 (λ c. search needs)
+    loop-again-2 returns-4)

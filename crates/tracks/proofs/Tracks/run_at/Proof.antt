@@ -56,16 +56,5 @@ returns-3 c =
 pub run-at-spec : {M : Type 1} → statement M
 run-at-spec =
     tie.close
-    (tie.spec
-    Inv-loop
-    μ-loop
-    (λ c κs. search needs)
-    loop-holds
-    returns
-    (λ c. omega arith)
-    returns-2
-    (λ c. search needs)
-    (λ c. search needs)
-    (λ c. search needs)
-    loop-again
-    returns-3)
+    (tie.spec Inv-loop μ-loop (λ c κs. search needs) loop-holds returns (λ c. omega arith) returns-2 (λ c. search needs)
+    (λ c. search needs) (λ c. search needs) loop-again returns-3)

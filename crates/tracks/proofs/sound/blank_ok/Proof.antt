@@ -31,13 +31,5 @@ returns c = tally-end 256 (c .before .loop .inv .1) (omega arith)
 pub blank-ok-spec : {M : Type 1} → statement M
 blank-ok-spec =
     tie.close
-    (tie.spec
-    Inv-loop
-    μ-loop
-    loop-holds
-    (λ c. omega arith)
-    (λ c κs. search needs)
-    (λ c. omega arith)
-    (λ c. omega arith)
-    loop-again
+    (tie.spec Inv-loop μ-loop loop-holds (λ c. omega arith) (λ c κs. search needs) (λ c. omega arith) (λ c. omega arith) loop-again
     returns)

@@ -29,13 +29,4 @@ returns-2 c = tells-yes (λ k h. c .before .loop .inv k (omega arith))
 pub own-ok-spec : {M : Type 1} → statement M
 own-ok-spec =
     tie.close
-    (tie.spec
-    Inv-loop
-    μ-loop
-    loop-holds
-    (λ c. omega arith)
-    returns
-    (λ c. omega arith)
-    (λ c. omega arith)
-    loop-again
-    returns-2)
+    (tie.spec Inv-loop μ-loop loop-holds (λ c. omega arith) returns (λ c. omega arith) (λ c. omega arith) loop-again returns-2)
