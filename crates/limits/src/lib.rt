@@ -1,0 +1,33 @@
+// The outline's figures, once for all crates: the states of a program, and how much there may be of each thing. The definitions have theirs in specs/Limits.antt.
+
+// The states that a program may be in.
+pub const DORMANT: u8 = 0;
+
+pub const SCHEDULED: u8 = 1;
+
+pub const GENERAL: u8 = 3;
+
+pub const DISC: u8 = 5;
+
+pub const SUSPENDED: u8 = 6;
+
+// Each state is below this.
+pub const STATES: usize = 7;
+
+// The records, the tracks and the resource numbers, at most.
+pub const MOST_PROGRAMS: usize = 32;
+
+pub const MOST_TRACKS: usize = 256;
+
+pub const MOST_NUMBERS: usize = 16;
+
+// The last number that a priority may have.
+pub const LAST_PRIORITY: u16 = 32767;
+
+// The units of a timer's multiple and of its offset, at most.
+pub const MOST_UNITS: u64 = 4095;
+
+// The bytes of a line, at most; and the bytes that no page passes.
+pub const LONGEST_LINE: usize = 72;
+
+pub const PAGE_ROOM: usize = 8192;
