@@ -13,7 +13,7 @@ use Rattle.rules.specs.Book.{stateOf, withHolders}
 use Rattle.rules.specs.Requests.{OF, EXEC5, EXEC16, EXEC5ALL, EXEC6, CLEAR, FREE, Call, Request, operator, TICK, running}
 use Rattle.rules.specs.Plans.{Plan, refused, done, waiting, on, becomes, held, numberOf, valuesOf, eventsOf}
 use Rattle.rules.specs.Rules.{head, call}
-use Rattle.rules.specs.Keeper.{Keeper, lists, entries, sorted, State, view, scheduled, asks, after}
+use Rattle.rules.specs.Keeper.{Keeper, lists, entries, sorted, State, view, scheduledChain, asks, after}
 use Rattle.rules.specs.Claims.{NoRun, Gained}
 use Rattle.rules.specs.Counts.{Freed, awoken, roused}
 use Rattle.rules.specs.Replay.{Fits, Accounts, First}
@@ -37,7 +37,7 @@ pub record Claims (xs : List ℕ) (c h n w : ℕ) (x : Plan) : Type 0 where
 
 -- A request q for n tracks for holder h, in the state t of a keeper K: what it comes to, and that the run is h's after it, all else being as it was.
 pub record Claimed (K : Keeper) (t : State K) (h n w : ℕ) (q : Request) : Type 0 where
-  pub answer : Claims (t .book .holders) (head (scheduled K t)) h n w (asks K t q)
+  pub answer : Claims (t .book .holders) (head (scheduledChain K t)) h n w (asks K t q)
   pub tracks : (i : ℕ) → LowestRun (t .book .holders) i n → Gained (t .book) (after K t q .book) h i n
   pub rest : (i : ℕ) → LowestRun (t .book .holders) i n → after K t q ≡ record { book = withHolders (after K t q .book .holders) (t .book); kept = t .kept }
   pub same : NoRun (t .book .holders) n → w ≡ 1 → after K t q ≡ t

@@ -112,8 +112,8 @@ module _ (K : Keeper) where
   abbrev pub view : State → View
   view t = record { book = t .book; chain = λ s. cond (upTo 1 6 s) (K .order (t .book) (t .kept) s) [] }
 
-  abbrev pub scheduled : State → List ℕ
-  scheduled t = K .order (t .book) (t .kept) 1
+  abbrev pub scheduledChain : State → List ℕ
+  scheduledChain t = K .order (t .book) (t .kept) 1
 
   -- a request: what it comes to, and the state after it
   abbrev pub asks : State → Request → Plan

@@ -8,7 +8,7 @@ use mathlib.Core.List.{List, [], _∷_}
 use lib.ListN.{getD}
 use Rattle.records.specs.Records.{Known}
 use Rattle.rules.specs.Rules.{head}
-use Rattle.rules.specs.Keeper.{lists, scheduled}
+use Rattle.rules.specs.Keeper.{lists, scheduledChain}
 use Rattle.chains.specs.Links.{read, Leads}
 use Rattle.tables.specs.declared.Tables.{Tables}
 use Rattle.tables.specs.Tables.{plain, Arrays, callerOf}
@@ -38,7 +38,7 @@ head-known [] P f h = absurd (omega arith)
 head-known (q ∷ qs) P f h = f q (omega (arith, Rattle.lists.proofs.Laws.same-refl q))
 
 pub caller-known : (t : Tables) → Ready t → 1 ≤ callerOf t → Known (callerOf t)
-caller-known t R = head-known (scheduled lists (plain t)) Known (R .orderly .accounts .fits 1 (omega arith) (omega arith) .within)
+caller-known t R = head-known (scheduledChain lists (plain t)) Known (R .orderly .accounts .fits 1 (omega arith) (omega arith) .within)
 
 -- the clock of ready tables
 pub clock-most : (t : Tables) → Ready t → t .ledger .clock .ticks ≤ 1000000000000

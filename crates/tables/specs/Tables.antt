@@ -4,7 +4,7 @@ use Prim.Native.Nat.{ℕ}
 use mathlib.Core.Path.{_≡_}
 use lib.ListN.{length}
 use Rattle.rules.specs.Rules.{head}
-use Rattle.rules.specs.Keeper.{lists, State, scheduled, fresh}
+use Rattle.rules.specs.Keeper.{lists, State, scheduledChain, fresh}
 use Rattle.chains.specs.Links.{read, linksOf}
 use Rattle.ledger.specs.Ledger.{bookOf, ledgerOf}
 use Rattle.tables.specs.declared.Tables.{Tables}
@@ -24,7 +24,7 @@ smallest = freshly 1 0 0
 
 -- the caller: the head of the scheduled chain, or 0
 abbrev pub callerOf : Tables → ℕ
-callerOf t = head (scheduled lists (plain t))
+callerOf t = head (scheduledChain lists (plain t))
 
 -- the arrays of tables are as long as the code's types say: theorems about any tables ask this where a list could be longer or shorter
 pub record Arrays (t : Tables) : Type 0 where

@@ -13,7 +13,7 @@ use Rattle.tracks.proofs.Runs.{lowest-found, lowest-none, lowest-is, lowest-no,
 use Rattle.rules.specs.Requests.{Call, EXEC4, EXEC15, Request, running}
 use Rattle.rules.specs.Plans.{held, Plan, done, numberOf, valuesOf, eventsOf, View, need, found}
 use Rattle.rules.specs.Rules.{waits, takes, head, asCaller, call, plan}
-use Rattle.rules.specs.Keeper.{Keeper, State, step, play, view, scheduled, asks}
+use Rattle.rules.specs.Keeper.{Keeper, State, step, play, view, scheduledChain, asks}
 use Rattle.rules.specs.Claims.{NoRun}
 use Rattle.rules.proofs.shared.Paths.{waits-so, waits-told}
 use Rattle.rules.proofs.Statements.{Claims, Claimed}
@@ -75,9 +75,9 @@ module _ (v : View) (c h n w : ℕ) (low : 1 ≤ n) (high : n ≤ v .book .track
       if-told (some i) e k = absurd (omega (arith, ap numberOf (takes-some i e)))
       if-told none e k = (one (λ z. omega (arith, wait e z)), lowest-none n xs low e)
 
-module _ (K : Keeper) (t : State K) (n w : ℕ) (some : 1 ≤ head (scheduled K t)) (low : 1 ≤ n) (high : n ≤ t .book .tracks) (bit : w ≤ 1) where
+module _ (K : Keeper) (t : State K) (n w : ℕ) (some : 1 ≤ head (scheduledChain K t)) (low : 1 ≤ n) (high : n ≤ t .book .tracks) (bit : w ≤ 1) where
   -- whoever takes tracks
-  takes-claimed : (h : ℕ) (q : Request) → asks K t q ≡ takes (view K t) (head (scheduled K t)) h n w → Claimed K t h n w q
+  takes-claimed : (h : ℕ) (q : Request) → asks K t q ≡ takes (view K t) (head (scheduledChain K t)) h n w → Claimed K t h n w q
   unfolding step
   takes-claimed h q e = record {
     answer = C;
@@ -93,8 +93,8 @@ module _ (K : Keeper) (t : State K) (n w : ℕ) (some : 1 ≤ head (scheduled K 
       xs : List ℕ
       xs = t .book .holders
 
-      C : Claims (t .book .holders) (head (scheduled K t)) h n w (asks K t q)
-      C = rw e (takes-claims (view K t) (head (scheduled K t)) h n w low high bit)
+      C : Claims (t .book .holders) (head (scheduledChain K t)) h n w (asks K t q)
+      C = rw e (takes-claims (view K t) (head (scheduledChain K t)) h n w low high bit)
 
       here : (i : ℕ) → LowestRun (t .book .holders) i n → asks K t q ≡ done (i ∷ []) (held (filled i n h (t .book .holders)) ∷ [])
       here i r = C .granted i r
@@ -102,14 +102,14 @@ module _ (K : Keeper) (t : State K) (n w : ℕ) (some : 1 ≤ head (scheduled K 
       shift : (i k : ℕ) → i ≤ k → k ≡ i + (k - i)
       shift i k l = omega arith
 
-  as-called : (d : Call) → asks K t (running d) ≡ call (view K t) (head (scheduled K t)) d
+  as-called : (d : Call) → asks K t (running d) ≡ call (view K t) (head (scheduledChain K t)) d
   unfolding plan asCaller need
-  as-called d = rw (lt-ltb 0 (head (scheduled K t)) some)
+  as-called d = rw (lt-ltb 0 (head (scheduledChain K t)) some)
 
   -- THE SENTENCE, of both requests
-  pub exec4-claims : Claimed K t (head (scheduled K t)) n w (running (EXEC4 n w))
+  pub exec4-claims : Claimed K t (head (scheduledChain K t)) n w (running (EXEC4 n w))
   unfolding call
-  exec4-claims = takes-claimed (head (scheduled K t)) (running (EXEC4 n w)) (as-called (EXEC4 n w))
+  exec4-claims = takes-claimed (head (scheduledChain K t)) (running (EXEC4 n w)) (as-called (EXEC4 n w))
 
   pub exec15-claims : Claimed K t everybody n w (running (EXEC15 n w))
   unfolding call

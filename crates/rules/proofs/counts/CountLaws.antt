@@ -22,7 +22,7 @@ use Rattle.rules.specs.Book.{Book, at, stateOf, whyOf}
 use Rattle.rules.specs.Requests.{EXEC6, CLEAR, FREE, TICK, running}
 use Rattle.rules.specs.Plans.{becomes, Event, on, clocked, numbered, Plan, releasing, View, valuesOf, eventsOf, Release, awaits, woken, wake}
 use Rattle.rules.specs.Rules.{clears, endsIn, ends, dueAt, ticked, call, head, plan}
-use Rattle.rules.specs.Keeper.{lists, State, step, play, view, scheduled, asks}
+use Rattle.rules.specs.Keeper.{lists, State, step, play, view, scheduledChain, asks}
 use Rattle.rules.specs.Sound.{Sound}
 use Rattle.rules.specs.Counts.{awoken, roused}
 use Rattle.rules.proofs.shared.Places.{known-or, none-other, all-one, all-once, all-in}
@@ -133,8 +133,8 @@ module _ (a : State lists) (S : Sound a) where
   ending-wakes : IfDone Wakes (asks lists a (running EXEC6))
   unfolding plan call endsIn
   ending-wakes = by-caller not-done _ _ (λ h.
-      let c = head (scheduled lists a) in
-      let C = S .chains .within 1 c (omega arith) (omega arith) (head-in (scheduled lists a) h) in
+      let c = head (scheduledChain lists a) in
+      let C = S .chains .within 1 c (omega arith) (omega arith) (head-in (scheduledChain lists a) h) in
       record {
         so = λ z. ap (λ (n : ℕ). n ∷ [])
             (woken-awoken (ends v c 0) refl (step lists (on c (becomes 0 Nothing)) a) (settle v c (ends v c 0))

@@ -16,7 +16,7 @@ use Rattle.tracks.proofs.Runs.{run-true, count-freed, count-replaced}
 use Rattle.rules.specs.Requests.{OF, EXEC5, EXEC16, EXEC5ALL, operator, running}
 use Rattle.rules.specs.Plans.{Event, on, clocked, held, numbered, renewed, Plan, valuesOf, eventsOf, woken, wake}
 use Rattle.rules.specs.Rules.{frees, ends, dismissed, order, gives, call, head, plan}
-use Rattle.rules.specs.Keeper.{Keeper, State, act, step, play, view, scheduled, asks}
+use Rattle.rules.specs.Keeper.{Keeper, State, act, step, play, view, scheduledChain, asks}
 use Rattle.rules.specs.Counts.{freeTracks, Freed}
 use Rattle.lists.proofs.Tests.{both}
 use Rattle.rules.proofs.shared.Deeds.{act-put}
@@ -87,7 +87,7 @@ module _ (K : Keeper) where
 
     pub own-frees : (n s : ℕ) → IfDone Frees (asks K t (running (EXEC5 n s)))
     unfolding plan call
-    own-frees n s = by-caller not-done _ _ (λ h. gives-frees (head (scheduled K t)) n s (λ e. omega arith))
+    own-frees n s = by-caller not-done _ _ (λ h. gives-frees (head (scheduledChain K t)) n s (λ e. omega arith))
 
     pub global-frees : (n s : ℕ) → IfDone Frees (asks K t (running (EXEC16 n s)))
     unfolding plan call
@@ -96,7 +96,7 @@ module _ (K : Keeper) where
     pub each-frees : IfDone Frees (asks K t (running EXEC5ALL))
     unfolding plan call
     each-frees = by-caller not-done _ _ (λ h.
-        let c = head (scheduled K t) in
+        let c = head (scheduledChain K t) in
         let n = count c (t .book .holders) in
         record {
           so = λ z.

@@ -12,7 +12,7 @@ use Rattle.records.specs.Records.{Known}
 use Rattle.rules.specs.Book.{Book, stateOf}
 use Rattle.rules.specs.Requests.{Call, Request}
 use Rattle.rules.specs.Rules.{call, head, plan}
-use Rattle.rules.specs.Keeper.{lists, Entries, entries, sorted, State, view, scheduled, fresh}
+use Rattle.rules.specs.Keeper.{lists, Entries, entries, sorted, State, view, scheduledChain, fresh}
 use Rattle.rules.specs.Sound.{Sound}
 use Rattle.rules.specs.Replay.{Fits, Accounts, First}
 use Rattle.rules.proofs.shared.Paths.{caller-none, caller-is}
@@ -36,9 +36,9 @@ none-there b en s F z Z e = omega (arith, F .member z Z, ap (λ (x : ℕ). same 
 
 alike-acts : (a : State lists) (t : State entries) → Alike a t → (c : Call) → Acts a (t .kept .entry) c
 unfolding plan
-alike-acts a t A c = go (scheduled lists a) refl (A .fits 1 (omega arith) (omega arith))
+alike-acts a t A c = go (scheduledChain lists a) refl (A .fits 1 (omega arith) (omega arith))
   where
-    go : (l : List ℕ) → scheduled lists a ≡ l → Fits (a .book) (t .kept .entry) 1 l → Acts a (t .kept .entry) c
+    go : (l : List ℕ) → scheduledChain lists a ≡ l → Fits (a .book) (t .kept .entry) 1 l → Acts a (t .kept .entry) c
     go [] e F = for-none (none-there (a .book) (t .kept .entry) 1 F) (caller-none (view lists a) (λ p. call (view lists a) p c) (ap head e))
     go (p ∷ ps) e F =
         let f : First (a .book) (t .kept .entry) 1 p = head-first (a .book) (t .kept .entry) 1 p ps F in

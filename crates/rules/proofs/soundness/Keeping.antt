@@ -13,7 +13,7 @@ use Rattle.records.specs.Records.{Known, find}
 use Rattle.rules.specs.Book.{at, stateOf}
 use Rattle.rules.specs.Plans.{becomes, on, held, numbered, Plan, waiting, eventsOf, Release, woken, wake}
 use Rattle.rules.specs.Rules.{named, waits, head, asCaller}
-use Rattle.rules.specs.Keeper.{lists, State, step, play, view, scheduled}
+use Rattle.rules.specs.Keeper.{lists, State, step, play, view, scheduledChain}
 use Rattle.rules.specs.Sound.{Sound}
 use Rattle.rules.proofs.shared.Finding.{find-bears, head-in}
 use Rattle.rules.proofs.shared.Walk.{Refuses, by-named, by-caller, by-waits}
@@ -56,8 +56,8 @@ module _ (a : State lists) (S : Sound a) where
 
   pub keeps-caller : (f : ℕ → Plan) → ((p : ℕ) → Caller a p → Keeps a (f p)) → Keeps a (asCaller (view lists a) f)
   keeps-caller f g = by-caller refusing (view lists a) f λ h.
-      let p : ℕ = head (scheduled lists a) in
-      let C = chained (strict a) a before 1 (omega arith) (omega arith) p (head-in (scheduled lists a) h) in
+      let p : ℕ = head (scheduledChain lists a) in
+      let C = chained (strict a) a before 1 (omega arith) (omega arith) p (head-in (scheduledChain lists a) h) in
       g p (record { known = C .0 .0; used = C .0 .1; runs = C .1 })
 
   -- a used program takes a state for a reason that is no son
