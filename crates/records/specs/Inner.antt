@@ -2,12 +2,13 @@
 -- Assumes nothing.
 use Prim.Native.Nat.{ℕ, _≤_}
 use mathlib.Core.Path.{_≡_}
+use Rattle.limits.specs.Limits.{mostNumbers}
 use Rattle.records.specs.declared.Numbers.{Numbers}
 use Rattle.records.specs.Numbers.{resources, tableOf}
 
 -- a table of numbers as it is made: 16 at most, blank behind
 pub record Fit (t : Numbers) : Type 0 where
-  pub most : t .count ≤ 16
+  pub most : t .count ≤ mostNumbers
   pub formed : t ≡ tableOf (t .count) (resources t)
 
 -- and r is one of its numbers

@@ -5,6 +5,7 @@ use mathlib.Core.Bool.{Bool, cond, _||_}
 use mathlib.Core.List.{List, _++_}
 use lib.ListN.{getD, set, take, replicate}
 use lib.Dec.{eqb}
+use Rattle.limits.specs.Limits.{mostNumbers}
 use Rattle.records.specs.declared.Resource.{Resource}
 use Rattle.records.specs.declared.Numbers.{Numbers}
 
@@ -20,7 +21,7 @@ abbrev pub resources : Numbers → List Resource
 resources t = take (t .count) (t .resources)
 
 abbrev pub tableOf : ℕ → List Resource → Numbers
-tableOf R xs = record { count = R; resources = xs ++ replicate (16 - R) free }
+tableOf R xs = record { count = R; resources = xs ++ replicate (mostNumbers - R) free }
 
 -- number r, and the table with another in its place
 abbrev pub numberAt : List Resource → ℕ → Resource

@@ -4,6 +4,7 @@ use Prim.Native.Nat.{ℕ, _-_, _≤_}
 use mathlib.Core.Bool.{Bool, true, false, not, _&&_}
 use mathlib.Core.List.{List, []}
 use lib.ListN.{getD, replicate}
+use Rattle.limits.specs.Limits.{dormant, mostPrograms}
 use Rattle.lists.specs.Lists.{from, first, alike, upTo}
 use Rattle.records.specs.declared.Program.{Program}
 use Rattle.records.specs.declared.Why.{Why}
@@ -11,13 +12,13 @@ use Rattle.records.specs.declared.Why.the-variants.{Nothing}
 
 -- the programs' numbers
 abbrev pub Known : ℕ → Type 0
-Known p = (1 ≤ p) × (p ≤ 32)
+Known p = (1 ≤ p) × (p ≤ mostPrograms)
 
 abbrev pub known : ℕ → Bool
-known p = upTo 1 32 p
+known p = upTo 1 mostPrograms p
 
 unfoldable pub all : List ℕ
-all = from 1 32
+all = from 1 mostPrograms
 
 -- what an index past the records gives: no rule asks for it
 abbrev pub missing : Program
@@ -29,7 +30,7 @@ unused = record { used = false; name = replicate 5 0; priority = 0; state = 0; w
 
 -- a program just loaded: dormant, without a why or a timer
 abbrev pub newcomer : List ℕ → ℕ → Program
-newcomer nm n = record { used = true; name = nm; priority = n; state = 0; why = Nothing; due = 0; interval = 0 }
+newcomer nm n = record { used = true; name = nm; priority = n; state = dormant; why = Nothing; due = 0; interval = 0 }
 
 -- a record with another state and why, another priority, another timer
 abbrev pub inState : ℕ → Why → Program → Program

@@ -2,14 +2,18 @@
 ghost use mathlib.Core.Path.{_≡_};
 ghost use mathlib.Core.Bool.{_&&_, _||_};
 ghost use mathlib.Core.List.{map};
-ghost use Prim.Native.Nat.{_-_, _≤_};
+ghost use Prim.Native.Nat.{_≤_};
 ghost use lib.Dec.{eqb};
 ghost use lib.ListN.{drop, replicate};
+ghost use Rattle.limits.specs.Limits.{mostNumbers};
 ghost use Rattle.lists.specs.Lists.{alike, any, every, first, from};
 ghost use Rattle.records.specs.Names.{letter, digit, blank, legal};
 ghost use Rattle.records.specs.Records.{unused, newcomer, inState, withPriority, withTimer, find, lowestUnused};
 ghost use Rattle.records.specs.Numbers.{free, resources, tableOf, numberAt, withNumber, concerns, without};
 ghost use Rattle.records.specs.Inner.{Fit, Within};
+use limits::DORMANT;
+use limits::MOST_NUMBERS;
+use limits::MOST_PROGRAMS;
 
 // Why a program waits: for tracks, how many; for its son, or for a lock, which; or for any number.
 pub enum Why {
@@ -40,23 +44,7 @@ pub struct Resource {
 // The table of resource numbers 1 to `count`; number r stands at r - 1.
 pub struct Numbers {
     pub count: u8,
-    pub resources: [Resource; 16],
-}
-
-fn wide(x: u8) -> usize
-    ensures { λ r. ⌜ r ≡ x ⌝ }
-{
-    x as usize
-}
-
-// Where what is numbered from 1 stands; 0 is taken for 1.
-fn place(n: usize) -> usize
-    ensures { λ r. ⌜ r ≡ n - 1 ⌝ }
-{
-    if n == 0 {
-        return 0;
-    }
-    n - 1
+    pub resources: [Resource; MOST_NUMBERS],
 }
 
 fn is_letter(c: u8) -> bool
@@ -90,12 +78,10 @@ fn is_letter_or_digit(c: u8) -> bool
 fn is_blank_from(name: [u8; 5], start: usize) -> bool
     ensures { λ r. ⌜ r ≡ every blank (drop start name) ⌝ }
 {
-    let mut i = start;
-    while i < 5 {
+    for i in start..5 {
         if name[i] != 32 {
             return false;
         }
-        i += 1;
     }
     true
 }
@@ -107,12 +93,10 @@ pub fn is_legal(name: [u8; 5]) -> bool
     if !is_letter(name[0]) {
         return false;
     }
-    let mut i: usize = 1;
-    while i < 5 {
+    for i in 1..5 {
         if !is_letter_or_digit(name[i]) {
             return is_blank_from(name, i);
         }
-        i += 1;
     }
     true
 }
@@ -120,44 +104,36 @@ pub fn is_legal(name: [u8; 5]) -> bool
 pub fn same_name(a: [u8; 5], b: [u8; 5]) -> bool
     ensures { λ r. ⌜ r ≡ alike a b ⌝ }
 {
-    let mut i: usize = 0;
-    while i < 5 {
+    for i in 0..5 {
         if a[i] != b[i] {
             return false;
         }
-        i += 1;
     }
     true
 }
 
 // The number of the program of that name, or 0.
-pub fn find_program(programs: [Program; 32], name: [u8; 5]) -> u8
+pub fn find_program(programs: [Program; MOST_PROGRAMS], name: [u8; 5]) -> u8
     ensures { λ r. ⌜ r ≡ find programs name ⌝ }
 {
-    let mut p: u8 = 1;
-    while p <= 32 {
-        let i = place(wide(p));
-        let r = programs[i];
+    for p in 1..=MOST_PROGRAMS {
+        let r = programs[p - 1];
         if r.is_named(name) {
-            return p;
+            return p as u8;
         }
-        p += 1;
     }
     0
 }
 
 // The lowest number that no program has, or 0.
-pub fn lowest_unused(programs: [Program; 32]) -> u8
+pub fn lowest_unused(programs: [Program; MOST_PROGRAMS]) -> u8
     ensures { λ r. ⌜ r ≡ lowestUnused programs ⌝ }
 {
-    let mut p: u8 = 1;
-    while p <= 32 {
-        let i = place(wide(p));
-        let r = programs[i];
+    for p in 1..=MOST_PROGRAMS {
+        let r = programs[p - 1];
         if !r.used {
-            return p;
+            return p as u8;
         }
-        p += 1;
     }
     0
 }
@@ -184,7 +160,7 @@ pub fn newcomer(name: [u8; 5], priority: u16) -> Program
         used: true,
         name,
         priority,
-        state: 0,
+        state: DORMANT,
         why: Why::Nothing,
         due: 0,
         interval: 0,
@@ -271,11 +247,11 @@ impl Numbers {
 
     // `count` free numbers.
     pub fn fresh(count: u8) -> Numbers
-        requires { ⌜ count ≤ 16 ⌝ }
+        requires { ⌜ count ≤ mostNumbers ⌝ }
         ensures { λ r. ⌜ r ≡ tableOf count (replicate count free) ⌝ }
     {
         let free = Resource::free();
-        let resources = [free; 16];
+        let resources = [free; MOST_NUMBERS];
         Numbers { count, resources }
     }
 
@@ -283,8 +259,7 @@ impl Numbers {
         requires { ⌜ Within self r ⌝ }
         ensures { λ x. ⌜ x ≡ numberAt (resources self) r ⌝ }
     {
-        let i = place(r);
-        self.resources[i]
+        self.resources[r - 1]
     }
 
     // The lowest number that p owns, or 0; nobody owns a free one.
@@ -292,14 +267,12 @@ impl Numbers {
         requires { ⌜ Fit self ⌝ }
         ensures { λ n. ⌜ n ≡ first (λ r. eqb (numberAt (resources self) r .owner) p) (from 1 (self .count)) ⌝ }
     {
-        let count = wide(self.count);
-        let mut r: usize = 1;
-        while r <= count {
+        let count = self.count as usize;
+        for r in 1..=count {
             let x = self.number(r);
             if x.owner == p {
                 return r;
             }
-            r += 1;
         }
         0
     }
@@ -316,8 +289,7 @@ impl Numbers {
         requires { ⌜ Within self r ⌝ }
         ensures { λ t. ⌜ t ≡ tableOf (self .count) (withNumber r owner lock (resources self)) ⌝ }
     {
-        let i = place(r);
-        self.resources[i] = Resource { owner, lock };
+        self.resources[r - 1] = Resource { owner, lock };
         self
     }
 
@@ -326,13 +298,11 @@ impl Numbers {
         requires { ⌜ Fit self ⌝ }
         ensures { λ t. ⌜ t ≡ tableOf (self .count) (map (without p) (resources self)) ⌝ }
     {
-        let count = wide(self.count);
+        let count = self.count as usize;
         let mut resources = self.resources;
-        let mut i: usize = 0;
-        while i < count {
+        for i in 0..count {
             let x = resources[i];
             resources[i] = x.without(p);
-            i += 1;
         }
         Numbers {
             count: self.count,

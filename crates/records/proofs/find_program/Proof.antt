@@ -5,7 +5,7 @@ use native.Mathlib.Omega.{arith}
 use borrow.Author.Needs.{needs}
 use Rattle.records.specs.Records.{all, recordAt, find}
 use Rattle.records.proofs.Search.{Seek, seek-start, seek-here, seek-on, seek-none}
-use Rattle.records.proofs.Find.{named, at-place}
+use Rattle.records.proofs.Find.{named}
 use Rattle.records.proofs.find_program.Statement.{statement}
 use Rattle.records.proofs.find_program.Tie as tie
 
@@ -18,17 +18,13 @@ abbrev μ-loop : tie.MeasureT-loop
 returns : tie.Need-returns Inv-loop μ-loop
 unfolding find all
 returns c =
-    let k = c .before .before .before in
-    let b = k .before .before .before in
-    let a = b .before .args in
-    seek-here (b .loop .inv) (omega arith) (at-place (named (a .name)) (a .t1) (b .loop .p) (k .place .result) _ (omega arith) (sym (c .before .is-named .ensures) ∙ c .if1 .taken))
+    let b = c .before .before .before .before in
+    seek-here (b .loop .inv) (omega arith) (sym (c .before .is-named .ensures) ∙ c .if1 .taken)
 
 loop-again : tie.Need-loop-again Inv-loop μ-loop
 loop-again c =
-    let k = c .before .before .before in
-    let b = k .before .before .before in
-    let a = b .before .args in
-    seek-on (b .loop .inv) (omega arith) (at-place (named (a .name)) (a .t1) (b .loop .p) (k .place .result) _ (omega arith) (sym (c .before .is-named .ensures) ∙ c .if1 .left))
+    let b = c .before .before .before .before in
+    seek-on (b .loop .inv) (omega arith) (sym (c .before .is-named .ensures) ∙ c .if1 .left)
 
 returns-2 : tie.Need-returns-2 Inv-loop μ-loop
 unfolding find all
@@ -37,5 +33,5 @@ returns-2 c = seek-none (c .before .loop .inv) (omega arith)
 pub find-program-spec : {M : Type 1} → statement M
 find-program-spec =
     tie.close
-    (tie.spec Inv-loop μ-loop (λ c. seek-start _ 32) (λ c κs. search needs) (λ c κs. search needs) (λ c. search needs)
-    (λ c. search needs) (λ c κs. search needs) returns (λ c. omega arith) (λ c. omega arith) loop-again returns-2)
+    (tie.spec Inv-loop μ-loop (λ c. seek-start _ 32) (λ c. search needs) (λ c. search needs) (λ c. search needs)
+    (λ c κs. search needs) (λ c. search needs) returns (λ c. omega arith) (λ c. omega arith) loop-again returns-2)

@@ -4,7 +4,7 @@ use native.Mathlib.Omega.{arith}
 use borrow.Author.Needs.{needs}
 use Rattle.records.specs.Records.{all, recordAt, lowestUnused}
 use Rattle.records.proofs.Search.{Seek, seek-start, seek-here, seek-on, seek-none}
-use Rattle.records.proofs.Find.{vacant, at-place}
+use Rattle.records.proofs.Find.{vacant}
 use Rattle.records.proofs.lowest_unused.Statement.{statement}
 use Rattle.records.proofs.lowest_unused.Tie as tie
 
@@ -17,17 +17,13 @@ abbrev μ-loop : tie.MeasureT-loop
 returns : tie.Need-returns Inv-loop μ-loop
 unfolding lowestUnused all
 returns c =
-    let k = c .before .before .before in
-    let b = k .before .before .before in
-    let a = b .before .args in
-    seek-here (b .loop .inv) (omega arith) (at-place vacant (a .t1) (b .loop .p) (k .place .result) _ (omega arith) (c .if1 .taken))
+    let b = c .before .before .before .before in
+    seek-here (b .loop .inv) (omega arith) (c .if1 .taken)
 
 loop-again : tie.Need-loop-again Inv-loop μ-loop
 loop-again c =
-    let k = c .before .before .before in
-    let b = k .before .before .before in
-    let a = b .before .args in
-    seek-on (b .loop .inv) (omega arith) (at-place vacant (a .t1) (b .loop .p) (k .place .result) _ (omega arith) (c .if1 .left))
+    let b = c .before .before .before .before in
+    seek-on (b .loop .inv) (omega arith) (c .if1 .left)
 
 returns-2 : tie.Need-returns-2 Inv-loop μ-loop
 unfolding lowestUnused all
@@ -36,5 +32,5 @@ returns-2 c = seek-none (c .before .loop .inv) (omega arith)
 pub lowest-unused-spec : {M : Type 1} → statement M
 lowest-unused-spec =
     tie.close
-    (tie.spec Inv-loop μ-loop (λ c. seek-start _ 32) (λ c κs. search needs) (λ c κs. search needs) (λ c. search needs)
+    (tie.spec Inv-loop μ-loop (λ c. seek-start _ 32) (λ c. search needs) (λ c. search needs) (λ c. search needs)
     (λ c. search needs) returns (λ c. omega arith) (λ c. omega arith) loop-again returns-2)

@@ -20,8 +20,10 @@ returns c =
     let a = b .before .before .args in
     seek-here (b .loop .inv) (omega arith) (owned (a .self) (a .p) (b .loop .r) (n .number .result) (n .number .ensures) (c .if1 .taken))
 
-loop-again : tie.Need-loop-again Inv-loop μ-loop
-loop-again c =
+-- number r is not p's
+past : (c : tie.Else1 Inv-loop μ-loop)
+    → let b = c .before .before .before .before in let a = b .before .before .args in Seek (owns (a .p) (a .self)) (a .self .count) (b .loop .r + 1)
+past c =
     let n = c .before .before in
     let b = n .before .before in
     let a = b .before .before .args in
@@ -30,5 +32,6 @@ loop-again c =
 pub lowest-of-spec : {M : Type 1} → statement M
 lowest-of-spec =
     tie.close
-    (tie.spec Inv-loop μ-loop (λ c κs. search needs) (λ c. seek-start _ _) (λ c κs. search needs) returns (λ c. omega arith)
-    (λ c. omega arith) loop-again (λ c. seek-none (c .before .loop .inv) (omega arith)))
+    (tie.spec Inv-loop μ-loop (λ c. search needs) (λ c. seek-start _ _) (λ c κs. search needs) returns (λ c. omega arith)
+    (λ c. omega arith) (λ c. past (c .before)) (λ c. seek-none (c .before .loop .inv) (omega arith))
+    (λ c. seek-none (past (c .before)) (omega arith)))
