@@ -6,6 +6,7 @@ use mathlib.Core.Bool.{Bool, true, false}
 use mathlib.Core.List.{List, _∷_}
 use mathlib.Core.Option.{Option, none, some}
 use lib.ListN.{length, getD, drop}
+use Rattle.limits.specs.Limits.{mostTracks}
 use Rattle.tracks.specs.declared.Tracks.{Tracks}
 use Rattle.tracks.specs.declared.held.Run.{Run}
 use Rattle.tracks.specs.declared.Found.{Found}
@@ -15,7 +16,7 @@ use Rattle.tracks.specs.Runs.{runsOf}
 
 -- a table as the rules know it: told by its count, its system's tracks and its holders
 pub record Fit (t : Tracks) : Type 0 where
-  pub most : t .count ≤ 256
+  pub most : t .count ≤ mostTracks
   pub long : length (holders t) ≡ t .count
   pub formed : t ≡ tableOf (t .count) (t .system) (holders t)
 
@@ -27,7 +28,7 @@ pub record HasTracks (t : Tracks) (i n : ℕ) : Type 0 where
 -- T tracks, S of them the system's, are a table
 pub record Sizes (T S : ℕ) : Type 0 where
   pub least : 1 ≤ T
-  pub most : T ≤ 256
+  pub most : T ≤ mostTracks
   pub part : S ≤ T
 
 -- what a search found
@@ -64,7 +65,7 @@ abbrev pub OthersHold : ℕ → ℕ → (ℕ → Type 0) → List ℕ → Type 0
 OthersHold S T May hs = (i : ℕ) → i < T → S ≤ i → May (getD hs i nobody)
 
 abbrev pub NoneHolds : ℕ → List ℕ → Type 0
-NoneHolds T hs = (i : ℕ) → i < 256 → T ≤ i → getD hs i nobody ≡ nobody
+NoneHolds T hs = (i : ℕ) → i < mostTracks → T ≤ i → getD hs i nobody ≡ nobody
 
 -- every place is held as it should be
 pub record Held (May : ℕ → Type 0) (t : Tracks) : Type 0 where
@@ -74,7 +75,7 @@ pub record Held (May : ℕ → Type 0) (t : Tracks) : Type 0 where
 
 -- track i is there; and g is the run that begins at it
 pub record Within (t : Tracks) (i : ℕ) : Type 0 where
-  pub most : t .count ≤ 256
+  pub most : t .count ≤ mostTracks
   pub below : i < t .count
 
 pub record RunFrom (hs : List ℕ) (i : ℕ) (g : Run) : Type 0 where

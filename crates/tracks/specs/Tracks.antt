@@ -7,6 +7,7 @@ use mathlib.Core.List.{List, [], _∷_, _++_}
 use mathlib.Core.Option.{Option, none, some}
 use lib.ListN.{length, getD, set, take, replicate}
 use lib.Dec.{eqb}
+use Rattle.limits.specs.Limits.{mostTracks}
 use Rattle.tracks.specs.declared.Tracks.{Tracks}
 
 -- a holder is 0 where the track is free, a program's number, or one of these
@@ -31,7 +32,7 @@ abbrev pub holders : Tracks → List ℕ
 holders t = take (t .count) (places t)
 
 abbrev pub tableOf : ℕ → ℕ → List ℕ → Tracks
-tableOf T S xs = tableAt T S (xs ++ replicate (256 - T) nobody)
+tableOf T S xs = tableAt T S (xs ++ replicate (mostTracks - T) nobody)
 
 -- the first n are all h's
 abbrev pub run : ℕ → ℕ → List ℕ → Bool

@@ -11,19 +11,13 @@ pub struct Run {
     pub holder: u8,
 }
 
-fn wide(x: u16) -> usize
-    ensures { λ r. ⌜ r ≡ x ⌝ }
-{
-    x as usize
-}
-
 impl Tracks {
     // The run that begins at `first`, as long as it goes.
     pub fn run_from(self, first: usize) -> Run
         requires { ⌜ Within self first ⌝ }
         ensures { λ r. ⌜ RunFrom (holders self) first r ⌝ }
     {
-        let end = wide(self.count);
+        let end = self.count as usize;
         let holder = self.holders[first];
         let mut last = first;
         while last + 1 < end {

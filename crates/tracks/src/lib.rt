@@ -4,6 +4,7 @@ mod places;
 mod sound;
 
 pub use held::Run;
+use limits::MOST_TRACKS;
 ghost use Prim.Native.Nat.{_-_};
 ghost use mathlib.Core.Path.{_≡_};
 ghost use mathlib.Core.List.{_++_};
@@ -17,19 +18,13 @@ ghost use Rattle.tracks.specs.Inner.{Fit, HasTracks, Sizes, foundIs};
 pub struct Tracks {
     pub count: u16,
     pub system: u16,
-    pub holders: [u8; 256],
+    pub holders: [u8; MOST_TRACKS],
 }
 
 // Where a search of the tracks ended.
 pub enum Found {
     At(usize),
     Nothing,
-}
-
-fn wide(x: u16) -> usize
-    ensures { λ r. ⌜ r ≡ x ⌝ }
-{
-    x as usize
 }
 
 impl Tracks {
@@ -44,12 +39,10 @@ impl Tracks {
         requires { ⌜ Sizes all own ⌝ }
         ensures { λ r. ⌜ r ≡ tableOf all own (replicate own system ++ replicate (all - own) nobody) ⌝ }
     {
-        let first_free = wide(own);
-        let mut holders = [Tracks::FREE; 256];
-        let mut i: usize = 0;
-        while i < first_free {
+        let first_free = own as usize;
+        let mut holders = [Tracks::FREE; MOST_TRACKS];
+        for i in 0..first_free {
             holders[i] = Tracks::SYSTEM;
-            i += 1;
         }
         Tracks {
             count: all,
@@ -63,7 +56,7 @@ impl Tracks {
         requires { ⌜ Fit self ⌝ }
         ensures { λ r. ⌜ r ≡ run h n (drop start (holders self)) ⌝ }
     {
-        let end = wide(self.count);
+        let end = self.count as usize;
         let mut i = start;
         let mut left = n;
         while 0 < left {
@@ -84,7 +77,7 @@ impl Tracks {
         requires { ⌜ Fit self ⌝ }
         ensures { λ r. ⌜ foundIs r ≡ lowest n 0 (holders self) ⌝ }
     {
-        let end = wide(self.count);
+        let end = self.count as usize;
         if end == 0 {
             return Found::Nothing;
         }
@@ -93,15 +86,12 @@ impl Tracks {
         }
         // tracks `start` to i - 1 are free, and fewer than n
         let mut start: usize = 0;
-        let mut i: usize = 0;
-        while i < end {
+        for i in 0..end {
             if self.holders[i] != Tracks::FREE {
                 start = i + 1;
-                i += 1;
                 continue;
             }
-            i += 1;
-            if n <= i - start {
+            if n <= i + 1 - start {
                 return Found::At(start);
             }
         }
@@ -114,10 +104,8 @@ impl Tracks {
         ensures { λ r. ⌜ r ≡ tableOf (self .count) (self .system) (filled start n h (holders self)) ⌝ }
     {
         let mut holders = self.holders;
-        let mut k: usize = 0;
-        while k < n {
+        for k in 0..n {
             holders[start + k] = h;
-            k += 1;
         }
         Tracks {
             count: self.count,
@@ -131,14 +119,12 @@ impl Tracks {
         requires { ⌜ Fit self ⌝ }
         ensures { λ r. ⌜ r ≡ tableOf (self .count) (self .system) (replaced p h (holders self)) ⌝ }
     {
-        let end = wide(self.count);
+        let end = self.count as usize;
         let mut holders = self.holders;
-        let mut i: usize = 0;
-        while i < end {
+        for i in 0..end {
             if holders[i] == p {
                 holders[i] = h;
             }
-            i += 1;
         }
         Tracks {
             count: self.count,
@@ -152,14 +138,12 @@ impl Tracks {
         requires { ⌜ Fit self ⌝ }
         ensures { λ r. ⌜ r ≡ count p (holders self) ⌝ }
     {
-        let end = wide(self.count);
+        let end = self.count as usize;
         let mut n: usize = 0;
-        let mut i: usize = 0;
-        while i < end {
+        for i in 0..end {
             if self.holders[i] == p {
                 n += 1;
             }
-            i += 1;
         }
         n
     }

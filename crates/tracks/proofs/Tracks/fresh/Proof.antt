@@ -30,7 +30,7 @@ loop-again c =
 returns : tie.Need-returns Inv-loop μ-loop
 returns c =
     let l = c .before in
-    let s = l .before .before in
+    let s = l .before in
     let i : l .loop .i ≡ s .args .own = omega arith in
     made (s .args .all) (s .args .own) (l .loop .holders) (replicate (s .args .own) system ++ replicate (s .args .all - s .args .own) nobody)
     (l .loop .inv .1
@@ -40,5 +40,5 @@ returns c =
 pub fresh-spec : {M : Type 1} → statement M
 fresh-spec =
     tie.close
-    (tie.spec Inv-loop μ-loop (λ c κs. search needs) loop-holds (λ c. search needs) (λ c. search needs) (λ c. search needs)
+    (tie.spec Inv-loop μ-loop loop-holds (λ c. search needs) (λ c. search needs) (λ c. search needs)
     loop-again returns)

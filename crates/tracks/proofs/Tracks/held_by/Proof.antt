@@ -21,12 +21,12 @@ abbrev μ-loop : tie.MeasureT-loop
 μ-loop p self end n₀ i₀ n i = end - i
 
 loop-holds : tie.Need-loop-holds Inv-loop μ-loop
-loop-holds c = (c .before .pre .long, omega arith, omega arith)
+loop-holds c = (c .pre .long, omega arith, omega arith)
 
 loop-again : tie.Need-loop-again Inv-loop μ-loop
 loop-again c =
     let l = c .before .before .before in
-    let s = l .before .before in
+    let s = l .before in
     let t = s .args .t1 in
     let is = getD-take (t .count) (t .holders) (l .loop .i) nobody (omega arith) in
     let within : l .loop .i < length (holders t) = omega arith in (
@@ -41,11 +41,11 @@ loop-again c =
 returns : tie.Need-returns Inv-loop μ-loop
 returns c =
     let l = c .before in
-    let s = l .before .before in
+    let s = l .before in
     omega (arith, count-past (s .args .p) (l .loop .i) (holders (s .args .t1)) (omega arith))
 
 pub held-by-spec : {M : Type 1} → statement M
 held-by-spec =
     tie.close
-    (tie.spec Inv-loop μ-loop (λ c κs. search needs) loop-holds (λ c. omega arith) (λ c. search needs) (λ c. search needs)
+    (tie.spec Inv-loop μ-loop (λ c. search needs) loop-holds (λ c. omega arith) (λ c. search needs) (λ c. search needs)
     (λ c. search needs) loop-again returns)

@@ -19,18 +19,18 @@ abbrev μ-loop : tie.MeasureT-loop
 μ-loop h start n self end i₀ left₀ i left = left
 
 loop-holds : tie.Need-loop-holds Inv-loop μ-loop
-loop-holds c = (c .before .pre .long, refl)
+loop-holds c = (c .pre .long, refl)
 
 returns : tie.Need-returns Inv-loop μ-loop
 returns c =
     let l = c .before .before in
-    let s = l .before .before in
+    let s = l .before in
     sym (l .loop .inv .1 ∙ run-past (s .args .h) (l .loop .left) (l .loop .i) (holders (s .args .t1)) (omega arith) (omega arith))
 
 returns-2 : tie.Need-returns-2 Inv-loop μ-loop
 returns-2 c =
     let l = c .before .before .before .before in
-    let s = l .before .before in
+    let s = l .before in
     let t = s .args .t1 in
     let is = getD-take (t .count) (t .holders) (l .loop .i) nobody (omega arith) in
     sym (l .loop .inv .1 ∙ run-stop (s .args .h) (l .loop .left) (l .loop .i) (holders (s .args .t1)) (omega arith) (omega arith)
@@ -39,7 +39,7 @@ returns-2 c =
 loop-again : tie.Need-loop-again Inv-loop μ-loop
 loop-again c =
     let l = c .before .before .before .before in
-    let s = l .before .before in
+    let s = l .before in
     let t = s .args .t1 in
     let is = getD-take (t .count) (t .holders) (l .loop .i) nobody (omega arith) in (
       l .loop .inv .0,
@@ -49,12 +49,12 @@ loop-again c =
 returns-3 : tie.Need-returns-3 Inv-loop μ-loop
 returns-3 c =
     let l = c .before in
-    let s = l .before .before in
+    let s = l .before in
     let z : l .loop .left ≡ 0 = omega arith in
     sym (l .loop .inv .1 ∙ ap (λ (k : ℕ). run (s .args .h) k (drop (l .loop .i) (holders (s .args .t1)))) z)
 
 pub run-at-spec : {M : Type 1} → statement M
 run-at-spec =
     tie.close
-    (tie.spec Inv-loop μ-loop (λ c κs. search needs) loop-holds returns (λ c. omega arith) returns-2 (λ c. search needs)
+    (tie.spec Inv-loop μ-loop (λ c. search needs) loop-holds returns (λ c. omega arith) returns-2 (λ c. search needs)
     (λ c. search needs) (λ c. search needs) loop-again returns-3)
