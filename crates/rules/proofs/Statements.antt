@@ -6,6 +6,7 @@ use mathlib.Core.Path.{_≡_}
 use mathlib.Core.Logic.{_≢_}
 use mathlib.Core.List.{List, [], _∷_}
 use lib.ListN.{getD}
+use Rattle.limits.specs.Limits.{scheduled, disc, states}
 use Rattle.records.specs.declared.Why.the-variants.{Tracks}
 use Rattle.records.specs.Records.{Known}
 use Rattle.tracks.specs.Tracks.{LowestRun, filled}
@@ -29,7 +30,7 @@ pub record Answered (K : Keeper) (t : State K) (q : Request) : Type 0 where
 -- A plan x for caller c, who asks n tracks for holder h, w being 0 to wait and 1 to be told, is the outline's where xs are the holders: the lowest run, or state 5, or 8; and each of the three only then.
 pub record Claims (xs : List ℕ) (c h n w : ℕ) (x : Plan) : Type 0 where
   pub granted : (i : ℕ) → LowestRun xs i n → x ≡ done (i ∷ []) (held (filled i n h xs) ∷ [])
-  pub waits : NoRun xs n → w ≡ 0 → x ≡ waiting 5 (on c (becomes 5 (Tracks n)) ∷ [])
+  pub waits : NoRun xs n → w ≡ 0 → x ≡ waiting disc (on c (becomes disc (Tracks n)) ∷ [])
   pub told : NoRun xs n → w ≡ 1 → x ≡ refused 8 0
   pub only-granted : numberOf x ≡ 0 → (i : ℕ) × LowestRun xs i n × (valuesOf x ≡ i ∷ [])
   pub only-waits : numberOf x ≡ 1 → (w ≡ 0) × NoRun xs n
@@ -81,15 +82,15 @@ module _ (K : Keeper) where
 
 -- a call of the running program acts for the first of those in state 1; where there is none it is refused
 pub data Acts (a : State lists) (en : ℕ → ℕ) (c : Call) : Type 0 where
-  for-none : ((z : ℕ) → Known z → stateOf (a .book) z ≢ 1) → asks lists a (running c) ≡ refused 2 0 → Acts a en c
-  for-first : (p : ℕ) → First (a .book) en 1 p → asks lists a (running c) ≡ call (view lists a) p c → Acts a en c
+  for-none : ((z : ℕ) → Known z → stateOf (a .book) z ≢ scheduled) → asks lists a (running c) ≡ refused 2 0 → Acts a en c
+  for-first : (p : ℕ) → First (a .book) en scheduled p → asks lists a (running c) ≡ call (view lists a) p c → Acts a en c
 
 -- the chains a, and the replay t that keeps none
 pub record Holds (a : State lists) (t : State entries) : Type 0 where
   pub book : t .book ≡ a .book
   pub accounts : Accounts a (t .kept)
-  pub sorts : (s : ℕ) → 1 ≤ s → s < 7 → Fits (a .book) (t .kept .entry) s (sorted (a .book) (t .kept) s)
-  pub chains : (s : ℕ) → 1 ≤ s → s < 7 → getD (a .kept) s [] ≡ sorted (a .book) (t .kept) s
+  pub sorts : (s : ℕ) → 1 ≤ s → s < states → Fits (a .book) (t .kept .entry) s (sorted (a .book) (t .kept) s)
+  pub chains : (s : ℕ) → 1 ≤ s → s < states → getD (a .kept) s [] ≡ sorted (a .book) (t .kept) s
   pub acts : (c : Call) → Acts a (t .kept .entry) c
 
 -- the same after a run of requests, which have the same answers

@@ -3,6 +3,7 @@
 use Prim.Native.Nat.{ℕ, _-_}
 use mathlib.Core.List.{List, _++_}
 use lib.ListN.{getD, set, replicate}
+use Rattle.limits.specs.Limits.{mostPrograms}
 use Rattle.records.specs.declared.Program.{Program}
 use Rattle.records.specs.declared.Resource.{Resource}
 use Rattle.records.specs.declared.Why.{Why}
@@ -65,7 +66,7 @@ withResources r b = altered b (b .programs) (b .clock) (b .holders) r
 -- clock 0, no record used, every track from S up and every number free (OUTLINE, FRESH)
 abbrev pub freshBook : ℕ → ℕ → ℕ → Book
 freshBook T S R = record {
-  programs = replicate 32 unused;
+  programs = replicate mostPrograms unused;
   clock = 0;
   tracks = T;
   system = S;

@@ -6,6 +6,7 @@ use mathlib.Core.Bool.{_&&_, _||_}
 use mathlib.Core.List.{List, [], _∷_}
 use lib.ListN.{length}
 use lib.Dec.{eqb}
+use Rattle.limits.specs.Limits.{dormant, scheduled, general, disc}
 use Rattle.lists.specs.Lists.{count, keep}
 use Rattle.records.specs.Records.{all}
 use Rattle.tracks.specs.Tracks.{nobody}
@@ -18,12 +19,12 @@ freeTracks b = count nobody (b .holders)
 -- programs that waited before, in state 3 or 5, and are scheduled after
 unfoldable pub awoken : Book → Book → ℕ
 unfolding all
-awoken b c = length (keep (λ p. (eqb (stateOf b p) 3 || eqb (stateOf b p) 5) && eqb (stateOf c p) 1) all)
+awoken b c = length (keep (λ p. (eqb (stateOf b p) general || eqb (stateOf b p) disc) && eqb (stateOf c p) scheduled) all)
 
 -- programs that were dormant before, and are scheduled after
 unfoldable pub roused : Book → Book → ℕ
 unfolding all
-roused b c = length (keep (λ p. eqb (stateOf b p) 0 && eqb (stateOf c p) 1) all)
+roused b c = length (keep (λ p. eqb (stateOf b p) dormant && eqb (stateOf c p) scheduled) all)
 
 -- Its one value is how many more tracks are free after it. b and d are the books before and after, vs the values.
 pub record Freed (b d : Book) (vs : List ℕ) : Type 0 where

@@ -6,6 +6,7 @@ use mathlib.Core.Path.{_≡_}
 use mathlib.Core.Logic.{_≢_}
 use mathlib.Core.Bool.{true}
 use mathlib.Core.List.{List, []}
+use Rattle.limits.specs.Limits.{scheduled, general, disc}
 use Rattle.lists.specs.Lists.{count}
 use Rattle.records.specs.declared.Program.{Program}
 use Rattle.records.specs.declared.Why.the-variants.{Nothing}
@@ -17,7 +18,7 @@ use Rattle.rules.specs.Rules.{dueAt, head, plan}
 
 -- Program x has to do with a request: its caller, named in it (LOAD names the record that takes the name), or due at that tick.
 pub data Party (v : View) (x : ℕ) : Request → Type 0 where
-  calls : (c : Call) → head (v .chain 1) ≡ x → Party v x (running c)
+  calls : (c : Call) → head (v .chain scheduled) ≡ x → Party v x (running c)
   takes-name : (nm : List ℕ) (n : ℕ) → lowestUnused (v .book .programs) ≡ x → Party v x (LOAD nm n)
   ordered : (o : Order) (nm : List ℕ) → find (v .book .programs) nm ≡ x → Party v x (operator o nm)
   son : (nm : List ℕ) → find (v .book .programs) nm ≡ x → Party v x (running (EXEC9 nm))
@@ -27,8 +28,8 @@ pub data Party (v : View) (x : ℕ) : Request → Type 0 where
 
 -- a program that waits, and whose reason to wait is gone
 pub data Woken (v : View) (R : Release) (x : ℕ) : Type 0 where
-  tracks-freed : 1 ≤ R .tracks → 1 ≤ count x (v .chain 5) → Woken v R x
-  reason-gone : awaits R (whyOf (v .book) x) ≡ true → 1 ≤ count x (v .chain 3) → Woken v R x
+  tracks-freed : 1 ≤ R .tracks → 1 ≤ count x (v .chain disc) → Woken v R x
+  reason-gone : awaits R (whyOf (v .book) x) ≡ true → 1 ≤ count x (v .chain general) → Woken v R x
 
 -- The programs that a request concerns: where something happens, those that have to do with it, or all if it is FRESH; and those whom what it sets free wakes.
 pub data Concerned (v : View) (q : Request) (x : ℕ) : Type 0 where
@@ -39,4 +40,4 @@ pub data Concerned (v : View) (q : Request) (x : ℕ) : Type 0 where
 -- a record that stays, or whose program is scheduled
 pub data Stirred (r s : Program) : Type 0 where
   stays : s ≡ r → Stirred r s
-  wakes : s ≡ inState 1 Nothing r → Stirred r s
+  wakes : s ≡ inState scheduled Nothing r → Stirred r s

@@ -5,6 +5,7 @@ use mathlib.Core.Bool.{Bool, cond}
 use mathlib.Core.List.{List, [], _∷_}
 use lib.ListN.{getD, set, replicate}
 use lib.Dec.{leb, eqb}
+use Rattle.limits.specs.Limits.{dormant, scheduled, suspended, states}
 use Rattle.lists.specs.Lists.{keep, insertBy, insert, remove, upTo}
 use Rattle.records.specs.declared.Program.{Program}
 use Rattle.records.specs.declared.Why.{Why}
@@ -30,7 +31,7 @@ lists = record {
   order = λ b k s. getD k s [];
   entered = λ b p s k. set k s (insert (prioOf b) p (getD k s []));
   left = λ p s k. set k s (remove p (getD k s []));
-  none = replicate 7 [];
+  none = replicate states [];
 }
 
 -- No list (demand 3): when each program last entered a chain, and the number of the next entry.
@@ -68,15 +69,15 @@ module _ (K : Keeper) where
   -- p leaves its chain and is dormant
   abbrev pub leave : ℕ → State → State
   leave p t = record {
-    book = put p (inState 0 Nothing (at (t .book) p)) (t .book);
-    kept = cond (eqb (stateOf (t .book) p) 0) (t .kept) (K .left p (stateOf (t .book) p) (t .kept));
+    book = put p (inState dormant Nothing (at (t .book) p)) (t .book);
+    kept = cond (eqb (stateOf (t .book) p) dormant) (t .kept) (K .left p (stateOf (t .book) p) (t .kept));
   }
 
   -- p, which stands in no chain, takes state s for reason w, and enters its chain
   abbrev pub enter : ℕ → ℕ → Why → State → State
   enter p s w t =
       let b : Book = put p (inState s w (at (t .book) p)) (t .book) in
-      record { book = b; kept = cond (eqb s 0) (t .kept) (K .entered b p s (t .kept)) }
+      record { book = b; kept = cond (eqb s dormant) (t .kept) (K .entered b p s (t .kept)) }
 
   -- p's record is replaced
   abbrev pub amend : ℕ → Program → State → State
@@ -84,7 +85,7 @@ module _ (K : Keeper) where
 
   unfoldable pub act : ℕ → Deed → State → State
   act p (becomes s w) t = enter p s w (leave p t)
-  act p wakes t = enter p 1 Nothing (leave p t)
+  act p wakes t = enter p scheduled Nothing (leave p t)
   act p (priced n) t =
       let u = leave p t in
       enter p (stateOf (t .book) p) (whyOf (t .book) p) (amend p (withPriority n (at (u .book) p)) u)
@@ -110,10 +111,10 @@ module _ (K : Keeper) where
 
   -- what a rule sees, the chains being those of states 1 to 6: keepers need not agree on others; and the scheduled chain
   abbrev pub view : State → View
-  view t = record { book = t .book; chain = λ s. cond (upTo 1 6 s) (K .order (t .book) (t .kept) s) [] }
+  view t = record { book = t .book; chain = λ s. cond (upTo scheduled suspended s) (K .order (t .book) (t .kept) s) [] }
 
   abbrev pub scheduledChain : State → List ℕ
-  scheduledChain t = K .order (t .book) (t .kept) 1
+  scheduledChain t = K .order (t .book) (t .kept) scheduled
 
   -- a request: what it comes to, and the state after it
   abbrev pub asks : State → Request → Plan

@@ -5,6 +5,7 @@ use mathlib.Core.Bool.{Bool, true, false, cond, _&&_}
 use mathlib.Core.List.{List, [], _∷_, _++_, map}
 use mathlib.Core.Option.{Option, none, some}
 use lib.Dec.{ltb, eqb}
+use Rattle.limits.specs.Limits.{general, disc}
 use Rattle.lists.specs.Lists.{keep, remove}
 use Rattle.records.specs.declared.Resource.{Resource}
 use Rattle.records.specs.declared.Why.{Why}
@@ -80,11 +81,11 @@ awaits R Number = R .dealt
 
 -- all of chain 5 if a track was freed, in chain order; the one that ended has left its chain
 abbrev pub fromDisc : View → Release → List ℕ
-fromDisc v R = cond (ltb 0 (R .tracks)) (remove (R .ended) (v .chain 5)) []
+fromDisc v R = cond (ltb 0 (R .tracks)) (remove (R .ended) (v .chain disc)) []
 
 -- chain 3 is walked once: those whose reason is gone
 abbrev pub fromGeneral : View → Release → List ℕ
-fromGeneral v R = keep (λ q. awaits R (whyOf (v .book) q)) (remove (R .ended) (v .chain 3))
+fromGeneral v R = keep (λ q. awaits R (whyOf (v .book) q)) (remove (R .ended) (v .chain general))
 
 -- chain 5, then chain 3
 unfoldable pub woken : View → Release → List ℕ

@@ -5,6 +5,7 @@ use mathlib.Core.Path.{_≡_}
 use mathlib.Core.Logic.{_≢_}
 use mathlib.Core.List.{List, []}
 use lib.ListN.{getD}
+use Rattle.limits.specs.Limits.{dormant, states}
 use Rattle.lists.specs.Lists.{same, count, Ascending}
 use Rattle.records.specs.Records.{Known}
 use Rattle.rules.specs.Book.{Book, stateOf, prioOf}
@@ -23,8 +24,8 @@ pub record Fits (b : Book) (en : ℕ → ℕ) (s : ℕ) (c : List ℕ) : Type 0 
 -- entries that fit the chains of a state: each is below the next one, and no two programs in chains have the same
 pub record Accounts (a : State lists) (e : Entries) : Type 0 where
   pub early : (z : ℕ) → e .entry z < e .next
-  pub apart : (y z : ℕ) → Known y → Known z → stateOf (a .book) y ≢ 0 → stateOf (a .book) z ≢ 0 → e .entry y ≡ e .entry z → y ≡ z
-  pub fits : (s : ℕ) → 1 ≤ s → s < 7 → Fits (a .book) (e .entry) s (getD (a .kept) s [])
+  pub apart : (y z : ℕ) → Known y → Known z → stateOf (a .book) y ≢ dormant → stateOf (a .book) z ≢ dormant → e .entry y ≡ e .entry z → y ≡ z
+  pub fits : (s : ℕ) → 1 ≤ s → s < states → Fits (a .book) (e .entry) s (getD (a .kept) s [])
 
 -- p is in state s, and before every other program in it
 pub record First (b : Book) (en : ℕ → ℕ) (s p : ℕ) : Type 0 where

@@ -5,6 +5,7 @@ use mathlib.Core.Bool.{Bool, true, false, cond, _&&_, _||_}
 use mathlib.Core.List.{List, [], _∷_, _++_, map}
 use lib.ListN.{length, drop}
 use lib.Dec.{leb, ltb, eqb}
+use Rattle.limits.specs.Limits.{dormant, scheduled, general, disc, suspended, mostTracks, mostNumbers, lastPriority, mostUnits}
 use Rattle.lists.specs.Lists.{count, keep, first, any, from, upTo, join}
 use Rattle.clock.specs.Clock.{ceiling, unit, timeOf}
 use Rattle.records.specs.declared.Program.{Program}
@@ -55,21 +56,21 @@ quit v p = numbered (map (without p) (v .book .resources))
 
 -- OF 8 makes the record unused; OF 1 makes the program dormant without a timer
 abbrev pub dismissed : ℕ → ℕ → List Event
-dismissed k p = cond (eqb k 8) (on p unloaded ∷ []) (on p (becomes 0 Nothing) ∷ on p (timed 0 0) ∷ [])
+dismissed k p = cond (eqb k 8) (on p unloaded ∷ []) (on p (becomes dormant Nothing) ∷ on p (timed 0 0) ∷ [])
 
 -- the figure of an order is allowed (OUTLINE, "Operator requests")
 abbrev pub allowed : Order → Bool
 allowed RU = true
 allowed SS = true
 allowed GO = true
-allowed (PR n) = upTo 1 32767 n
+allowed (PR n) = upTo 1 lastPriority n
 allowed (OF k) = eqb k 1 || eqb k 8
 
 -- what the operator asks of program p
 unfoldable pub order : View → Order → ℕ → Plan
-order v RU p = inside v p 0 (done (0 ∷ []) (on p (becomes 1 Nothing) ∷ []))
-order v SS p = inside v p 1 (done (0 ∷ []) (on p (becomes 6 Nothing) ∷ []))
-order v GO p = inside v p 6 (done (0 ∷ []) (on p (becomes 1 Nothing) ∷ []))
+order v RU p = inside v p dormant (done (0 ∷ []) (on p (becomes scheduled Nothing) ∷ []))
+order v SS p = inside v p scheduled (done (0 ∷ []) (on p (becomes suspended Nothing) ∷ []))
+order v GO p = inside v p suspended (done (0 ∷ []) (on p (becomes scheduled Nothing) ∷ []))
 order v (PR n) p = done (prioOf (v .book) p ∷ []) (on p (priced n) ∷ [])
 order v (OF k) p =
     let n = count p (v .book .holders) in
@@ -81,7 +82,7 @@ dueAt b p = eqb (at b p .due) (b .clock + 1)
 
 abbrev pub ticked : ℕ → Program → List Event
 ticked p r =
-    on p (timed (cond (eqb (r .interval) 0) 0 (r .due + r .interval)) (r .interval)) ∷ cond (eqb (r .state) 0) (on p (becomes 1 Nothing) ∷ []) []
+    on p (timed (cond (eqb (r .interval) 0) 0 (r .due + r .interval)) (r .interval)) ∷ cond (eqb (r .state) dormant) (on p (becomes scheduled Nothing) ∷ []) []
 
 -- EXEC 4 and 15: the lowest run of n free tracks becomes h's
 unfoldable pub takes : View → ℕ → ℕ → ℕ → ℕ → Plan
@@ -89,7 +90,7 @@ takes v c h n w =
     need (upTo 1 (v .book .tracks) n && leb w 1) 3 0
     (found (lowest n 0 (v .book .holders))
     (λ i. done (i ∷ []) (held (filled i n h (v .book .holders)) ∷ []))
-    (waits c w 5 (Tracks n)))
+    (waits c w disc (Tracks n)))
 
 -- EXEC 5 and 16: n tracks from start on, each of them h's, are given back
 unfoldable pub gives : View → ℕ → ℕ → ℕ → Plan
@@ -116,23 +117,23 @@ call v c (EXEC16 n start) = gives v everybody n start
 call v c EXEC5ALL =
     let n = count c (v .book .holders) in
     releasing (n ∷ []) (held (replaced c nobody (v .book .holders)) ∷ []) (frees n)
-call v c EXEC6 = releasing (length (woken v (ends v c 0)) ∷ []) (on c (becomes 0 Nothing) ∷ quit v c ∷ []) (ends v c 0)
-call v c EXEC7 = done (0 ∷ []) (on c (becomes 6 Nothing) ∷ [])
+call v c EXEC6 = releasing (length (woken v (ends v c 0)) ∷ []) (on c (becomes dormant Nothing) ∷ quit v c ∷ []) (ends v c 0)
+call v c EXEC7 = done (0 ∷ []) (on c (becomes suspended Nothing) ∷ [])
 call v c EXEC11 = done (timeOf (v .book .clock)) []
-call v c (EXEC9 nm) = named v nm λ p. inside v p 0 (waiting 3 (on p (becomes 1 Nothing) ∷ on c (becomes 3 (Son p)) ∷ []))
-call v c (EXEC10 nm) = named v nm λ p. inside v p 0 (done (p ∷ []) (on p (becomes 1 Nothing) ∷ []))
+call v c (EXEC9 nm) = named v nm λ p. inside v p dormant (waiting general (on p (becomes scheduled Nothing) ∷ on c (becomes general (Son p)) ∷ []))
+call v c (EXEC10 nm) = named v nm λ p. inside v p dormant (done (p ∷ []) (on p (becomes scheduled Nothing) ∷ []))
 call v c (EXEC12 nm res mult off) =
-    need (upTo 1 4 res && leb mult 4095 && upTo 1 4095 off) 3 0 (named v nm λ p.
+    need (upTo 1 4 res && leb mult mostUnits && upTo 1 mostUnits off) 3 0 (named v nm λ p.
     let due = v .book .clock + off * unit res in
     done (due ∷ []) (on p (timed due (mult * unit res)) ∷ []))
 call v c (ALLOC g w) =
     need (leb w 1) 3 0
     (let r = first (λ r. eqb (numberAt (v .book .resources) r .owner) 0) (from 1 (v .book .numbers)) in
-    either (ltb 0 r) (done (r ∷ []) (number v r (cond g globally c) 0 ∷ [])) (waits c w 3 Number))
+    either (ltb 0 r) (done (r ∷ []) (number v r (cond g globally c) 0 ∷ [])) (waits c w general Number))
 call v c (LOCK r w) =
     need (leb w 1) 3 0 (allocated v r λ x.
     either (eqb (x .lock) c) (done (r ∷ []) [])
-    (either (eqb (x .lock) 0) (done (r ∷ []) (number v r (x .owner) c ∷ [])) (waits c w 3 (Lock r))))
+    (either (eqb (x .lock) 0) (done (r ∷ []) (number v r (x .owner) c ∷ [])) (waits c w general (Lock r))))
 call v c (CLEAR r) =
     allocated v r λ x.
     either (eqb (x .lock) 0) (done (0 ∷ []) [])
@@ -149,23 +150,23 @@ head [] = 0
 head (p ∷ ps) = p
 
 unfoldable pub asCaller : View → (ℕ → Plan) → Plan
-asCaller v f = need (ltb 0 (head (v .chain 1))) 2 0 (f (head (v .chain 1)))
+asCaller v f = need (ltb 0 (head (v .chain scheduled))) 2 0 (f (head (v .chain scheduled)))
 
 -- T from 1 to 256, S from 0 to T, R from 0 to 16 (OUTLINE, "The tables")
 abbrev pub sizes : ℕ → ℕ → ℕ → Bool
-sizes T S R = upTo 1 256 T && leb S T && leb R 16
+sizes T S R = upTo 1 mostTracks T && leb S T && leb R mostNumbers
 
 -- a request
 unfoldable pub plan : View → Request → Plan
 plan v (FRESH T S R) = need (sizes T S R) 3 0 (done (0 ∷ []) (renewed T S R ∷ []))
 plan v (LOAD nm n) =
-    need (legal nm && leb n 32767) 3 0
+    need (legal nm && leb n lastPriority) 3 0
     (need (eqb (find (v .book .programs) nm) 0) 6 0
     (need (ltb 0 (lowestUnused (v .book .programs))) 7 0
     (done (lowestUnused (v .book .programs) ∷ []) (on (lowestUnused (v .book .programs)) (loaded nm n) ∷ []))))
 plan v (operator o nm) = need (allowed o) 3 0 (named v nm (order v o))
 plan v TICK =
     need (ltb (v .book .clock) ceiling) 11 0
-    (done (length (keep (λ p. dueAt (v .book) p && eqb (stateOf (v .book) p) 0) all) ∷ [])
+    (done (length (keep (λ p. dueAt (v .book) p && eqb (stateOf (v .book) p) dormant) all) ∷ [])
     (clocked (v .book .clock + 1) ∷ join (map (λ p. ticked p (at (v .book) p)) (keep (dueAt (v .book)) all))))
 plan v (running c) = asCaller v (λ p. call v p c)

@@ -8,6 +8,7 @@ use mathlib.Core.Bool.{Bool, true, false, not, _&&_, _||_}
 use mathlib.Core.List.{List, []}
 use lib.ListN.{length, getD}
 use lib.Dec.{eqb}
+use Rattle.limits.specs.Limits.{dormant, scheduled, general, disc, suspended, states, mostPrograms, mostTracks, mostNumbers, lastPriority}
 use Rattle.lists.specs.Lists.{same, count, upTo, Ascending}
 use Rattle.clock.specs.Clock.{ceiling, farthest}
 use Rattle.records.specs.declared.Why.{Why}
@@ -35,17 +36,17 @@ pub record Zeros (b : Book) : Type 0 where
 
 -- each chain holds just the programs of its state, once, priorities never falling
 pub record Chains (b : Book) (m : List (List ℕ)) : Type 0 where
-  pub member : (s p : ℕ) → 1 ≤ s → s < 7 → Known p → count p (getD m s []) ≡ same (stateOf b p) s
-  pub within : (s p : ℕ) → 1 ≤ s → s < 7 → 1 ≤ count p (getD m s []) → Known p
-  pub rising : (s : ℕ) → 1 ≤ s → s < 7 → Ascending (λ p q. prioOf b p ≤ prioOf b q) (getD m s [])
+  pub member : (s p : ℕ) → 1 ≤ s → s < states → Known p → count p (getD m s []) ≡ same (stateOf b p) s
+  pub within : (s p : ℕ) → 1 ≤ s → s < states → 1 ≤ count p (getD m s []) → Known p
+  pub rising : (s : ℕ) → 1 ≤ s → s < states → Ascending (λ p q. prioOf b p ≤ prioOf b q) (getD m s [])
 
 -- a why fits the state that p is in: nothing in 0, 1 and 6; tracks in 5, count 1 to T; in 3 a son that is used, not dormant and not p, a resource 1 to R, or any number
 abbrev pub suits : Book → ℕ → ℕ → Why → Bool
-suits b p s Nothing = eqb s 0 || eqb s 1 || eqb s 6
-suits b p s (Tracks n) = eqb s 5 && upTo 1 (b .tracks) n
-suits b p s (Son k) = eqb s 3 && known k && at b k .used && not (eqb (stateOf b k) 0) && not (eqb k p)
-suits b p s (Lock r) = eqb s 3 && upTo 1 (b .numbers) r
-suits b p s Number = eqb s 3
+suits b p s Nothing = eqb s dormant || eqb s scheduled || eqb s suspended
+suits b p s (Tracks n) = eqb s disc && upTo 1 (b .tracks) n
+suits b p s (Son k) = eqb s general && known k && at b k .used && not (eqb (stateOf b k) dormant) && not (eqb k p)
+suits b p s (Lock r) = eqb s general && upTo 1 (b .numbers) r
+suits b p s Number = eqb s general
 
 -- each why fits its state, and no son is awaited twice
 pub record Whys (b : Book) : Type 0 where
@@ -70,14 +71,14 @@ pub record Unlocked (b : Book) : Type 0 where
 -- the limits above hold
 pub record Limits (b : Book) : Type 0 where
   pub some : 1 ≤ b .tracks
-  pub most : b .tracks ≤ 256
+  pub most : b .tracks ≤ mostTracks
   pub first : b .system ≤ b .tracks
-  pub few : b .numbers ≤ 16
+  pub few : b .numbers ≤ mostNumbers
   pub time : b .clock ≤ ceiling
-  pub priority : (p : ℕ) → Known p → prioOf b p ≤ 32767
+  pub priority : (p : ℕ) → Known p → prioOf b p ≤ lastPriority
   pub holder : (i : ℕ) → i < b .tracks → holderOf b i ≤ system
   pub owner : (r : ℕ) → Ours b r → numberAt (b .resources) r .owner ≤ globally
-  pub locker : (r : ℕ) → Ours b r → numberAt (b .resources) r .lock ≤ 32
+  pub locker : (r : ℕ) → Ours b r → numberAt (b .resources) r .lock ≤ mostPrograms
 
 -- each due is above the clock and at most clock + 1,474,200,000; intervals are at most 1,474,200,000
 pub record Dues (b : Book) : Type 0 where
@@ -87,11 +88,11 @@ pub record Dues (b : Book) : Type 0 where
 
 -- the lists are as long as what they list, and no chain is kept of dormant programs
 pub record Shape (a : State lists) : Type 0 where
-  pub programs : length (a .book .programs) ≡ 32
+  pub programs : length (a .book .programs) ≡ mostPrograms
   pub holders : length (a .book .holders) ≡ a .book .tracks
   pub resources : length (a .book .resources) ≡ a .book .numbers
-  pub chains : length (a .kept) ≡ 7
-  pub dormant : getD (a .kept) 0 [] ≡ []
+  pub chains : length (a .kept) ≡ states
+  pub dormant : getD (a .kept) dormant [] ≡ []
 
 -- a plain state is sound
 pub record Sound (a : State lists) : Type 0 where

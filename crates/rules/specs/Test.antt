@@ -1,10 +1,11 @@
 -- The clauses of soundness as tests that compute. Each says what its clause says (proofs/ of the tables shows it).
 -- Assumes nothing.
-use Prim.Native.Nat.{ℕ, _+_}
+use Prim.Native.Nat.{ℕ, _+_, _-_}
 use mathlib.Core.Bool.{Bool, true, false, not, _&&_, _||_, Bool·beq}
 use mathlib.Core.List.{List, [], _∷_}
 use lib.ListN.{getD}
 use lib.Dec.{leb, ltb, eqb}
+use Rattle.limits.specs.Limits.{states, mostPrograms, mostTracks, mostNumbers, lastPriority}
 use Rattle.lists.specs.Lists.{same, count, every, along, from, upTo, alike}
 use Rattle.clock.specs.Clock.{ceiling, farthest}
 use Rattle.records.specs.declared.Program.{Program}
@@ -20,7 +21,7 @@ use Rattle.rules.specs.Sound.{suits}
 
 -- a test of every program and its record, every track and its holder, every number
 abbrev pub programs : Book → (ℕ → Program → Bool) → Bool
-programs b f = along missing f 1 32 (b .programs)
+programs b f = along missing f 1 mostPrograms (b .programs)
 
 abbrev pub tracks : Book → (ℕ → ℕ → Bool) → Bool
 tracks b f = along nobody f 0 (b .tracks) (b .holders)
@@ -62,7 +63,7 @@ rising pr (q ∷ qs) = every (λ r. leb (pr q) (pr r)) qs && rising pr qs
 
 unfoldable pub testChains : Book → List (List ℕ) → Bool
 testChains b m =
-    every (λ s. programs b (λ p r. eqb (count p (getD m s [])) (same (r .state) s)) && every known (getD m s []) && rising (prioOf b) (getD m s [])) (from 1 6)
+    every (λ s. programs b (λ p r. eqb (count p (getD m s [])) (same (r .state) s)) && every known (getD m s []) && rising (prioOf b) (getD m s [])) (from 1 (states - 1))
 
 unfoldable pub testWhys : Book → Bool
 testWhys b =
@@ -84,9 +85,9 @@ testUnlocked b = numbers b λ x. not (eqb (x .owner) 0) || eqb (x .lock) 0
 
 unfoldable pub testLimits : Book → Bool
 testLimits b =
-    upTo 1 256 (b .tracks) && leb (b .system) (b .tracks) && leb (b .numbers) 16 && leb (b .clock) ceiling
-    && programs b (λ p r. leb (r .priority) 32767) && tracks b (λ i h. leb h system)
-    && numbers b (λ x. leb (x .owner) globally && leb (x .lock) 32)
+    upTo 1 mostTracks (b .tracks) && leb (b .system) (b .tracks) && leb (b .numbers) mostNumbers && leb (b .clock) ceiling
+    && programs b (λ p r. leb (r .priority) lastPriority) && tracks b (λ i h. leb h system)
+    && numbers b (λ x. leb (x .owner) globally && leb (x .lock) mostPrograms)
 
 unfoldable pub testDues : Book → Bool
 testDues b =
