@@ -3,7 +3,7 @@
 use Prim.Native.Nat.{ℕ, suc, _+_, _-_, _≤_, _<_}
 use native.Mathlib.Omega.{arith}
 use native.Mathlib.Numerals.{add-one}
-use mathlib.Core.Path.{_≡_, sym, ap, _∙_}
+use mathlib.Core.Path.{_≡_, sym, ap, subst, _∙_}
 use mathlib.Core.Logic.{_≢_}
 use mathlib.Core.List.{List, [], _∷_, _++_, append-nil}
 use lib.ListN.{length, getD, set, take, drop, replicate, length-set}
@@ -42,9 +42,9 @@ part-end {l} {w} {ids} {len} {at} P e = record {
 }
 
 -- where the array is full
-pub part-full : {l w ids : List ℕ} {len at : ℕ} → Part l w ids len at → 32 ≤ len → Lists ids len w
+pub part-full : {l w ids : List ℕ} {len at : ℕ} → Part l w ids len at → 32 ≤ len → Lists ids 32 w
 unfolding walk
-part-full {l} {w} {ids} {len} {at} P h = part-end P (ap (walk l at) none)
-  where
-    none : 32 - len ≡ 0
-    none = omega arith
+part-full {l} {w} {ids} {len} {at} P h =
+    let none : 32 - len ≡ 0 = omega arith in
+    let all : len ≡ 32 = omega (arith, P .most) in
+    subst (λ (n : ℕ). Lists ids n w) all (part-end P (ap (walk l at) none))

@@ -55,8 +55,8 @@ relaid l l′ m k p c L hk lo hi len alone keep others most gone lies = record {
         keep (7 + q) (λ e. n (omega arith)) (omega (arith, same-ne (7 + q) k (λ e. omega arith), inner-count q (getD m k []), total-in q m k)) ∙ L .free q none
 
 -- the slots of a chain that is laid out are in the array, and none stands twice
-slots : (l : List ℕ) (m : List (List ℕ)) (k i : ℕ) → Laid l m → k < 7 → 1 ≤ on i k (getD m k []) → i < 40
-slots l m k i L h b = on-range (getD m k []) (λ p c. (L .within p (omega (arith, total-in p m k))) .1) k h i b
+slot-in : (l : List ℕ) (m : List (List ℕ)) (k i : ℕ) → Laid l m → k < 7 → 1 ≤ on i k (getD m k []) → i < 40
+slot-in l m k i L h b = on-range (getD m k []) (λ p c. (L .within p (omega (arith, total-in p m k))) .1) k h i b
 
 each : (l : List ℕ) (m : List (List ℕ)) (k : ℕ) → Laid l m → k < 7 → (i : ℕ) → on i k (getD m k []) ≤ 1
 each l m k L h i = on-once (getD m k []) (λ p. omega (arith, total-in p m k, L .once p)) k h i
@@ -94,7 +94,7 @@ laid-enter pr l m k p at L hk lo hi z e =
     apart w = omega (arith, none, rw (← w) at on-at)
 
     A : getD l′ at 0 ≡ p
-    A = getD-set-same l₁ at p 0 (omega (arith, length-set l (7 + p) v, L .long, slots l m k at L hk on-at))
+    A = getD-set-same l₁ at p 0 (omega (arith, length-set l (7 + p) v, L .long, slot-in l m k at L hk on-at))
 
     B : getD l′ (7 + p) 0 ≡ v
     B = getD-set-other l₁ at (7 + p) p 0 apart ∙ getD-set-same l (7 + p) v 0 (omega (arith, L .long))
@@ -138,17 +138,17 @@ laid-leave l m k p at L hk z e =
     apart = rw e (before-ne p k c (each l m k L hk) (omega (arith, inner-count p c)))
 
     A : getD l′ at 0 ≡ v
-    A = getD-set-other l₁ (7 + p) at 0 0 apart ∙ getD-set-same l at v 0 (omega (arith, L .long, slots l m k at L hk on-at))
+    A = getD-set-other l₁ (7 + p) at 0 0 apart ∙ getD-set-same l at v 0 (omega (arith, L .long, slot-in l m k at L hk on-at))
 
     C : (i : ℕ) → i ≢ at → i ≢ 7 + p → getD l′ i 0 ≡ getD l i 0
     C i n n′ = getD-set-other l₁ (7 + p) i 0 0 n′ ∙ getD-set-other l at i v 0 n
 
 -- what a caller of `enter` and `leave` knows of the slots
 pub enter-at : (pr : ℕ → ℕ) {l : List ℕ} {s p : ℕ} → CanEnter l s p → place pr p s (getD (read l) s []) < 40
-enter-at pr {l} {s} {p} C = slots l (read l) s (place pr p s (getD (read l) s [])) (C .laid) (C .state) (place-on pr p s (getD (read l) s []))
+enter-at pr {l} {s} {p} C = slot-in l (read l) s (place pr p s (getD (read l) s [])) (C .laid) (C .state) (place-on pr p s (getD (read l) s []))
 
 pub leave-at : {l : List ℕ} {s p : ℕ} → CanLeave l s p → before p s (getD (read l) s []) < 40
-leave-at {l} {s} {p} C = slots l (read l) s (before p s (getD (read l) s [])) (C .laid) (C .state) (before-on p s (getD (read l) s []))
+leave-at {l} {s} {p} C = slot-in l (read l) s (before p s (getD (read l) s [])) (C .laid) (C .state) (before-on p s (getD (read l) s []))
 
 pub leave-who : {l : List ℕ} {s p : ℕ} → CanLeave l s p → (1 ≤ p) × (p ≤ 32)
 leave-who {l} {s} {p} C = C .laid .within p (omega (arith, C .there, total-in p (read l) s))

@@ -11,10 +11,10 @@ use Rattle.chains.proofs.chain_of.Statement.{statement}
 use Rattle.chains.proofs.chain_of.Tie as tie
 
 abbrev Inv-loop : tie.InvT-loop
-Inv-loop links state ids₀ len₀ at₀ ids len at = Part links (walk links state 32) ids len at
+Inv-loop links state ids₀ at₀ len₀ ids at len = Part links (walk links state 32) ids len at
 
 abbrev μ-loop : tie.MeasureT-loop
-μ-loop links state ids₀ len₀ at₀ ids len at = 32 - len
+μ-loop links state ids₀ at₀ len₀ ids at len = 32 - len
 
 loop-holds : tie.Need-loop-holds Inv-loop μ-loop
 loop-holds c = record { most = omega arith; full = refl; rest = refl; so-far = refl }
@@ -24,8 +24,7 @@ returns c = part-end (c .before .before .before .loop .inv) (walk-end _ _ _ (sym
 
 loop-again : tie.Need-loop-again Inv-loop μ-loop
 loop-again c =
-    let i = c .before .before .before .before .loop .inv in
-    rw (c .wide .ensures) (part-step _ i (omega arith) (c .before .before .link .ensures) (c .before .if1 .left))
+    part-step _ (c .before .before .before .loop .inv) (omega arith) (c .before .link .ensures) (c .if1 .left)
 
 returns-2 : tie.Need-returns-2 Inv-loop μ-loop
 returns-2 c = part-full (c .before .loop .inv) (omega arith)
@@ -33,5 +32,5 @@ returns-2 c = part-full (c .before .loop .inv) (omega arith)
 pub chain-of-spec : {M : Type 1} → statement M
 chain-of-spec =
     tie.close
-    (tie.spec Inv-loop μ-loop loop-holds (λ c κs. search needs) returns (λ c. omega arith) (λ c. omega arith) (λ c κs. search needs)
+    (tie.spec Inv-loop μ-loop loop-holds (λ c κs. search needs) returns (λ c. omega arith) (λ c. search needs) (λ c. omega arith)
     (λ c. omega arith) (λ c. omega arith) loop-again returns-2)

@@ -1,7 +1,10 @@
 -- `chains::place_of` meets its contract. The loop's invariant: the place in what is left of the chain is the place in the whole. The measure is the walk that is left.
 -- Assumes nothing.
+use Prim.Native.Nat.{ℕ}
+use mir.Syntax.{w64}
+use mir.Val.{Fits}
 use native.Mathlib.Omega.{arith}
-use mathlib.Core.Path.{_≡_, ap}
+use mathlib.Core.Path.{_≡_, refl}
 use mathlib.Core.List.{[]}
 use lib.ListN.{length, getD}
 use borrow.Author.Needs.{needs}
@@ -20,9 +23,7 @@ abbrev μ-loop : tie.MeasureT-loop
 μ-loop state p links programs mine at₀ n₀ at n = length (walk links at 32)
 
 loop-holds : tie.Need-loop-holds Inv-loop μ-loop
-loop-holds c =
-    let a = c .before .before .before in
-    (ap (prioIn (a .args .t2)) (c .before .before .wide .ensures), seek-start _ _ (a .pre .laid) (a .pre .state) (c .wide2 .ensures))
+loop-holds c = (refl, seek-start _ _ (c .before .pre .laid) (c .before .pre .state) refl)
 
 mul-r : tie.Need-mul-r Inv-loop μ-loop
 mul-r c = omega (arith, seek-small (c .before .loop .inv .1) (c .loop-test .taken))
@@ -34,23 +35,30 @@ returns : tie.Need-returns Inv-loop μ-loop
 returns c =
     let h = c .before .before .before in
     let i = h .before .loop .inv in
-    let a = h .before .before .before .before .before .args in
+    let a = h .before .before .before .args in
     seek-stop (i .1) (h .loop-test .taken) (λ qs. place-stop (prioIn (a .t2)) (a .p) _ _ qs (omega (arith, i .0, c .if1 .taken)))
 
 add-at : tie.Need-add-at Inv-loop μ-loop
 add-at c = let h = c .before .before .before in omega (arith, seek-small (h .before .loop .inv .1) (h .loop-test .taken))
 
-array-read-wide-2 : tie.Need-array-read-wide-2 Inv-loop μ-loop
-array-read-wide-2 c = let h = c .before .before .before in omega (arith, seek-small (h .before .loop .inv .1) (h .loop-test .taken))
+array-read-n-2 : tie.Need-array-read-n-2 Inv-loop μ-loop
+array-read-n-2 c = let h = c .before .before .before in omega (arith, seek-small (h .before .loop .inv .1) (h .loop-test .taken))
+
+-- a link is a byte
+small : (s : tie.Start Inv-loop μ-loop) (i : ℕ) → Fits w64 (getD (s .args .t1) i 0)
+small s i = search needs
+
+cast-n-2 : tie.Need-cast-n-2 Inv-loop μ-loop
+cast-n-2 c = small (c .before .before .before .before .before .before) _
 
 loop-less : tie.Need-loop-less Inv-loop μ-loop
-loop-less c = let h = c .before .before .before .before in seek-less (h .before .loop .inv .1) (h .loop-test .taken)
+loop-less c = let h = c .before .before .before in seek-less (h .before .loop .inv .1) (h .loop-test .taken)
 
 loop-again : tie.Need-loop-again Inv-loop μ-loop
 loop-again c =
-    let h = c .before .before .before .before in
+    let h = c .before .before .before in
     let i = h .before .loop .inv in
-    (i .0, seek-step (i .1) (h .loop-test .taken) _ (c .wide3 .ensures) (λ qs. place-past _ _ _ _ qs (omega (arith, i .0, c .before .if1 .left))))
+    (i .0, seek-step (i .1) (h .loop-test .taken) _ refl (λ qs. place-past _ _ _ _ qs (omega (arith, i .0, c .if1 .left))))
 
 returns-2 : tie.Need-returns-2 Inv-loop μ-loop
 returns-2 c = seek-end (c .before .loop .inv .1) (c .loop-test .left)
@@ -58,6 +66,6 @@ returns-2 c = seek-end (c .before .loop .inv .1) (c .loop-test .left)
 pub place-of-spec : {M : Type 1} → statement M
 place-of-spec =
     tie.close
-    (tie.spec Inv-loop μ-loop (λ c κs. search needs) (λ c. omega arith) (λ c. omega arith) (λ c. omega arith) (λ c. omega arith)
-    (λ c κs. search needs) loop-holds (λ c. omega arith) mul-r array-copy-out-r returns add-at array-read-wide-2
-    (λ c κs. search needs) loop-less loop-again returns-2)
+    (tie.spec Inv-loop μ-loop (λ c. omega arith) (λ c. omega arith) (λ c. omega arith) (λ c. omega arith) (λ c. search needs)
+    loop-holds (λ c. omega arith) mul-r array-copy-out-r returns add-at array-read-n-2 cast-n-2 loop-less loop-again
+    returns-2)
