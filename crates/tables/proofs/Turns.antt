@@ -94,33 +94,26 @@ left-says t p C l L =
     (cond-dormant (read (t .links)) (stateOf (plain t .book) p) (remove p (getD (read (t .links)) (stateOf (plain t .book) p) [])) (O .dormant))
     (leave-alike p (C .known) (plain t) (O .notes) (replay-alike t O))
 
-module _ (t : Tables) (p s : ℕ) (x : Program) (C : CanTurn t p) (X : x ≡ at (plain t .book) p) (S : s ≡ x .state) where
-  now : s ≡ stateOf (plain t .book) p
-  now = S ∙ ap (λ (y : Program). y .state) X
-
+module _ (t : Tables) (p : ℕ) (C : CanTurn t p) where
   -- it stands in the chain of its state
-  pub can-leave : s ≢ 0 → CanLeave (t .links) s p
+  pub can-leave : stateOf (plain t .book) p ≢ 0 → CanLeave (t .links) (stateOf (plain t .book) p) p
   can-leave n =
       let O = C .orderly in
-      let h : s < 7 = omega (arith, now, O .states p (C .known)) in
-      record {
-        laid = O .laid;
-        state = h;
-        there = omega (arith, O .accounts .fits s (omega arith) h .member p (C .known), ap (λ (k : ℕ). same k s) now, same-refl s);
-      }
+      let s = stateOf (plain t .book) p in
+      let h : s < 7 = O .states p (C .known) in
+      record { laid = O .laid; state = h; there = omega (arith, O .accounts .fits s (omega arith) h .member p (C .known), same-refl s) }
 
-  module _ (u : Tables) (g : Program) (G : g ≡ inState 0 Nothing x) (U : u ≡ withRecord p g t) where
-    gone : u ≡ withRecord p (inState 0 Nothing (at (plain t .book) p)) t
-    gone = U ∙ ap (λ (y : Program). withRecord p y t) (G ∙ ap (inState 0 Nothing) X)
-
-    pub left-none : s ≡ 0 → Says u (leave lists p (plain t))
+  module _ (g : Program) (G : g ≡ inState 0 Nothing (at (plain t .book) p)) where
+    pub left-none : stateOf (plain t .book) p ≡ 0 → Says (withRecord p g t) (leave lists p (plain t))
     left-none e =
-        subst (λ (y : Tables). Says y (leave lists p (plain t))) (sym gone)
-        (left-says t p C (t .links) (rw (eq-eqb (stateOf (plain t .book) p) 0 (sym now ∙ e)) (C .orderly .laid)))
+        subst (λ (y : Program). Says (withRecord p y t) (leave lists p (plain t))) (sym G)
+        (left-says t p C (t .links) (rw (eq-eqb (stateOf (plain t .book) p) 0 e) (C .orderly .laid)))
 
-    pub left-some : (l : List ℕ) → s ≢ 0 → Laid l (left s p (read (t .links))) → Says (relinked l u) (leave lists p (plain t))
+    pub left-some : (l : List ℕ) → stateOf (plain t .book) p ≢ 0 → Laid l (left (stateOf (plain t .book) p) p (read (t .links)))
+        → Says (relinked l (withRecord p g t)) (leave lists p (plain t))
     left-some l n L =
-        subst (λ (y : Tables). Says (relinked l y) (leave lists p (plain t))) (sym gone) (left-says t p C l (rw (← now, ne-eqb s 0 n) L))
+        subst (λ (y : Program). Says (relinked l (withRecord p y t)) (leave lists p (plain t))) (sym G)
+        (left-says t p C l (rw (ne-eqb (stateOf (plain t .book) p) 0 n) L))
 
 -- p enters: it can, since it is in no chain
 pub can-enter : (t : Tables) (p s : ℕ) → CanJoin t p s → CanEnter (t .links) s p
@@ -151,21 +144,17 @@ entered-says t p s w C l L =
     (cond-dormant (read (t .links)) s (insert (prioOf (put p x (plain t .book))) p (getD (read (t .links)) s [])) (O .dormant))
     (enter-alike p (C .known) s w (plain t) (O .notes) (replay-alike t O) (C .out))
 
-module _ (t : Tables) (p s : ℕ) (w : Why) (x : Program) (C : CanJoin t p s) (X : x ≡ at (plain t .book) p) (u : Tables) (g : Program)
-    (G : g ≡ inState s w x) (U : u ≡ withRecord p g t) where
-  there : u ≡ withRecord p (inState s w (at (plain t .book) p)) t
-  there = U ∙ ap (λ (y : Program). withRecord p y t) (G ∙ ap (inState s w) X)
-
-  pub entered-none : s ≡ 0 → Says u (enter lists p s w (plain t))
+module _ (t : Tables) (p s : ℕ) (w : Why) (C : CanJoin t p s) (g : Program) (G : g ≡ inState s w (at (plain t .book) p)) where
+  pub entered-none : s ≡ 0 → Says (withRecord p g t) (enter lists p s w (plain t))
   entered-none e =
-      subst (λ (y : Tables). Says y (enter lists p s w (plain t))) (sym there)
+      subst (λ (y : Program). Says (withRecord p y t) (enter lists p s w (plain t))) (sym G)
       (entered-says t p s w C (t .links) (rw (eq-eqb s 0 e) (C .orderly .laid)))
 
-  pub entered-some : (k : ℕ) (l : List ℕ) → k ≡ s → s ≢ 0 → Laid l (entered (prioIn (u .ledger .programs)) k p (read (t .links)))
-      → Says (relinked l u) (enter lists p s w (plain t))
-  entered-some k l e n L =
-      subst (λ (y : Tables). Laid l (entered (prioIn (y .ledger .programs)) s p (read (t .links))) → Says (relinked l y) (enter lists p s w (plain t))) (sym there)
-      (λ M. entered-says t p s w C l (rw (ne-eqb s 0 n) M)) (rw e at L)
+  pub entered-some : (l : List ℕ) → s ≢ 0 → Laid l (entered (prioIn (withRecord p g t .ledger .programs)) s p (read (t .links)))
+      → Says (relinked l (withRecord p g t)) (enter lists p s w (plain t))
+  entered-some l n =
+      subst (λ (y : Program). Laid l (entered (prioIn (withRecord p y t .ledger .programs)) s p (read (t .links))) → Says (relinked l (withRecord p y t)) (enter lists p s w (plain t))) (sym G)
+      (λ M. entered-says t p s w C l (rw (ne-eqb s 0 n) M))
 
 -- the deeds: a step on a known program is its act
 pub says-as : {r : Tables} {a b : State lists} → a ≡ b → Says r a → Says r b

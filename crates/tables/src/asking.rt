@@ -92,9 +92,8 @@ impl Tables {
         ensures { λ r. ⌜ told r ≡ asked self (theRequest name q) ⌝ }
     {
         if self.tested() {
-            let book = self.ledger;
             let c = self.caller();
-            return self.carry(name, decisions::decide(book, c, name, q));
+            return self.carry(name, decisions::decide(self.ledger, c, name, q));
         }
         self.refused(Answer::NotSound)
     }

@@ -17,9 +17,8 @@ impl Tables {
     {
         let mut ledger = self.ledger;
         ledger.tracks = tracks;
-        let mut t = self;
-        t.ledger = ledger;
-        t
+        let links = self.links;
+        Tables { ledger, links }
     }
 
     // The resource numbers are others.
@@ -29,9 +28,8 @@ impl Tables {
     {
         let mut ledger = self.ledger;
         ledger.numbers = numbers;
-        let mut t = self;
-        t.ledger = ledger;
-        t
+        let links = self.links;
+        Tables { ledger, links }
     }
 
     // The clock has another reading.
@@ -41,8 +39,7 @@ impl Tables {
     {
         let mut ledger = self.ledger;
         ledger.clock = Clock::from_ticks(ticks);
-        let mut t = self;
-        t.ledger = ledger;
-        t
+        let links = self.links;
+        Tables { ledger, links }
     }
 }

@@ -1,53 +1,31 @@
-// The steps that calls are made of: a program leaves its chain, enters one, has its record replaced; and the deeds made of these.
+// The steps that calls are made of: a program leaves its chain, enters one, has its record replaced; and the deeds made of these. Each step takes the ledger and the
+// links out of the tables once, changes them where they are, and puts tables together again.
 ghost use mathlib.Core.Path.{_≡_};
 ghost use mathlib.Core.List.{[], _∷_};
-ghost use Rattle.records.specs.Records.{Known};
+ghost use Rattle.limits.specs.Limits.{scheduled, general};
 ghost use Rattle.records.specs.declared.Why.the-variants.{Nothing, Son};
-ghost use Rattle.rules.specs.Book.{at};
 ghost use Rattle.rules.specs.Plans.{becomes, priced, loaded, unloaded, timed, on};
 ghost use Rattle.rules.specs.Keeper.{lists, leave, enter, amend};
 ghost use Rattle.tables.specs.Tables.{plain};
-ghost use Rattle.tables.specs.Inner.{Says, Played, CanTurn, CanJoin, CanAmend, CanBecome, CanAwait, withRecord};
+ghost use Rattle.tables.specs.Inner.{Says, Played, CanTurn, CanJoin, CanAmend, CanBecome, CanAwait};
 use super::Tables;
+use limits::DORMANT;
+use limits::GENERAL;
+use limits::SCHEDULED;
 use records::Program;
 use records::Why;
 
-fn wide(x: u8) -> usize
-    ensures { λ r. ⌜ r ≡ x ⌝ }
-{
-    x as usize
-}
-
 impl Tables {
-    // The record of program p.
-    pub(crate) fn record(self, p: u8) -> Program
-        requires { ⌜ Known p ⌝ }
-        ensures { λ r. ⌜ r ≡ at (plain self .book) p ⌝ }
-    {
-        let i = wide(p) - 1;
-        let ledger = self.ledger;
-        ledger.programs[i]
-    }
-
-    // The tables with another record of p, whatever it is.
-    fn with_record(self, p: u8, r: Program) -> Tables
-        requires { ⌜ Known p ⌝ }
-        ensures { λ t. ⌜ t ≡ withRecord p r self ⌝ }
-    {
-        let i = wide(p) - 1;
-        let mut ledger = self.ledger;
-        ledger.programs[i] = r;
-        let mut t = self;
-        t.ledger = ledger;
-        t
-    }
-
     // p's record is replaced.
     pub(crate) fn amended(self, p: u8, r: Program) -> Tables
         requires { ⌜ CanAmend self p r ⌝ }
         ensures { λ t. ⌜ Says t (amend lists p r (plain self)) ⌝ }
     {
-        self.with_record(p, r)
+        let i = p as usize - 1;
+        let mut ledger = self.ledger;
+        ledger.programs[i] = r;
+        let links = self.links;
+        Tables { ledger, links }
     }
 
     // p leaves its chain and is dormant.
@@ -55,16 +33,19 @@ impl Tables {
         requires { ⌜ CanTurn self p ⌝ }
         ensures { λ t. ⌜ Says t (leave lists p (plain self)) ⌝ }
     {
-        let r = self.record(p);
-        let state = wide(r.state);
-        let gone = r.in_state(0, Why::Nothing);
-        let mut t = self.with_record(p, gone);
-        if state != 0 {
-            let links = self.links;
-            let l = chains::leave(links, state, p);
-            t.links = l;
+        let i = p as usize - 1;
+        let mut ledger = self.ledger;
+        let links = self.links;
+        let r = ledger.programs[i];
+        ledger.programs[i] = r.in_state(DORMANT, Why::Nothing);
+        if r.state == DORMANT {
+            return Tables { ledger, links };
         }
-        t
+        let rest = chains::leave(links, r.state as usize, p);
+        Tables {
+            ledger,
+            links: rest,
+        }
     }
 
     // p, which stands in no chain, takes a state for a reason, and enters its chain.
@@ -72,17 +53,20 @@ impl Tables {
         requires { ⌜ CanJoin self p state ⌝ }
         ensures { λ t. ⌜ Says t (enter lists p state why (plain self)) ⌝ }
     {
-        let r = self.record(p);
-        let there = r.in_state(state, why);
-        let mut t = self.with_record(p, there);
-        if state != 0 {
-            let links = self.links;
-            let ledger = t.ledger;
-            let programs = ledger.programs;
-            let l = chains::enter(links, programs, wide(state), p);
-            t.links = l;
+        let i = p as usize - 1;
+        let mut ledger = self.ledger;
+        let links = self.links;
+        let r = ledger.programs[i];
+        ledger.programs[i] = r.in_state(state, why);
+        if state == DORMANT {
+            return Tables { ledger, links };
         }
-        t
+        let programs = ledger.programs;
+        let more = chains::enter(links, programs, state as usize, p);
+        Tables {
+            ledger,
+            links: more,
+        }
     }
 
     // p takes a state for a reason.
@@ -97,10 +81,10 @@ impl Tables {
     // p is sent off, and c waits for it.
     pub(crate) fn awaited(self, p: u8, c: u8) -> Tables
         requires { ⌜ CanAwait p c self ⌝ }
-        ensures { λ t. ⌜ Played self (on p (becomes 1 Nothing) ∷ on c (becomes 3 (Son p)) ∷ []) t ⌝ }
+        ensures { λ t. ⌜ Played self (on p (becomes scheduled Nothing) ∷ on c (becomes general (Son p)) ∷ []) t ⌝ }
     {
-        let t = self.becomes(p, 1, Why::Nothing);
-        t.becomes(c, 3, Why::Son(p))
+        let t = self.becomes(p, SCHEDULED, Why::Nothing);
+        t.becomes(c, GENERAL, Why::Son(p))
     }
 
     // p is priced anew, and enters its chain anew.
@@ -108,13 +92,15 @@ impl Tables {
         requires { ⌜ CanTurn self p ⌝ }
         ensures { λ t. ⌜ Played self (on p (priced n) ∷ []) t ⌝ }
     {
-        let before = self.record(p);
-        let state = before.state;
-        let why = before.why;
+        let i = p as usize - 1;
+        let book = self.ledger;
+        let old = book.programs[i];
+        let why = old.why;
         let out = self.left(p);
-        let r = out.record(p);
+        let rest = out.ledger;
+        let r = rest.programs[i];
         let t = out.amended(p, r.with_priority(n));
-        t.entered(p, state, why)
+        t.entered(p, old.state, why)
     }
 
     // p's record takes a new program.
@@ -140,7 +126,11 @@ impl Tables {
         requires { ⌜ CanTurn self p ⌝ }
         ensures { λ t. ⌜ Played self (on p (timed due interval) ∷ []) t ⌝ }
     {
-        let r = self.record(p);
-        self.amended(p, r.with_timer(due, interval))
+        let i = p as usize - 1;
+        let mut ledger = self.ledger;
+        let r = ledger.programs[i];
+        ledger.programs[i] = r.with_timer(due, interval);
+        let links = self.links;
+        Tables { ledger, links }
     }
 }

@@ -6,7 +6,7 @@ use Rattle.tables.proofs.Tables.amended.Statement.{statement}
 use Rattle.tables.proofs.Tables.amended.Tie as tie
 
 returns : tie.Need-returns
-returns c = rw (c .with-record .ensures) (amended-says _ _ _ (c .before .pre))
+returns c = amended-says _ _ _ (c .before .before .pre)
 
 pub amended-spec : {M : Type 1} → statement M
-amended-spec = tie.close (tie.spec (λ c κs. search needs) returns)
+amended-spec = tie.close (tie.spec (λ c. search needs) (λ c. search needs) (λ c. search needs) returns)

@@ -9,7 +9,7 @@ use Rattle.tables.proofs.Tables.clocked.Lts as lts
 use Rattle.clock.proofs.Clock.from_ticks.Reads as from-ticks-reads
 
 returns : tie.Need-returns
-returns c = was-clocked _ _ _ (c .before .before .pre) (c .from-ticks .ensures)
+returns c = was-clocked _ _ _ (c .before .before .before .pre) (c .before .from-ticks .ensures)
 
 pub clocked-spec : {M : Type 1} → statement M
 clocked-spec = tie.close (tie.spec (λ c κs. search needs) returns)

@@ -5,24 +5,24 @@ use Rattle.tables.proofs.Turns.{can-enter, entered-none, entered-some}
 use Rattle.tables.proofs.Tables.entered.Statement.{statement}
 use Rattle.tables.proofs.Tables.entered.Tie as tie
 
-enter-requires : tie.Need-enter-requires
-enter-requires c κs = rw (c .wide .ensures) (can-enter _ _ _ (c .before .before .before .before .before .before .before .before .pre))
+-- the start, from where the record has been read
+abbrev start : tie.After-in-state → tie.Start
+start i = i .before .before .before .before
 
 returns : tie.Need-returns
-returns c =
-    let u = c .before .before .before .before .before .before in
-    let r = u .before .before in
-    entered-some _ _ _ _ _ (r .before .pre) (r .«record» .ensures) _ _ (u .before .in-state .ensures) (u .with-record .ensures) _ _ (c .before .wide .ensures)
-    (c .before .before .before .before .before .if1 .taken) (c .enter .ensures)
+returns c = let i = c .before in entered-none _ _ _ _ (start i .pre) _ (i .in-state .ensures) (c .if1 .taken)
+
+enter-requires : tie.Need-enter-requires
+enter-requires c κs = can-enter _ _ _ (start (c .before .before) .pre)
 
 returns-2 : tie.Need-returns-2
 returns-2 c =
-    let u = c .before in
-    let r = u .before .before in
-    entered-none _ _ _ _ _ (r .before .pre) (r .«record» .ensures) _ _ (u .before .in-state .ensures) (u .with-record .ensures) (c .if1 .left)
+    let e = c .before .before in
+    let i = e .before in
+    entered-some _ _ _ _ (start i .pre) _ (i .in-state .ensures) _ (e .if1 .left) (c .enter .ensures)
 
 pub entered-spec : {M : Type 1} → statement M
 entered-spec =
     tie.close
-    (tie.spec (λ c κs. search needs) (λ c κs. search needs) (λ c κs. search needs) (λ c κs. search needs) enter-requires returns
-    returns-2)
+    (tie.spec (λ c. search needs) (λ c. search needs) (λ c. search needs) (λ c κs. search needs) (λ c. search needs)
+    (λ c. search needs) returns enter-requires returns-2)

@@ -7,7 +7,7 @@ use Rattle.tables.proofs.Tables.held.Reads as reads
 use Rattle.tables.proofs.Tables.held.Lts as lts
 
 returns : tie.Need-returns
-returns c = was-held _ _ (c .before .pre)
+returns c = was-held _ _ (c .before .before .pre)
 
 pub held-spec : {M : Type 1} → statement M
 held-spec = tie.close (tie.spec returns)

@@ -7,7 +7,7 @@ use Rattle.tables.proofs.Tables.numbered.Reads as reads
 use Rattle.tables.proofs.Tables.numbered.Lts as lts
 
 returns : tie.Need-returns
-returns c = was-numbered _ _ (c .before .pre)
+returns c = was-numbered _ _ (c .before .before .pre)
 
 pub numbered-spec : {M : Type 1} → statement M
 numbered-spec = tie.close (tie.spec returns)
