@@ -1,5 +1,5 @@
--- How one array of links lays out the chains. Slot s, 0 to 6, is the head of the chain of state s, and slot 7 + p the link of program p; a link is
--- the number of the program that comes next, or 0 for the end.
+-- How one array of links lays out the chains. Slot s, 0 to 6, is the head of the chain of state s, and
+-- slot 7 + p the link of program p; a link is the number of the program that comes next, or 0 for the end.
 -- Assumes nothing.
 use Prim.Native.Nat.{ℕ, zero, suc, _+_, _-_, _≤_, _<_}
 use mathlib.Core.Path.{_≡_}
@@ -43,7 +43,8 @@ abbrev pub total : ℕ → List (List ℕ) → ℕ
 total p [] = 0
 total p (c ∷ m) = count p c + total p m
 
--- the links lead along the chains, and other links are zero: the heads of no chain, and the links of programs in none (OUTLINE, "The tables")
+-- the links lead along the chains, and other links are zero: the heads
+-- of no chain, and the links of programs in none (OUTLINE, "The tables")
 pub record Links (l : List ℕ) : Type 0 where
   pub along : (s : ℕ) → 1 ≤ s → s < states → Leads l s (getD (read l) s [])
   pub none : getD l dormant 0 ≡ 0
@@ -52,7 +53,8 @@ pub record Links (l : List ℕ) : Type 0 where
 unfoldable pub testLinks : List ℕ → Bool
 testLinks l =
     let m : List (List ℕ) = read l in
-    every (λ s. leads l s (getD m s [])) (from 1 (states - 1)) && eqb (getD l dormant 0) 0 && every (λ p. not (eqb (total p m) 0) || eqb (getD l (states + p) 0) 0) (from 0 (mostPrograms + 1))
+    every (λ s. leads l s (getD m s [])) (from 1 (states - 1)) && eqb (getD l dormant 0) 0
+    && every (λ p. not (eqb (total p m) 0) || eqb (getD l (states + p) 0) 0) (from 0 (mostPrograms + 1))
 
 -- a chain laid out from slot s, and all of them from slot s on
 abbrev pub layChain : List ℕ → ℕ → List ℕ → List ℕ

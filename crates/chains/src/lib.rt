@@ -1,5 +1,5 @@
-// Chains of programs in one array of links: slot s, 0 to 6, is the head of the chain of state s, and slot 7 + p the link of program p. A link is the
-// number of the program that comes next, or 0 for the end.
+// Chains of programs in one array of links: slot s, 0 to 6, is the head of the chain of state s, and slot
+// 7 + p the link of program p. A link is the number of the program that comes next, or 0 for the end.
 ghost use mathlib.Core.Path.{_≡_};
 ghost use Prim.Native.Nat.{_<_};
 ghost use mathlib.Core.List.{[]};

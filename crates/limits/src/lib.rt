@@ -1,4 +1,5 @@
-// The outline's figures, once for all crates: the states of a program, and how much there may be of each thing. The definitions have theirs in specs/Limits.antt.
+// The outline's figures, once for all crates: the states of a program, and how much
+// there may be of each thing. The definitions have theirs in specs/Limits.antt.
 
 // The states that a program may be in.
 pub const DORMANT: u8 = 0;

@@ -1,4 +1,5 @@
--- Lists, as the definitions of the other crates use them: how often a number stands in one, those that pass a test, the first that does. Nothing of the outline stands here.
+-- Lists, as the definitions of the other crates use them: how often a number stands in
+-- one, those that pass a test, the first that does. Nothing of the outline stands here.
 -- Assumes nothing.
 use Prim.Native.Nat.{ℕ, zero, suc, _+_, _≤_}
 use mathlib.Core.Bool.{Bool, true, false, cond, _&&_, _||_}

@@ -37,7 +37,8 @@ abbrev pub inState : ℕ → Why → Program → Program
 inState s w r = record { used = r .used; name = r .name; priority = r .priority; state = s; why = w; due = r .due; interval = r .interval }
 
 abbrev pub withPriority : ℕ → Program → Program
-withPriority n r = record { used = r .used; name = r .name; priority = n; state = r .state; why = r .why; due = r .due; interval = r .interval }
+withPriority n r =
+    record { used = r .used; name = r .name; priority = n; state = r .state; why = r .why; due = r .due; interval = r .interval }
 
 abbrev pub withTimer : ℕ → ℕ → Program → Program
 withTimer d i r = record { used = r .used; name = r .name; priority = r .priority; state = r .state; why = r .why; due = d; interval = i }

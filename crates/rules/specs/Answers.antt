@@ -4,7 +4,9 @@ use Prim.Native.Nat.{ℕ}
 use mathlib.Core.List.{List, [], _∷_}
 use Rattle.clock.specs.Clock.{partsOf}
 use Rattle.rules.specs.declared.Answer.{Answer}
-use Rattle.rules.specs.declared.Answer.the-variants.{Done, Told, Waits, NoCaller, NotAllowed, NoProgram, WrongState, NameInUse, AllUsed, NoRoom, NotHolder, NotAllocated, AtCeiling, TooShort, NotUnderstood, NotSound}
+use Rattle.rules.specs.declared.Answer.the-variants.{Done, Told, Waits, NoCaller, NotAllowed, NoProgram, WrongState, NameInUse}
+use Rattle.rules.specs.declared.Answer.the-variants.{AllUsed, NoRoom, NotHolder, NotAllocated, AtCeiling, TooShort, NotUnderstood}
+use Rattle.rules.specs.declared.Answer.the-variants.{NotSound}
 
 abbrev pub number : Answer → ℕ
 number (Done v) = 0

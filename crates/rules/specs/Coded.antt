@@ -5,7 +5,8 @@ use mathlib.Core.List.{List}
 use Rattle.rules.specs.declared.Order.{Order}
 use Rattle.rules.specs.declared.Order.the-variants.{Ru, Ss, Go, Pr, Of}
 use Rattle.rules.specs.declared.Call.{Call}
-use Rattle.rules.specs.declared.Call.the-variants.{Exec4, Exec15, Exec5, Exec16, Exec5All, Exec6, Exec7, Exec11, Exec9, Exec10, Exec12, Alloc, Lock, Clear, Free}
+use Rattle.rules.specs.declared.Call.the-variants.{Exec4, Exec15, Exec5, Exec16, Exec5All, Exec6, Exec7, Exec11, Exec9, Exec10}
+use Rattle.rules.specs.declared.Call.the-variants.{Exec12, Alloc, Lock, Clear, Free}
 use Rattle.rules.specs.declared.Request.{Request}
 use Rattle.rules.specs.declared.Request.the-variants.{Fresh, Load, Operator, Tick, Running}
 use Rattle.rules.specs.Requests as requests

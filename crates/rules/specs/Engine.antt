@@ -1,4 +1,5 @@
--- What calls hand back, whatever keeps the tables; and what an engine is, so that the code's tables and the replay of demand 3 are two of one kind.
+-- What calls hand back, whatever keeps the tables; and what an engine is,
+-- so that the code's tables and the replay of demand 3 are two of one kind.
 -- Assumes nothing.
 use Prim.Native.Nat.{ℕ}
 use mathlib.Core.Bool.{Bool, true, false, cond}
@@ -36,7 +37,8 @@ front bytes buf = bytes ++ drop (length bytes) buf
 -- FRESH, which takes no tables, where `new` makes fresh ones: refused it yields the smallest
 unfoldable pub madeBy : {S : Type 0} → (ℕ → ℕ → ℕ → S) → ℕ → ℕ → ℕ → Reply S
 madeBy new T S R =
-    cond (sizes T S R) (record { number = 0; values = 0 ∷ []; tables = new T S R }) (record { number = 3; values = 0 ∷ []; tables = new 1 0 0 })
+    cond (sizes T S R) (record { number = 0; values = 0 ∷ []; tables = new T S R })
+    (record { number = 3; values = 0 ∷ []; tables = new 1 0 0 })
 
 -- An engine keeps the tables in some form: whether they are sound, what a request comes to, fresh ones, and the bytes of their page.
 pub record Engine : Type 1 where

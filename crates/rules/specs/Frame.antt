@@ -1,5 +1,6 @@
--- Whose record a request may alter (demand 3): its caller's, that of the program named in it, those due at the tick, and those it wakes. Caller, named and due are told from the request and
--- the state before, woken from what the plan sets free and the state before. Where nothing happens nobody is concerned.
+-- Whose record a request may alter (demand 3): its caller's, that of the program named in it, those due
+-- at the tick, and those it wakes. Caller, named and due are told from the request and the state before,
+-- woken from what the plan sets free and the state before. Where nothing happens nobody is concerned.
 -- Assumes nothing.
 use Prim.Native.Nat.{ℕ, _≤_}
 use mathlib.Core.Path.{_≡_}
@@ -31,7 +32,8 @@ pub data Woken (v : View) (R : Release) (x : ℕ) : Type 0 where
   tracks-freed : 1 ≤ R .tracks → 1 ≤ count x (v .chain disc) → Woken v R x
   reason-gone : awaits R (whyOf (v .book) x) ≡ true → 1 ≤ count x (v .chain general) → Woken v R x
 
--- The programs that a request concerns: where something happens, those that have to do with it, or all if it is FRESH; and those whom what it sets free wakes.
+-- The programs that a request concerns: where something happens, those that have
+-- to do with it, or all if it is FRESH; and those whom what it sets free wakes.
 pub data Concerned (v : View) (q : Request) (x : ℕ) : Type 0 where
   party : eventsOf v (plan v q) ≢ [] → Party v x q → Concerned v q x
   anew : eventsOf v (plan v q) ≢ [] → (T S R : ℕ) → q ≡ FRESH T S R → Concerned v q x

@@ -13,7 +13,8 @@ use Rattle.records.specs.declared.Why.the-variants.{Nothing}
 use Rattle.records.specs.Records.{known, all, unused, newcomer, inState, withPriority, withTimer}
 use Rattle.rules.specs.Book.{Book, at, stateOf, prioOf, whyOf, put, withClock, withHolders, withResources, freshBook}
 use Rattle.rules.specs.Requests.{Request}
-use Rattle.rules.specs.Plans.{Deed, becomes, wakes, priced, loaded, unloaded, timed, Event, on, clocked, held, numbered, renewed, Plan, View, eventsOf}
+use Rattle.rules.specs.Plans.{Deed, becomes, wakes, priced, loaded, unloaded, timed, Event, on, clocked, held, numbered, renewed}
+use Rattle.rules.specs.Plans.{Plan, View, eventsOf}
 use Rattle.rules.specs.Rules.{plan}
 
 -- What is kept of the order; the chain of a state, lowest first; what entering a chain and leaving it do to what is kept.

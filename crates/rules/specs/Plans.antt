@@ -1,4 +1,5 @@
--- What a request comes to: an answer, and what happens. Who wakes is read off the chains of those who wait; how chains are kept is a keeper's concern.
+-- What a request comes to: an answer, and what happens. Who wakes is read off
+-- the chains of those who wait; how chains are kept is a keeper's concern.
 -- Assumes nothing.
 use Prim.Native.Nat.{ℕ}
 use mathlib.Core.Bool.{Bool, true, false, cond, _&&_}
@@ -12,8 +13,9 @@ use Rattle.records.specs.declared.Why.{Why}
 use Rattle.records.specs.declared.Why.the-variants.{Nothing, Tracks, Son, Lock, Number}
 use Rattle.rules.specs.Book.{Book, whyOf}
 
--- What may happen to a program's record: it takes a state for a reason, leaving its chain and entering the new one; its wait is over and it is scheduled; it is
--- priced anew, leaving its chain and entering it again; it is loaded; it is made unused; its timer is set, or goes where the due is 0.
+-- What may happen to a program's record: it takes a state for a reason, leaving its chain and entering
+-- the new one; its wait is over and it is scheduled; it is priced anew, leaving its chain and entering
+-- it again; it is loaded; it is made unused; its timer is set, or goes where the due is 0.
 pub data Deed : Type 0 where
   becomes : ℕ → Why → Deed
   wakes : Deed
@@ -30,14 +32,16 @@ pub data Event : Type 0 where
   numbered : List Resource → Event
   renewed : ℕ → ℕ → ℕ → Event
 
--- What a call sets free (OUTLINE, "Ending and waking"): the program that ended, or 0; how many tracks; which numbers were cleared or deallocated; whether one was deallocated.
+-- What a call sets free (OUTLINE, "Ending and waking"): the program that ended, or 0; how
+-- many tracks; which numbers were cleared or deallocated; whether one was deallocated.
 pub record Release : Type 0 where
   pub ended : ℕ
   pub tracks : ℕ
   pub cleared : ℕ → Bool
   pub dealt : Bool
 
--- A refusal, with its number and value; or it is done, with its values; or it is done and sets something free, and those wake who waited for that; or the caller now waits in a state.
+-- A refusal, with its number and value; or it is done, with its values; or it is done and sets
+-- something free, and those wake who waited for that; or the caller now waits in a state.
 pub data Plan : Type 0 where
   refused : ℕ → ℕ → Plan
   done : List ℕ → List Event → Plan

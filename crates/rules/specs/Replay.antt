@@ -1,4 +1,5 @@
--- What demand 3 says of the chains: the history replayed with no chain kept notes each program's state, its priority, and when it last entered its chain.
+-- What demand 3 says of the chains: the history replayed with no chain kept
+-- notes each program's state, its priority, and when it last entered its chain.
 -- Assumes nothing.
 use Prim.Native.Nat.{ℕ, _≤_, _<_}
 use mathlib.Core.Path.{_≡_}
@@ -24,7 +25,8 @@ pub record Fits (b : Book) (en : ℕ → ℕ) (s : ℕ) (c : List ℕ) : Type 0 
 -- entries that fit the chains of a state: each is below the next one, and no two programs in chains have the same
 pub record Accounts (a : State lists) (e : Entries) : Type 0 where
   pub early : (z : ℕ) → e .entry z < e .next
-  pub apart : (y z : ℕ) → Known y → Known z → stateOf (a .book) y ≢ dormant → stateOf (a .book) z ≢ dormant → e .entry y ≡ e .entry z → y ≡ z
+  pub apart : (y z : ℕ) → Known y → Known z → stateOf (a .book) y ≢ dormant → stateOf (a .book) z ≢ dormant
+      → e .entry y ≡ e .entry z → y ≡ z
   pub fits : (s : ℕ) → 1 ≤ s → s < states → Fits (a .book) (e .entry) s (getD (a .kept) s [])
 
 -- p is in state s, and before every other program in it

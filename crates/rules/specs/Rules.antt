@@ -1,4 +1,5 @@
--- The outline's rules, each once, its tests in the order 2, 3, 4, 6, 7, 10, 9, 5, 8, 11 (OUTLINE, "Answer numbers"). 14, 13 and 12 are tested where the tables, the line and the buffer are.
+-- The outline's rules, each once, its tests in the order 2, 3, 4, 6, 7, 10, 9, 5, 8, 11 (OUTLINE,
+-- "Answer numbers"). 14, 13 and 12 are tested where the tables, the line and the buffer are.
 -- Assumes nothing.
 use Prim.Native.Nat.{ℕ, _+_, _*_}
 use mathlib.Core.Bool.{Bool, true, false, cond, _&&_, _||_}
@@ -17,8 +18,10 @@ use Rattle.records.specs.Records.{all, find, lowestUnused}
 use Rattle.records.specs.Numbers.{globally, numberAt, withNumber, concerns, without}
 use Rattle.tracks.specs.Tracks.{nobody, everybody, run, lowest, filled, replaced}
 use Rattle.rules.specs.Book.{Book, at, stateOf, prioOf}
-use Rattle.rules.specs.Requests.{Order, RU, SS, GO, PR, OF, Call, EXEC4, EXEC15, EXEC5, EXEC16, EXEC5ALL, EXEC6, EXEC7, EXEC11, EXEC9, EXEC10, EXEC12, ALLOC, LOCK, CLEAR, FREE, Request, FRESH, LOAD, operator, TICK, running}
-use Rattle.rules.specs.Plans.{becomes, priced, loaded, unloaded, timed, Event, on, clocked, held, numbered, renewed, Release, Plan, refused, done, releasing, waiting, View, woken, need, either, found}
+use Rattle.rules.specs.Requests.{Order, RU, SS, GO, PR, OF, Call, EXEC4, EXEC15, EXEC5, EXEC16, EXEC5ALL, EXEC6, EXEC7, EXEC11}
+use Rattle.rules.specs.Requests.{EXEC9, EXEC10, EXEC12, ALLOC, LOCK, CLEAR, FREE, Request, FRESH, LOAD, operator, TICK, running}
+use Rattle.rules.specs.Plans.{becomes, priced, loaded, unloaded, timed, Event, on, clocked, held, numbered, renewed, Release, Plan}
+use Rattle.rules.specs.Plans.{refused, done, releasing, waiting, View, woken, need, either, found}
 
 -- the program of that name: 3 where the name is not legal, 4 where there is none
 unfoldable pub named : View → List ℕ → (ℕ → Plan) → Plan
@@ -82,7 +85,8 @@ dueAt b p = eqb (at b p .due) (b .clock + 1)
 
 abbrev pub ticked : ℕ → Program → List Event
 ticked p r =
-    on p (timed (cond (eqb (r .interval) 0) 0 (r .due + r .interval)) (r .interval)) ∷ cond (eqb (r .state) dormant) (on p (becomes scheduled Nothing) ∷ []) []
+    on p (timed (cond (eqb (r .interval) 0) 0 (r .due + r .interval)) (r .interval))
+    ∷ cond (eqb (r .state) dormant) (on p (becomes scheduled Nothing) ∷ []) []
 
 -- EXEC 4 and 15: the lowest run of n free tracks becomes h's
 unfoldable pub takes : View → ℕ → ℕ → ℕ → ℕ → Plan
@@ -120,7 +124,9 @@ call v c EXEC5ALL =
 call v c EXEC6 = releasing (length (woken v (ends v c 0)) ∷ []) (on c (becomes dormant Nothing) ∷ quit v c ∷ []) (ends v c 0)
 call v c EXEC7 = done (0 ∷ []) (on c (becomes suspended Nothing) ∷ [])
 call v c EXEC11 = done (timeOf (v .book .clock)) []
-call v c (EXEC9 nm) = named v nm λ p. inside v p dormant (waiting general (on p (becomes scheduled Nothing) ∷ on c (becomes general (Son p)) ∷ []))
+call v c (EXEC9 nm) =
+    named v nm λ p. inside v p dormant
+    (waiting general (on p (becomes scheduled Nothing) ∷ on c (becomes general (Son p)) ∷ []))
 call v c (EXEC10 nm) = named v nm λ p. inside v p dormant (done (p ∷ []) (on p (becomes scheduled Nothing) ∷ []))
 call v c (EXEC12 nm res mult off) =
     need (upTo 1 4 res && leb mult mostUnits && upTo 1 mostUnits off) 3 0 (named v nm λ p.

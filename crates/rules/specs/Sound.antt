@@ -40,7 +40,8 @@ pub record Chains (b : Book) (m : List (List ℕ)) : Type 0 where
   pub within : (s p : ℕ) → 1 ≤ s → s < states → 1 ≤ count p (getD m s []) → Known p
   pub rising : (s : ℕ) → 1 ≤ s → s < states → Ascending (λ p q. prioOf b p ≤ prioOf b q) (getD m s [])
 
--- a why fits the state that p is in: nothing in 0, 1 and 6; tracks in 5, count 1 to T; in 3 a son that is used, not dormant and not p, a resource 1 to R, or any number
+-- a why fits the state that p is in: nothing in 0, 1 and 6; tracks in 5, count 1 to
+-- T; in 3 a son that is used, not dormant and not p, a resource 1 to R, or any number
 abbrev pub suits : Book → ℕ → ℕ → Why → Bool
 suits b p s Nothing = eqb s dormant || eqb s scheduled || eqb s suspended
 suits b p s (Tracks n) = eqb s disc && upTo 1 (b .tracks) n

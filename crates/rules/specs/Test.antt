@@ -63,7 +63,9 @@ rising pr (q ∷ qs) = every (λ r. leb (pr q) (pr r)) qs && rising pr qs
 
 unfoldable pub testChains : Book → List (List ℕ) → Bool
 testChains b m =
-    every (λ s. programs b (λ p r. eqb (count p (getD m s [])) (same (r .state) s)) && every known (getD m s []) && rising (prioOf b) (getD m s [])) (from 1 (states - 1))
+    every (λ s.
+    programs b (λ p r. eqb (count p (getD m s [])) (same (r .state) s)) && every known (getD m s []) && rising (prioOf b) (getD m s []))
+    (from 1 (states - 1))
 
 unfoldable pub testWhys : Book → Bool
 testWhys b =

@@ -21,12 +21,10 @@ pub fn put_bytes(buf: &mut [u8], at: usize, s: &[u8]) -> usize
     requires { ⌜ at + length (now s) ≤ length (now buf) ⌝ }
     ensures { λ r. ⌜ Wrote (now (buf .entry)) at (now (s .entry)) (now (buf .exit)) r ⌝ }
 {
-    let mut i = 0;
     let mut o = at;
-    while i < s.len() {
+    for i in 0..s.len() {
         buf[o] = s[i];
         o += 1;
-        i += 1;
     }
     o
 }
@@ -78,14 +76,12 @@ pub fn part_end(s: &[u8], from: usize, d: u8) -> usize
     requires { ⌜ from ≤ length (now s) ⌝ }
     ensures { λ r. ⌜ PartEnd d (now (s .entry)) from r ⌝ }
 {
-    let mut i = from;
-    while i < s.len() {
+    for i in from..s.len() {
         if s[i] == d {
             return i;
         }
-        i += 1;
     }
-    i
+    s.len()
 }
 
 // Whether s[from..to] is w.
@@ -98,13 +94,11 @@ pub fn is_word(s: &[u8], from: usize, to: usize, w: &[u8]) -> bool
         return false;
     }
     let mut o = from;
-    let mut i = 0;
-    while i < w.len() {
+    for i in 0..w.len() {
         if s[o] != w[i] {
             return false;
         }
         o += 1;
-        i += 1;
     }
     true
 }
@@ -123,8 +117,7 @@ fn read_digits(s: &[u8], from: usize, to: usize) -> Number
     ensures { λ r. ⌜ read r ≡ horner 0 (slice from to (now (s .entry))) ⌝ }
 {
     let mut a: u64 = 0;
-    let mut i = from;
-    while i < to {
+    for i in from..to {
         let b = s[i];
         if b < 48 {
             return Number::Not;
@@ -133,7 +126,6 @@ fn read_digits(s: &[u8], from: usize, to: usize) -> Number
             return Number::Not;
         }
         a = a * 10 + (b - 48) as u64;
-        i += 1;
     }
     Number::Is(a)
 }

@@ -1,5 +1,5 @@
-// The part of the soundness test that is about tracks: every place, the blank ones too. The holders go on by reference, and only the system's tracks are
-// looked at with a branch each.
+// The part of the soundness test that is about tracks: every place, the blank ones too. The
+// holders go on by reference, and only the system's tracks are looked at with a branch each.
 use super::Tracks;
 use limits::MOST_TRACKS;
 ghost use Prim.Native.Nat.{_≤_};

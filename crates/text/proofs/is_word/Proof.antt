@@ -10,10 +10,10 @@ use Rattle.text.proofs.is_word.Statement.{statement}
 use Rattle.text.proofs.is_word.Tie as tie
 
 abbrev Inv-loop : tie.InvT-loop
-Inv-loop s from to w o₀ i₀ o i = (i ≤ length w) × (o + length w ≡ to + i) × (alike (slice from to s) w ≡ alike (slice o to s) (drop i w))
+Inv-loop s from to w o₀ i₀ i-end o i = (i ≤ length w) × (o + length w ≡ to + i) × (alike (slice from to s) w ≡ alike (slice o to s) (drop i w))
 
 abbrev μ-loop : tie.MeasureT-loop
-μ-loop s from to w o₀ i₀ o i = length w - i
+μ-loop s from to w o₀ i₀ i-end o i = length w - i
 
 returns : tie.Need-returns Inv-loop μ-loop
 returns c =

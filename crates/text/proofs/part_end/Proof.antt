@@ -9,10 +9,10 @@ use Rattle.text.proofs.part_end.Statement.{statement}
 use Rattle.text.proofs.part_end.Tie as tie
 
 abbrev Inv-loop : tie.InvT-loop
-Inv-loop s from d i₀ i = (from ≤ i) × (i ≤ length s) × (from + until d (drop from s) ≡ i + until d (drop i s))
+Inv-loop s from d i₀ i-end i = (from ≤ i) × (i ≤ length s) × (from + until d (drop from s) ≡ i + until d (drop i s))
 
 abbrev μ-loop : tie.MeasureT-loop
-μ-loop s from d i₀ i = length s - i
+μ-loop s from d i₀ i-end i = length s - i
 
 -- what is returned is the end
 there : (s : tie.Start Inv-loop μ-loop) (i : ℕ) → s .args .from + until (s .args .d) (drop (s .args .from) (s .args .s .now)) ≡ i
@@ -38,7 +38,7 @@ returns-2 : tie.Need-returns-2 Inv-loop μ-loop
 returns-2 c =
     let b = c .before in
     let s = b .before in
-    there s (b .loop .i) (omega (arith, b .loop .inv .2, until-end (s .args .d) (s .args .s .now) (b .loop .i) (c .loop-test .left)))
+    there s (length (s .args .s .now)) (omega (arith, b .loop .inv .2, until-end (s .args .d) (s .args .s .now) (b .loop .i) (c .loop-test .left)))
 
 pub part-end-spec : {M : Type 1} → statement M
 part-end-spec =

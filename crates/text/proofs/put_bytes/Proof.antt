@@ -10,10 +10,10 @@ use Rattle.text.proofs.put_bytes.Statement.{statement}
 use Rattle.text.proofs.put_bytes.Tie as tie
 
 abbrev Inv-loop : tie.InvT-loop
-Inv-loop buf₀ at s i₀ o₀ buf i o = (i ≤ length s) × Left buf₀ at s buf o (drop i s)
+Inv-loop buf₀ at s o₀ i₀ i-end buf o i = (i ≤ length s) × Left buf₀ at s buf o (drop i s)
 
 abbrev μ-loop : tie.MeasureT-loop
-μ-loop buf₀ at s i₀ o₀ buf i o = length s - i
+μ-loop buf₀ at s o₀ i₀ i-end buf o i = length s - i
 
 loop-holds : tie.Need-loop-holds Inv-loop μ-loop
 loop-holds c = (omega arith, left-start)
