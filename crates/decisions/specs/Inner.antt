@@ -7,6 +7,7 @@ use mathlib.Core.List.{List, [], _∷_, _++_, map}
 use lib.ListN.{length}
 use lib.Dec.{leb, eqb}
 use Rattle.lists.specs.Lists.{count, keep, upTo, join}
+use Rattle.limits.specs.Limits.{dormant, scheduled, general, suspended, states, mostTracks, mostNumbers, mostUnits, lastPriority}
 use Rattle.clock.specs.Clock.{ceiling, unit}
 use Rattle.records.specs.declared.Program.{Program}
 use Rattle.records.specs.declared.Resource.{Resource}
@@ -22,7 +23,7 @@ use Rattle.rules.specs.declared.Answer.{Answer}
 use Rattle.rules.specs.declared.Order as code
 use Rattle.rules.specs.declared.Order.the-variants as order
 use Rattle.rules.specs.Answers.{number, values}
-use Rattle.rules.specs.Book.{at, stateOf}
+use Rattle.rules.specs.Book.{Book, at, stateOf}
 use Rattle.rules.specs.Requests.{PR, OF}
 use Rattle.rules.specs.Plans.{Event, on, becomes, priced, loaded, timed, clocked, held, renewed, Plan, refused, done, releasing, waiting, View, woken, wake, need, either, numberOf, valuesOf, eventsOf}
 use Rattle.rules.specs.Rules.{named, inside, waits, frees, clears, ends, quit, dismissed, order, dueAt, ticked, allocated}
@@ -38,6 +39,13 @@ use Rattle.decisions.specs.declared.naming.Named.the-variants.{Is, Missi
 use Rattle.decisions.specs.declared.numbering.Wanted.{Wanted}
 use Rattle.decisions.specs.declared.numbering.Wanted.the-variants as wants
 
+-- a tick: what happens, and who is started by it
+abbrev pub tickEvents : Book → List Event
+tickEvents b = clocked (b .clock + 1) ∷ join (map (λ p. ticked p (at b p)) (keep (dueAt b) all))
+
+abbrev pub startsNow : Book → ℕ → Bool
+startsNow b p = dueAt b p && eqb (stateOf b p) dormant
+
 -- what happens, by the effect; nm is the name that stands beside
 abbrev pub eventsFor : View → List ℕ → Effect → List Event
 eventsFor v nm Stay = []
@@ -46,15 +54,15 @@ eventsFor v nm (Load p n) = on p (loaded nm n) ∷ []
 eventsFor v nm (Price p n) = on p (priced n) ∷ []
 eventsFor v nm (Time p d i) = on p (timed d i) ∷ []
 eventsFor v nm (Become p s w) = on p (becomes s w) ∷ []
-eventsFor v nm (Await p c) = on p (becomes 1 why.Nothing) ∷ on c (becomes 3 (why.Son p)) ∷ []
+eventsFor v nm (Await p c) = on p (becomes scheduled why.Nothing) ∷ on c (becomes general (why.Son p)) ∷ []
 eventsFor v nm (Dismiss p k n) = (dismissed k p ++ (held (replaced p nobody (v .book .holders)) ∷ quit v p ∷ [])) ++ wake (woken v (ends v p n))
-eventsFor v nm (End p) = on p (becomes 0 why.Nothing) ∷ quit v p ∷ wake (woken v (ends v p 0))
+eventsFor v nm (End p) = on p (becomes dormant why.Nothing) ∷ quit v p ∷ wake (woken v (ends v p 0))
 eventsFor v nm (Take i n h) = held (filled i n h (v .book .holders)) ∷ []
 eventsFor v nm (Give i n) = held (filled i n nobody (v .book .holders)) ∷ wake (woken v (frees n))
 eventsFor v nm (GiveAll c n) = held (replaced c nobody (v .book .holders)) ∷ wake (woken v (frees n))
 eventsFor v nm (Number r o l) = rules.number v r o l ∷ []
 eventsFor v nm (Release r o l d) = rules.number v r o l ∷ wake (woken v (clears r d))
-eventsFor v nm Tick = clocked (v .book .clock + 1) ∷ join (map (λ p. ticked p (at (v .book) p)) (keep (dueAt (v .book)) all))
+eventsFor v nm Tick = tickEvents (v .book)
 
 -- the number and the values: those of the answer, or what the effect tells: how many are woken or started, and 0 for new tables
 abbrev pub replyFor : View → Answer → Effect → ℕ × List ℕ
@@ -72,14 +80,14 @@ replyFor v a (Give i n) = (number a, values a)
 replyFor v a (GiveAll c n) = (number a, values a)
 replyFor v a (Number r o l) = (number a, values a)
 replyFor v a (Release r o l d) = (0, length (woken v (clears r d)) ∷ [])
-replyFor v a Tick = (0, length (keep (λ p. dueAt (v .book) p && eqb (stateOf (v .book) p) 0) all) ∷ [])
+replyFor v a Tick = (0, length (keep (startsNow (v .book)) all) ∷ [])
 
 -- T tracks, S of them the system's, and R numbers are tables
 pub record Sizes (T S R : ℕ) : Type 0 where
   pub least : 1 ≤ T
-  pub most : T ≤ 256
+  pub most : T ≤ mostTracks
   pub part : S ≤ T
-  pub few : R ≤ 16
+  pub few : R ≤ mostNumbers
 
 -- the numbers of an effect are those of programs, tracks and resource numbers
 abbrev pub Apt : View → Effect → Type 0
@@ -88,7 +96,7 @@ Apt v (Renew T S R) = Sizes T S R
 Apt v (Load p n) = Known p
 Apt v (Price p n) = Known p
 Apt v (Time p d i) = Known p
-Apt v (Become p s w) = Known p × (s < 7)
+Apt v (Become p s w) = Known p × (s < states)
 Apt v (Await p c) = Known p × Known c
 Apt v (Dismiss p k n) = Known p × (n ≡ count p (v .book .holders))
 Apt v (End p) = Known p
@@ -127,7 +135,7 @@ pub record OfParts (v : View) (p : ℕ) (r : Program) (x : Tracks) (t : ℕ) : T
 
 pub record CanWait (c s : ℕ) : Type 0 where
   pub known : Known c
-  pub state : s < 7
+  pub state : s < states
 
 pub record CanTake (x : Tracks) (c : ℕ) : Type 0 where
   pub fit : tracks.Fit x
@@ -141,7 +149,7 @@ pub record CanAllocate (x : Numbers) (c : ℕ) : Type 0 where
 pub record Ours (c r : ℕ) : Type 0 where
   pub known : Known c
   pub low : 1 ≤ r
-  pub high : r ≤ 16
+  pub high : r ≤ mostNumbers
 
 abbrev pub mayFree : ℕ → ℕ → ℕ → Bool
 mayFree c o l = (eqb o c || eqb o globally) && (eqb l c || eqb l 0)
@@ -154,7 +162,7 @@ waitingOf wants.Free = 0
 unfoldable pub wanted : View → ℕ → ℕ → Wanted → Resource → Plan
 wanted v c r (wants.Lock w) x =
     either (eqb (x .lock) c) (done (r ∷ []) [])
-    (either (eqb (x .lock) 0) (done (r ∷ []) (rules.number v r (x .owner) c ∷ [])) (waits c w 3 (why.Lock r)))
+    (either (eqb (x .lock) 0) (done (r ∷ []) (rules.number v r (x .owner) c ∷ [])) (waits c w general (why.Lock r)))
 wanted v c r wants.Clear x =
     either (eqb (x .lock) 0) (done (0 ∷ []) [])
     (need (eqb (x .lock) c) 9 0
@@ -182,11 +190,11 @@ pub record NamedBy (ps : List Program) (nm : List ℕ) (r : Named) : Type 0 wher
   pub known : KnownIn r
 
 abbrev pub timerAllowed : ℕ → ℕ → ℕ → Bool
-timerAllowed res mult off = upTo 1 4 res && leb mult 4095 && upTo 1 4095 off
+timerAllowed res mult off = upTo 1 4 res && leb mult mostUnits && upTo 1 mostUnits off
 
 abbrev pub permitted : Task → Bool
 permitted (task.Shift a b) = true
-permitted (task.Price n) = upTo 1 32767 n
+permitted (task.Price n) = upTo 1 lastPriority n
 permitted (task.Dismiss k) = eqb k 1 || eqb k 8
 permitted task.Await = true
 permitted task.Send = true
@@ -201,14 +209,14 @@ winding v p res mult off =
     done (due ∷ []) (on p (timed due (mult * unit res)) ∷ [])
 
 unfoldable pub awaiting : View → ℕ → ℕ → Plan
-awaiting v c p = inside v p 0 (waiting 3 (on p (becomes 1 why.Nothing) ∷ on c (becomes 3 (why.Son p)) ∷ []))
+awaiting v c p = inside v p dormant (waiting general (on p (becomes scheduled why.Nothing) ∷ on c (becomes general (why.Son p)) ∷ []))
 
 abbrev pub performed : View → ℕ → Task → ℕ → Plan
 performed v c (task.Shift a b) p = going v p a b 0
 performed v c (task.Price n) p = order v (PR n) p
 performed v c (task.Dismiss k) p = order v (OF k) p
 performed v c task.Await p = awaiting v c p
-performed v c task.Send p = going v p 0 1 p
+performed v c task.Send p = going v p dormant scheduled p
 performed v c (task.Time r m o) p = winding v p r m o
 
 unfoldable pub asking : View → ℕ → List ℕ → Task → Plan
@@ -216,7 +224,7 @@ asking v c nm q = need (permitted q) 3 0 (named v nm (performed v c q))
 
 -- a task for which c may ask
 abbrev pub Fits : ℕ → Task → Type 0
-Fits c (task.Shift a b) = b < 7
+Fits c (task.Shift a b) = b < states
 Fits c (task.Price n) = Unit {0}
 Fits c (task.Dismiss k) = Unit {0}
 Fits c task.Await = Known c
@@ -240,7 +248,7 @@ pub record CanTime (t p r m o : ℕ) : Type 0 where
 
 pub record CanPrice (p n : ℕ) : Type 0 where
   pub known : Known p
-  pub allowed : upTo 1 32767 n ≡ true
+  pub allowed : upTo 1 lastPriority n ≡ true
 
 pub record CanDismiss (x : Tracks) (p : ℕ) : Type 0 where
   pub fit : tracks.Fit x
@@ -251,9 +259,9 @@ pub record CanAwait (c p : ℕ) : Type 0 where
   pub known : Known p
 
 abbrev pub taskOf : code.Order → Task
-taskOf order.Ru = task.Shift 0 1
-taskOf order.Ss = task.Shift 1 6
-taskOf order.Go = task.Shift 6 1
+taskOf order.Ru = task.Shift dormant scheduled
+taskOf order.Ss = task.Shift scheduled suspended
+taskOf order.Go = task.Shift suspended scheduled
 taskOf (order.Pr n) = task.Price n
 taskOf (order.Of k) = task.Dismiss k
 

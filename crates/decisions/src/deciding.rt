@@ -18,6 +18,11 @@ use super::numbering::Wanted;
 use super::stay;
 use clock::Clock;
 use ledger::Ledger;
+use limits::DORMANT;
+use limits::MOST_NUMBERS;
+use limits::MOST_TRACKS;
+use limits::SCHEDULED;
+use limits::SUSPENDED;
 use records::Why;
 use rules::Answer;
 use rules::Call;
@@ -32,13 +37,13 @@ pub fn is_sized(tracks: u64, system: u64, numbers: u64) -> bool
     if tracks < 1 {
         return false;
     }
-    if 256 < tracks {
+    if (MOST_TRACKS as u64) < tracks {
         return false;
     }
     if tracks < system {
         return false;
     }
-    numbers <= 16
+    numbers <= MOST_NUMBERS as u64
 }
 
 fn renews(tracks: u64, system: u64, numbers: u64) -> Decision
@@ -70,9 +75,9 @@ fn task_of(o: Order) -> Task
     ensures { λ r. ⌜ r ≡ taskOf o ⌝ }
 {
     match o {
-        Order::Ru => Task::Shift(0, 1),
-        Order::Ss => Task::Shift(1, 6),
-        Order::Go => Task::Shift(6, 1),
+        Order::Ru => Task::Shift(DORMANT, SCHEDULED),
+        Order::Ss => Task::Shift(SCHEDULED, SUSPENDED),
+        Order::Go => Task::Shift(SUSPENDED, SCHEDULED),
         Order::Pr(n) => Task::Price(n),
         Order::Of(k) => Task::Dismiss(k),
     }
@@ -111,7 +116,7 @@ fn called(book: Ledger, c: u8, name: [u8; 5], q: Call) -> Decision
         },
         Call::Exec7 => Decision {
             answer: Answer::Done(0),
-            effect: Effect::Become(c, 6, Why::Nothing),
+            effect: Effect::Become(c, SUSPENDED, Why::Nothing),
         },
         Call::Exec11 => stay(Answer::Told(book.clock.time())),
         Call::Exec9 => asks(book, c, name, Task::Await),

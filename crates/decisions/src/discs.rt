@@ -11,16 +11,11 @@ use super::Decision;
 use super::Effect;
 use super::stay;
 use super::waits;
+use limits::DISC;
 use records::Why;
 use rules::Answer;
 use tracks::Found;
 use tracks::Tracks;
-
-fn long(x: u16) -> u64
-    ensures { λ r. ⌜ r ≡ x ⌝ }
-{
-    x as u64
-}
 
 // EXEC 4 and 15: the lowest run of n free tracks becomes h's.
 pub(crate) fn takes(tracks: Tracks, c: u8, h: u8, n: u64, w: u64) -> Decision
@@ -30,7 +25,7 @@ pub(crate) fn takes(tracks: Tracks, c: u8, h: u8, n: u64, w: u64) -> Decision
     if n == 0 {
         return stay(Answer::NotAllowed);
     }
-    if long(tracks.count) < n {
+    if tracks.count as u64 < n {
         return stay(Answer::NotAllowed);
     }
     if 1 < w {
@@ -39,7 +34,7 @@ pub(crate) fn takes(tracks: Tracks, c: u8, h: u8, n: u64, w: u64) -> Decision
     let size = n as usize;
     let found = tracks.lowest_run(size);
     let Found::At(i) = found else {
-        return waits(c, w, 5, Why::Tracks(n as u16));
+        return waits(c, w, DISC, Why::Tracks(n as u16));
     };
     Decision {
         answer: Answer::Done(i as u64),
@@ -52,7 +47,7 @@ pub(crate) fn gives(tracks: Tracks, h: u8, n: u64, start: u64) -> Decision
     requires { ⌜ Fit tracks ⌝ }
     ensures { λ r. ⌜ ((v : View) (nm : List ℕ) → OfTracks v tracks → Decides v nm (gives v h n start) r) ⌝ }
 {
-    let all = long(tracks.count);
+    let all = tracks.count as u64;
     if n == 0 {
         return stay(Answer::NotAllowed);
     }

@@ -4,6 +4,7 @@ ghost use mathlib.Core.Path.{_≡_};
 ghost use mathlib.Core.Bool.{_||_};
 ghost use mathlib.Core.List.{List};
 ghost use lib.Dec.{eqb};
+ghost use Rattle.limits.specs.Limits.{lastPriority};
 ghost use Rattle.lists.specs.Lists.{upTo};
 ghost use Rattle.rules.specs.Plans.{View};
 ghost use Rattle.rules.specs.Rules.{plan};
@@ -16,6 +17,12 @@ use super::Decision;
 use super::Effect;
 use super::stay;
 use clock::Clock;
+use limits::DORMANT;
+use limits::GENERAL;
+use limits::LAST_PRIORITY;
+use limits::MOST_PROGRAMS;
+use limits::MOST_UNITS;
+use limits::SCHEDULED;
 use records::Program;
 use records::Why;
 use rules::Answer;
@@ -38,12 +45,6 @@ pub(crate) enum Named {
     Illegal,
 }
 
-fn wide(x: u8) -> usize
-    ensures { λ r. ⌜ r ≡ x ⌝ }
-{
-    x as usize
-}
-
 // Whether OF takes k.
 fn ends(k: u64) -> bool
     ensures { λ r. ⌜ r ≡ (eqb k 1 || eqb k 8) ⌝ }
@@ -55,12 +56,12 @@ fn ends(k: u64) -> bool
 }
 
 fn is_priority(n: u64) -> bool
-    ensures { λ r. ⌜ r ≡ upTo 1 32767 n ⌝ }
+    ensures { λ r. ⌜ r ≡ upTo 1 lastPriority n ⌝ }
 {
     if n < 1 {
         return false;
     }
-    n <= 32767
+    n <= LAST_PRIORITY as u64
 }
 
 // A timer's resolution is 1 to 4, its multiple at most 4095, its offset 1 to 4095.
@@ -73,13 +74,13 @@ fn timer_allowed(resolution: u64, multiple: u64, offset: u64) -> bool
     if 4 < resolution {
         return false;
     }
-    if 4095 < multiple {
+    if MOST_UNITS < multiple {
         return false;
     }
     if offset < 1 {
         return false;
     }
-    offset <= 4095
+    offset <= MOST_UNITS
 }
 
 // Whether the figures of a task are allowed.
@@ -96,7 +97,7 @@ fn is_permitted(task: Task) -> bool
     }
 }
 
-pub(crate) fn find(programs: [Program; 32], name: [u8; 5]) -> Named
+pub(crate) fn find(programs: [Program; MOST_PROGRAMS], name: [u8; 5]) -> Named
     ensures { λ r. ⌜ NamedBy programs name r ⌝ }
 {
     if !records::is_legal(name) {
@@ -128,11 +129,11 @@ fn awaits(state: u8, c: u8, p: u8) -> Decision
     requires { ⌜ CanAwait c p ⌝ }
     ensures { λ r. ⌜ ((v : View) (nm : List ℕ) → stateOf (v .book) p ≡ state → Decides v nm (awaiting v c p) r) ⌝ }
 {
-    if state != 0 {
+    if state != DORMANT {
         return stay(Answer::WrongState(state));
     }
     Decision {
-        answer: Answer::Waits(3),
+        answer: Answer::Waits(GENERAL),
         effect: Effect::Await(p, c),
     }
 }
@@ -183,14 +184,14 @@ fn performs(x: Program, tracks: Tracks, ticks: u64, c: u8, p: u8, task: Task) ->
         Task::Price(n) => prices(x.priority, p, n),
         Task::Dismiss(k) => dismisses(tracks, p, k),
         Task::Await => awaits(x.state, c, p),
-        Task::Send => shifts(x.state, p, 0, 1, p as u64),
+        Task::Send => shifts(x.state, p, DORMANT, SCHEDULED, p as u64),
         Task::Time(r, m, o) => times(ticks, p, r, m, o),
     }
 }
 
 // A task of the program of that name, asked by program c or by the operator.
 pub(crate) fn upon(
-    programs: [Program; 32],
+    programs: [Program; MOST_PROGRAMS],
     tracks: Tracks,
     ticks: u64,
     c: u8,
@@ -206,18 +207,18 @@ pub(crate) fn upon(
     match find(programs, name) {
         Named::Illegal => stay(Answer::NotAllowed),
         Named::Missing => stay(Answer::NoProgram),
-        Named::Is(p) => performs(programs[wide(p) - 1], tracks, ticks, c, p, task),
+        Named::Is(p) => performs(programs[p as usize - 1], tracks, ticks, c, p, task),
     }
 }
 
 // LOAD: the lowest unused record takes the program.
-pub(crate) fn loads(programs: [Program; 32], name: [u8; 5], priority: u64) -> Decision
+pub(crate) fn loads(programs: [Program; MOST_PROGRAMS], name: [u8; 5], priority: u64) -> Decision
     ensures { λ r. ⌜ ((v : View) → v .book .programs ≡ programs → Decides v name (plan v (LOAD name priority)) r) ⌝ }
 {
     if !records::is_legal(name) {
         return stay(Answer::NotAllowed);
     }
-    if 32767 < priority {
+    if (LAST_PRIORITY as u64) < priority {
         return stay(Answer::NotAllowed);
     }
     if records::find_program(programs, name) != 0 {

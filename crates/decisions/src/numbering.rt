@@ -14,6 +14,7 @@ use super::Decision;
 use super::Effect;
 use super::stay;
 use super::waits;
+use limits::GENERAL;
 use records::Numbers;
 use records::Why;
 use rules::Answer;
@@ -23,12 +24,6 @@ pub(crate) enum Wanted {
     Lock(u64),
     Clear,
     Free,
-}
-
-fn long(x: u8) -> u64
-    ensures { λ r. ⌜ r ≡ x ⌝ }
-{
-    x as u64
 }
 
 // Who owns a number that program c allocates.
@@ -70,7 +65,7 @@ pub(crate) fn allocates(numbers: Numbers, c: u8, global: bool, w: u64) -> Decisi
     }
     let r = numbers.lowest_free();
     if r == 0 {
-        return waits(c, w, 3, Why::Number);
+        return waits(c, w, GENERAL, Why::Number);
     }
     Decision {
         answer: Answer::Done(r as u64),
@@ -92,7 +87,7 @@ fn locks(c: u8, r: usize, w: u64, owner: u8, lock: u8) -> Decision
             effect: Effect::Number(r, owner, c),
         };
     }
-    waits(c, w, 3, Why::Lock(r as u8))
+    waits(c, w, GENERAL, Why::Lock(r as u8))
 }
 
 // RN CLEAR of it.
@@ -148,7 +143,7 @@ pub(crate) fn of_number(numbers: Numbers, c: u8, r: u64, q: Wanted) -> Decision
     if r < 1 {
         return stay(Answer::NotAllowed);
     }
-    if long(numbers.count) < r {
+    if (numbers.count as u64) < r {
         return stay(Answer::NotAllowed);
     }
     let k = r as usize;

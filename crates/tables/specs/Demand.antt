@@ -6,6 +6,7 @@ use mathlib.Core.Logic.{_≢_}
 use mathlib.Core.Bool.{cond}
 use mathlib.Core.List.{List, [], _∷_}
 use lib.Dec.{eqb}
+use Rattle.limits.specs.Limits as limits
 use Rattle.records.specs.declared.Program.{Program}
 use Rattle.records.specs.declared.Why.the-variants.{Nothing, Son}
 use Rattle.records.specs.Records.{Known, find, inState, withTimer}
@@ -22,7 +23,7 @@ use Rattle.tables.specs.Calls.{Result, asked}
 pub record Claim (t : Tables) (h n w : ℕ) (r : Result) : Type 0 where
   pub granted : (i : ℕ) → LowestRun (plain t .book .holders) i n → (r .number ≡ 0) × (r .values ≡ i ∷ [])
   pub gained : (i : ℕ) → LowestRun (plain t .book .holders) i n → Gained (plain t .book) (plain (r .tables) .book) h i n
-  pub waits : NoRun (plain t .book .holders) n → w ≡ 0 → (r .number ≡ 1) × (r .values ≡ 5 ∷ [])
+  pub waits : NoRun (plain t .book .holders) n → w ≡ 0 → (r .number ≡ 1) × (r .values ≡ limits.disc ∷ [])
   pub told : NoRun (plain t .book .holders) n → w ≡ 1 → (r .number ≡ 8) × (r .values ≡ 0 ∷ []) × (r .tables ≡ t)
   pub only-waits : r .number ≡ 1 → NoRun (plain t .book .holders) n
   pub only-told : r .number ≡ 8 → NoRun (plain t .book .holders) n
@@ -52,7 +53,7 @@ pub record Counted (t : Tables) : Type 0 where
 -- no why names the record.
 pub record Removed (t : Tables) (nm : List ℕ) (f : ℕ) : Type 0 where
   pub done : asked t (operator (OF 8) nm) .number ≡ 0
-  pub scheduled : stateOf (plain (asked t (operator (OF 8) nm) .tables) .book) f ≡ 1
+  pub scheduled : stateOf (plain (asked t (operator (OF 8) nm) .tables) .book) f ≡ limits.scheduled
   pub idle : whyOf (plain (asked t (operator (OF 8) nm) .tables) .book) f ≡ Nothing
   pub unnamed : find (plain (asked t (operator (OF 8) nm) .tables) .book .programs) nm ≡ 0
   pub unawaited : (q : ℕ) → Known q → whyOf (plain (asked t (operator (OF 8) nm) .tables) .book) q ≢ Son (find (plain t .book .programs) nm)

@@ -7,7 +7,8 @@ use mathlib.Core.Bool.{Bool, true, _&&_}
 use mathlib.Core.List.{List, [], _∷_, map}
 use lib.ListN.{length, getD, set, take}
 use lib.Dec.{eqb}
-use Rattle.lists.specs.Lists.{count, keep, join}
+use Rattle.limits.specs.Limits as limits
+use Rattle.lists.specs.Lists.{count}
 use Rattle.clock.specs.Clock.{ceiling}
 use Rattle.records.specs.declared.Program.{Program}
 use Rattle.records.specs.declared.Numbers.{Numbers}
@@ -36,9 +37,9 @@ use Rattle.tables.specs.Sound.{sound}
 -- leads from such tables to such tables, also where they are not sound between two of its steps.
 pub record Orderly (t : Tables) : Type 0 where
   pub laid : Laid (t .links) (read (t .links))
-  pub dormant : getD (read (t .links)) 0 [] ≡ []
-  pub long : length (t .ledger .programs) ≡ 32
-  pub states : (z : ℕ) → Known z → stateOf (plain t .book) z < 7
+  pub dormant : getD (read (t .links)) limits.dormant [] ≡ []
+  pub long : length (t .ledger .programs) ≡ limits.mostPrograms
+  pub states : (z : ℕ) → Known z → stateOf (plain t .book) z < limits.states
   pub tracks : tracks.Fit (t .ledger .tracks)
   pub numbers : numbers.Fit (t .ledger .numbers)
   pub notes : Entries
@@ -68,14 +69,14 @@ pub record CanTurn (t : Tables) (p : ℕ) : Type 0 where
 pub record CanJoin (t : Tables) (p s : ℕ) : Type 0 where
   pub orderly : Orderly t
   pub known : Known p
-  pub state : s < 7
-  pub out : stateOf (plain t .book) p ≡ 0
+  pub state : s < limits.states
+  pub out : stateOf (plain t .book) p ≡ limits.dormant
 
 pub record CanAmend (t : Tables) (p : ℕ) (r : Program) : Type 0 where
   pub orderly : Orderly t
   pub known : Known p
   pub state : r .state ≡ stateOf (plain t .book) p
-  pub priority : stateOf (plain t .book) p ≢ 0 → r .priority ≡ prioOf (plain t .book) p
+  pub priority : stateOf (plain t .book) p ≢ limits.dormant → r .priority ≡ prioOf (plain t .book) p
 
 -- tables that have passed the test
 pub record Ready (t : Tables) : Type 0 where
@@ -86,12 +87,12 @@ pub record Ready (t : Tables) : Type 0 where
 pub record CanBecome (t : Tables) (p s : ℕ) : Type 0 where
   pub orderly : Orderly t
   pub known : Known p
-  pub state : s < 7
+  pub state : s < limits.states
 
 -- a list of programs that can wake
 pub record CanWake (t : Tables) (ids : List ℕ) (len : ℕ) : Type 0 where
   pub orderly : Orderly t
-  pub most : len ≤ 32
+  pub most : len ≤ limits.mostPrograms
   pub known : (z : ℕ) → 1 ≤ count z (take len ids) → Known z
 
 -- other holders of the same tracks; other numbers, as many
@@ -133,8 +134,8 @@ pub record Awaits (t : Tables) (y : Release) (d g : Listing) : Type 0 where
   pub general : Lists (g .ids) (g .len) (fromGeneral (view lists (plain t)) y)
 
 pub record Few (m n : ℕ) : Type 0 where
-  pub disc : m ≤ 32
-  pub general : n ≤ 32
+  pub disc : m ≤ limits.mostPrograms
+  pub general : n ≤ limits.mostPrograms
 
 -- n tracks from i on are there; r is one of the numbers; p and c are programs
 pub record CanFill (t : Tables) (i n : ℕ) : Type 0 where
@@ -157,16 +158,10 @@ pub record CanTick (t : Tables) (p : ℕ) (r : Program) : Type 0 where
   pub known : Known p
   pub fits : r .due + r .interval ≤ 18446744073709551615
 
--- a tick: what happens, and who is started
+-- tables whose clock may move on
 pub record CanTickOn (t : Tables) : Type 0 where
   pub ready : Ready t
   pub below : t .ledger .clock .ticks < ceiling
-
-abbrev pub tickEvents : Book → List Event
-tickEvents b = clocked (b .clock + 1) ∷ join (map (λ p. ticked p (at b p)) (keep (dueAt b) all))
-
-abbrev pub startsNow : Book → ℕ → Bool
-startsNow b p = dueAt b p && eqb (stateOf b p) 0
 
 -- what is decided, made of ready tables
 pub record CanCarry (t : Tables) (e : Effect) : Type 0 where

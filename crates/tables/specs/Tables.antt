@@ -3,6 +3,7 @@
 use Prim.Native.Nat.{ℕ}
 use mathlib.Core.Path.{_≡_}
 use lib.ListN.{length}
+use Rattle.limits.specs.Limits.{mostPrograms, mostTracks, mostNumbers}
 use Rattle.rules.specs.Rules.{head}
 use Rattle.rules.specs.Keeper.{lists, State, scheduledChain, fresh}
 use Rattle.chains.specs.Links.{read, linksOf}
@@ -28,7 +29,7 @@ callerOf t = head (scheduledChain lists (plain t))
 
 -- the arrays of tables are as long as the code's types say: theorems about any tables ask this where a list could be longer or shorter
 pub record Arrays (t : Tables) : Type 0 where
-  pub programs : length (t .ledger .programs) ≡ 32
+  pub programs : length (t .ledger .programs) ≡ mostPrograms
   pub links : length (t .links) ≡ 40
-  pub holders : length (t .ledger .tracks .holders) ≡ 256
-  pub resources : length (t .ledger .numbers .resources) ≡ 16
+  pub holders : length (t .ledger .tracks .holders) ≡ mostTracks
+  pub resources : length (t .ledger .numbers .resources) ≡ mostNumbers
