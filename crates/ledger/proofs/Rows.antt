@@ -15,9 +15,9 @@ use Rattle.records.specs.declared.Program.{Program}
 use Rattle.records.specs.Records.{missing}
 use Rattle.rules.specs.Test.{sonOf}
 use Rattle.tracks.specs.Inner.{Tells}
-use Rattle.ledger.specs.Inner.{fits, nameCode, nameKey, sonKey, stateKey, usedKey, Keyed, Fresh, Ended, Distinct, Apart, Sons, Awaited, Enrolled, slotOf, Marked}
+use Rattle.ledger.specs.Inner.{fits, nameCode, nameKey, sonKey, usedKey, Keyed, Fresh, Ended, Distinct, Apart, Sons, Awaited, Roster, Enrolled, slotOf, Marked}
 use Rattle.tracks.proofs.Tells.{tells-no}
-use Rattle.ledger.proofs.Turns.{fits-parts, unused-son, son-most}
+use Rattle.ledger.proofs.Turns.{fits-parts, unused-zeros, son-most}
 
 -- nothing is noted at first
 pub unset : {A : Type 0} (a : A) (n i : ℕ) → getD (replicate n a) i a ≡ a
@@ -57,60 +57,73 @@ module _ {f : Program → ℕ} {ps : List Program} {high i : ℕ} {ks : List ℕ
   row-unused e = record { long = R .long; each = below-more _ _ (R .each) (R .rest i m ∙ sym e); rest = R .rest }
 
 -- the pass, before record i
-pub record Noted (c T R : ℕ) (ps : List Program) (ns ks ss us : List ℕ) (high i : ℕ) : Type 0 where
+pub record Noted (c T R : ℕ) (ps : List Program) (ns ks ss qs us : List ℕ) (high i : ℕ) : Type 0 where
   pub most : i ≤ 32
   pub low : high ≤ i
   pub fitting : (k : ℕ) → k < i → fits c T R (k + 1) (getD ps k missing) ≡ true
   pub names : Row nameKey ps high i ns
   pub sons : Row sonKey ps high i ks
-  pub states : Row stateKey ps high i ss
+  pub states : Row (λ (r : Program). r .state) ps high i ss
+  pub priorities : Row (λ (r : Program). r .priority) ps high i qs
   pub used : Row usedKey ps high i us
 
-pub noted-start : (c T R : ℕ) (ps : List Program) → Noted c T R ps (replicate 32 0) (replicate 32 0) (replicate 32 0) (replicate 32 0) 0 0
+pub noted-start : (c T R : ℕ) (ps : List Program)
+    → Noted c T R ps (replicate 32 0) (replicate 32 0) (replicate 32 0) (replicate 32 0) (replicate 32 0) 0 0
 noted-start c T R ps = record {
   most = omega arith;
   low = omega arith;
   fitting = λ k h. absurd (omega arith);
   names = row-start nameKey ps;
   sons = row-start sonKey ps;
-  states = row-start stateKey ps;
+  states = row-start (λ (r : Program). r .state) ps;
+  priorities = row-start (λ (r : Program). r .priority) ps;
   used = row-start usedKey ps;
 }
 
 -- notes that are the same
-pub noted-same : {c T R : ℕ} {ps : List Program} {ns ks ss us : List ℕ} {high i : ℕ} → Noted c T R ps ns ks ss us high i → {ms js rs vs : List ℕ} {top : ℕ}
-    → ms ≡ ns → js ≡ ks → rs ≡ ss → vs ≡ us → top ≡ high → Noted c T R ps ms js rs vs top i
-noted-same N a b d e f = rw (a, b, d, e, f) N
+pub noted-same : {c T R : ℕ} {ps : List Program} {ns ks ss qs us : List ℕ} {high i : ℕ} → Noted c T R ps ns ks ss qs us high i
+    → {ms js rs os vs : List ℕ} {top : ℕ} → ms ≡ ns → js ≡ ks → rs ≡ ss → os ≡ qs → vs ≡ us → top ≡ high
+    → Noted c T R ps ms js rs os vs top i
+noted-same N a b d o e f = rw (a, b, d, o, e, f) N
 
-module _ {c T R : ℕ} {ps : List Program} {names sons states used : List ℕ} {high i : ℕ} (N : Noted c T R ps names sons states used high i) (h : i < 32) where
+-- what is refused is neither marked nor noted
+refused : {c T R : ℕ} {ps : List Program} → (Roster c T R ps → ⊥) → (us ss qs : List ℕ) → Enrolled c T R ps false us ss qs
+refused f us ss qs = record { told = tells-no f; marked = λ z. clash z refl; columns = λ z. clash z refl }
+
+module _ {c T R : ℕ} {ps : List Program} {names sons states priorities used : List ℕ} {high i : ℕ}
+    (N : Noted c T R ps names sons states priorities used high i) (h : i < 32) where
   pub noted-used : fits c T R (i + 1) (getD ps i missing) ≡ true → getD ps i missing .used ≡ true → (name son : ℕ)
       → name ≡ nameCode (getD ps i missing .name) → son ≡ sonOf (getD ps i missing .why)
-      → Noted c T R ps (set names i name) (set sons i son) (set states i (getD ps i missing .state)) (set used i 1) (i + 1) (i + 1)
-  unfolding nameKey sonKey stateKey usedKey
+      → Noted c T R ps (set names i name) (set sons i son) (set states i (getD ps i missing .state))
+      (set priorities i (getD ps i missing .priority)) (set used i 1) (i + 1) (i + 1)
+  unfolding nameKey sonKey usedKey
   noted-used e u name son n s = record {
     most = omega arith;
     low = omega arith;
     fitting = below-more _ _ (N .fitting) e;
     names = row-used (N .names) (N .low) name h (n ∙ sym (ap (λ (b : Bool). cond b (nameCode (getD ps i missing .name)) 0) u));
     sons = row-used (N .sons) (N .low) son h s;
-    states = row-used (N .states) (N .low) (getD ps i missing .state) h (sym (ap (λ (b : Bool). cond b (getD ps i missing .state) 0) u));
+    states = row-used (N .states) (N .low) (getD ps i missing .state) h refl;
+    priorities = row-used (N .priorities) (N .low) (getD ps i missing .priority) h refl;
     used = row-used (N .used) (N .low) 1 h (sym (ap (λ (b : Bool). cond b 1 0) u));
   }
 
-  pub noted-unused : fits c T R (i + 1) (getD ps i missing) ≡ true → getD ps i missing .used ≡ false → Noted c T R ps names sons states used high (i + 1)
-  unfolding nameKey stateKey usedKey
-  noted-unused e u = record {
+  pub noted-unused : fits c T R (i + 1) (getD ps i missing) ≡ true → getD ps i missing .used ≡ false
+      → Noted c T R ps names sons states priorities used high (i + 1)
+  unfolding nameKey sonKey usedKey
+  noted-unused e u = let z = unused-zeros c T R (i + 1) (getD ps i missing) u e in record {
     most = omega arith;
     low = omega (arith, N .low);
     fitting = below-more _ _ (N .fitting) e;
     names = row-unused (N .names) (N .low) (ap (λ (b : Bool). cond b (nameCode (getD ps i missing .name)) 0) u);
-    sons = row-unused (N .sons) (N .low) (unused-son c T R (i + 1) (getD ps i missing) u e);
-    states = row-unused (N .states) (N .low) (ap (λ (b : Bool). cond b (getD ps i missing .state) 0) u);
+    sons = row-unused (N .sons) (N .low) (ap sonOf (z .why));
+    states = row-unused (N .states) (N .low) (z .state);
+    priorities = row-unused (N .priorities) (N .low) (z .priority);
     used = row-unused (N .used) (N .low) (ap (λ (b : Bool). cond b 1 0) u);
   }
 
-  pub noted-refused : (rest : List ℕ) → fits c T R (i + 1) (getD ps i missing) ≡ false → Enrolled c T R ps false rest
-  noted-refused rest e = record { told = tells-no (λ S. clash (S .fitting i h) e); marked = λ z. clash z refl }
+  pub noted-refused : fits c T R (i + 1) (getD ps i missing) ≡ false → Enrolled c T R ps false used states priorities
+  noted-refused e = refused (λ S. clash (S .fitting i h) e) used states priorities
 
 -- keys that are distinct are those of records apart, and back
 apart-of : (f : Program → ℕ) (ps : List Program) (ks : List ℕ) → Keyed f ps ks → Distinct ks → Apart f ps
@@ -120,7 +133,8 @@ distinct-of : (f : Program → ℕ) (ps : List Program) (ks : List ℕ) → Keye
 distinct-of f ps ks K A i h n j m o e = A i h (λ z. n (K .each i h ∙ z)) j m o (sym (K .each j m) ∙ e ∙ K .each i h)
 
 -- the pass is done
-module _ {c T R : ℕ} {ps : List Program} {names sons states used : List ℕ} {high i : ℕ} (N : Noted c T R ps names sons states used high i) (h : 32 ≤ i) where
+module _ {c T R : ℕ} {ps : List Program} {names sons states priorities used : List ℕ} {high i : ℕ}
+    (N : Noted c T R ps names sons states priorities used high i) (h : 32 ≤ i) where
   keyed : (f : Program → ℕ) (ks : List ℕ) → Row f ps high i ks → Keyed f ps ks
   keyed f ks r = record { each = λ k l. r .each k (omega arith) }
 
@@ -140,20 +154,17 @@ module _ {c T R : ℕ} {ps : List Program} {names sons states used : List ℕ} {
           )
       go k (no l) = omega (arith, N .sons .rest k (omega (arith, l, N .low, N .most)))
 
-  pub names-refused : (Distinct names → ⊥) → Enrolled c T R ps false used
-  names-refused f = record {
-    told = tells-no (λ S. f (distinct-of nameKey ps names (keyed nameKey names (N .names)) (S .names)));
-    marked = λ z. clash z refl;
-  }
+  pub names-refused : (Distinct names → ⊥) → Enrolled c T R ps false used states priorities
+  names-refused f = refused (λ S. f (distinct-of nameKey ps names (keyed nameKey names (N .names)) (S .names))) used states priorities
 
   -- the state that is noted for a son
   son-state : (k : ℕ) → k < 32 → getD sons k 0 ≡ sonKey (getD ps k missing)
-      → getD states (getD sons k 0 - 1) 0 ≡ stateKey (getD ps (sonKey (getD ps k missing) - 1) missing)
+      → getD states (getD sons k 0 - 1) 0 ≡ getD ps (sonKey (getD ps k missing) - 1) missing .state
   son-state k l e =
       ap (λ (x : ℕ). getD states (x - 1) 0) e
       ∙ N .states .each (sonKey (getD ps k missing) - 1) (omega (arith, sons-ended .known k))
 
-  pub noted-end : Distinct names → (ok : Bool) → Tells ok (Awaited sons states) → Enrolled c T R ps ok used
+  pub noted-end : Distinct names → (ok : Bool) → Tells ok (Awaited sons states) → Enrolled c T R ps ok used states priorities
   noted-end D ok t = record {
     told = record {
       yes = λ e. let A = t .yes e in record {
@@ -168,6 +179,10 @@ module _ {c T R : ℕ} {ps : List Program} {names sons states used : List ℕ} {
       });
     };
     marked = λ e. keyed usedKey used (N .used);
+    columns = λ e. record {
+      states = keyed (λ (r : Program). r .state) states (N .states);
+      priorities = keyed (λ (r : Program). r .priority) priorities (N .priorities);
+    };
   }
 
 -- keys with marks: each key before i has left one, and is new

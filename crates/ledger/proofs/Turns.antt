@@ -23,7 +23,7 @@ use Rattle.rules.proofs.shared.Places.{known-true}
 use Rattle.rules.proofs.tests.Agree.{yes-or-no}
 use Rattle.ledger.specs.declared.Ledger.{Ledger}
 use Rattle.ledger.specs.Ledger.{bookOf}
-use Rattle.ledger.specs.Inner.{timed, trim, stateFits, reasonFits, fits, nameKey, sonKey, stateKey, Apart, Roster}
+use Rattle.ledger.specs.Inner.{timed, trim, stateFits, reasonFits, fits, nameKey, sonKey, Apart, Roster}
 use Rattle.ledger.proofs.Facts.{Trim, trim-true, trim-is}
 
 -- the record at i
@@ -75,12 +75,12 @@ nothing-is (Lock r) e = false-true e
 nothing-is Number e = false-true e
 
 -- what holds zeros
-record Zeros (r : Program) : Type 0 where
-  priority : r .priority ≡ 0
-  state : eqb (r .state) 0 ≡ true
-  why : r .why ≡ Nothing
-  due : r .due ≡ 0
-  interval : r .interval ≡ 0
+pub record Zeros (r : Program) : Type 0 where
+  pub priority : r .priority ≡ 0
+  pub state : r .state ≡ 0
+  pub why : r .why ≡ Nothing
+  pub due : r .due ≡ 0
+  pub interval : r .interval ≡ 0
 
 zeros-true : (r : Program) → zeros r ≡ true → Zeros r
 zeros-true r e =
@@ -90,7 +90,7 @@ zeros-true r e =
     let b2 = both (alike (r .name) (unused .name) && eqb (r .priority) 0) (eqb (r .state) 0) (b3 .0) in
     record {
       priority = eqb-true (r .priority) 0 ((both (alike (r .name) (unused .name)) (eqb (r .priority) 0) (b2 .0)) .1);
-      state = b2 .1;
+      state = eqb-true (r .state) 0 (b2 .1);
       why = nothing-is (r .why) (b3 .1);
       due = eqb-true (r .due) 0 (b4 .1);
       interval = eqb-true (r .interval) 0 (b5 .1);
@@ -107,7 +107,7 @@ zeros-fit c T R p r u e =
       priority = omega (arith, z .priority);
       timed = record { timeless = λ n. z .interval; above = λ n. absurd (n (z .due)); near = λ n. absurd (n (z .due)); steps = omega (arith, z .interval) };
     }))
-    (ap (λ (x : Why). stateFits x (r .state)) (z .why) ∙ ap (λ (x : Bool). x || eqb (r .state) 1 || eqb (r .state) 6) (z .state))
+    (ap (λ (x : Why). stateFits x (r .state)) (z .why) ∙ ap (stateFits Nothing) (z .state))
     (ap (reasonFits T R p) (z .why))
 
 zeros-miss : (c T R p : ℕ) (r : Program) → r .used ≡ false → zeros r ≡ false → false ≡ fits c T R p r
@@ -120,10 +120,12 @@ pub unused-fits : (c T R p : ℕ) (r : Program) → r .used ≡ false → zeros 
 unused-fits c T R p r u =
     yes-or-no (zeros r) (λ e. e ∙ sym (zeros-fit c T R p r u e)) (λ e. e ∙ zeros-miss c T R p r u e)
 
--- the son of an unused record
-pub unused-son : (c T R p : ℕ) (r : Program) → r .used ≡ false → fits c T R p r ≡ true → sonKey r ≡ 0
-unfolding sonKey
-unused-son c T R p r u e = ap sonOf (zeros-true r (unused-fits c T R p r u ∙ e) .why)
+pub unused-zeros : (c T R p : ℕ) (r : Program) → r .used ≡ false → fits c T R p r ≡ true → Zeros r
+unused-zeros c T R p r u e = zeros-true r (unused-fits c T R p r u ∙ e)
+
+-- so whoever has a state is used
+stated-used : (c T R p : ℕ) (r : Program) → fits c T R p r ≡ true → r .state ≢ 0 → r .used ≡ true
+stated-used c T R p r e n = yes-or-no (r .used) (λ u. u) (λ u. absurd (n (unused-zeros c T R p r u e .state)))
 
 -- a son is a program
 pub son-most : (T R p : ℕ) (w : Why) → reasonFits T R p w ≡ true → sonOf w ≤ 32
@@ -168,19 +170,6 @@ suits-son b p s (Son k) e n = son-parts b p s k e .1
 suits-son b p s (Lock k) e n = absurd (n refl)
 suits-son b p s Number e n = absurd (n refl)
 
--- the state of a used record
-state-key : (r : Program) → stateKey r ≢ 0 → (r .used ≡ true) × (r .state ≢ 0)
-unfolding stateKey
-state-key r = go (r .used)
-  where
-    go : (b : Bool) → cond b (r .state) 0 ≢ 0 → (b ≡ true) × (r .state ≢ 0)
-    go true n = (refl, n)
-    go false n = absurd (n refl)
-
-key-state : (r : Program) → r .used ≡ true → r .state ≢ 0 → stateKey r ≢ 0
-unfolding stateKey
-key-state r u n e = n (sym (ap (λ (b : Bool). cond b (r .state) 0) u) ∙ e)
-
 -- what the roster says of a record: it is sound but for its why, and that fits
 module _ (l : Ledger) (S : Roster (l .clock .ticks) (l .tracks .count) (l .numbers .count) (l .programs)) (i : ℕ) (h : i < 32) where
   parts : (trim (l .clock .ticks) (held l i) ≡ true) × (stateFits (held l i .why) (held l i .state) ≡ true)
@@ -193,8 +182,15 @@ module _ (l : Ledger) (S : Roster (l .clock .ticks) (l .tracks .count) (l .numbe
   pub roster-suits : suits (bookOf l) (i + 1) (held l i .state) (held l i .why) ≡ true
   unfolding sonKey
   roster-suits =
-      suits-of (bookOf l) (i + 1) (held l i .state) (held l i .why) (parts .1) (parts .2) (λ n.
-      state-key (held l (sonOf (held l i .why) - 1)) (S .live i h n))
+      suits-of (bookOf l) (i + 1) (held l i .state) (held l i .why) (parts .1) (parts .2) (λ n. (son-used (S .live i h n), S .live i h n))
+    where
+      son : ℕ
+      son = sonOf (held l i .why) - 1
+
+      son-used : held l son .state ≢ 0 → held l son .used ≡ true
+      son-used =
+          stated-used (l .clock .ticks) (l .tracks .count) (l .numbers .count) (son + 1) (held l son)
+          (S .fitting son (omega (arith, son-most (l .tracks .count) (l .numbers .count) (i + 1) (held l i .why) (parts .2))))
 
 -- and back
 pub roster-of : (l : Ledger) → ((i : ℕ) → i < 32 → Trim (l .clock .ticks) (held l i))
@@ -205,7 +201,6 @@ roster-of l t w names sons = record {
   fitting = λ i h. let f = suits-fits (bookOf l) (i + 1) (held l i .state) (held l i .why) (w i h) in
       fits-is (l .clock .ticks) (l .tracks .count) (l .numbers .count) (i + 1) (held l i) (trim-is (l .clock .ticks) (held l i) (t i h)) (f .0) (f .1);
   names = names;
-  live = λ i h n. let s = suits-son (bookOf l) (i + 1) (held l i .state) (held l i .why) (w i h) n in
-      key-state (held l (sonOf (held l i .why) - 1)) (s .0) (s .1);
+  live = λ i h n. suits-son (bookOf l) (i + 1) (held l i .state) (held l i .why) (w i h) n .1;
   sons = sons;
 }

@@ -97,16 +97,18 @@ nameKey r = cond (r .used) (nameCode (r .name)) 0
 unfoldable pub sonKey : Program → ℕ
 sonKey r = sonOf (r .why)
 
--- the state of a used record, and the mark of one
-unfoldable pub stateKey : Program → ℕ
-stateKey r = cond (r .used) (r .state) 0
-
+-- the mark of a used record
 unfoldable pub usedKey : Program → ℕ
 usedKey r = cond (r .used) 1 0
 
 -- keys, one of each record
 pub record Keyed (f : Program → ℕ) (ps : List Program) (ks : List ℕ) : Type 0 where
   pub each : (i : ℕ) → i < 32 → getD ks i 0 ≡ f (getD ps i missing)
+
+-- the states of all records, and their priorities
+pub record Columns (ps : List Program) (ss qs : List ℕ) : Type 0 where
+  pub states : Keyed (λ (r : Program). r .state) ps ss
+  pub priorities : Keyed (λ (r : Program). r .priority) ps qs
 
 -- where a key leaves its mark
 unfoldable pub slotOf : ℕ → ℕ
@@ -144,12 +146,18 @@ pub record Awaited (ks states : List ℕ) : Type 0 where
 pub record Roster (c T R : ℕ) (ps : List Program) : Type 0 where
   pub fitting : (i : ℕ) → i < 32 → fits c T R (i + 1) (getD ps i missing) ≡ true
   pub names : Apart nameKey ps
-  pub live : (i : ℕ) → i < 32 → sonKey (getD ps i missing) ≢ 0 → stateKey (getD ps (sonKey (getD ps i missing) - 1) missing) ≢ 0
+  pub live : (i : ℕ) → i < 32 → sonKey (getD ps i missing) ≢ 0 → getD ps (sonKey (getD ps i missing) - 1) missing .state ≢ 0
   pub sons : Apart sonKey ps
 
-pub record Enrolled (c T R : ℕ) (ps : List Program) (ok : Bool) (used : List ℕ) : Type 0 where
+pub record Enrolled (c T R : ℕ) (ps : List Program) (ok : Bool) (us ss qs : List ℕ) : Type 0 where
   pub told : Tells ok (Roster c T R ps)
-  pub marked : ok ≡ true → Keyed usedKey ps used
+  pub marked : ok ≡ true → Keyed usedKey ps us
+  pub columns : ok ≡ true → Columns ps ss qs
+
+-- the ledger but its chains, and what a walk along these asks of its records
+pub record Reviewed (l : Ledger) (ok : Bool) (ss qs : List ℕ) : Type 0 where
+  pub told : ok ≡ testBook l
+  pub columns : ok ≡ true → Columns (l .programs) ss qs
 
 -- who may hold no track: a mark for every number but 0, those of used programs, and GLOBAL
 unfoldable pub strange : ℕ → ℕ

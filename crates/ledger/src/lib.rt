@@ -10,7 +10,8 @@ pub use freeing::sift;
 pub use freeing::without;
 use records::Numbers;
 use records::Program;
-pub use sound::book_sound;
+pub use sound::Review;
+pub use sound::reviewed;
 use tracks::Tracks;
 
 pub struct Ledger {

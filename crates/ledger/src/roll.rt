@@ -7,10 +7,12 @@ ghost use mathlib.Core.Path.{_≡_};
 ghost use Rattle.tracks.specs.Inner.{Tells};
 ghost use Rattle.ledger.specs.Inner.{joined, nameCode, slotOf, Fresh, Ended, Distinct, Marked, Sons, Awaited, Enrolled};
 
-// Whether the records are sound, and a mark for each used one.
+// Whether the records are sound; a mark for each used one; and their states and priorities.
 pub struct Roll {
     pub ok: bool,
     pub used: [u8; 32],
+    pub states: [u8; 32],
+    pub priorities: [u16; 32],
 }
 
 fn join(a: u8, b: u8, c: u8, d: u8, e: u8) -> u64
@@ -99,18 +101,24 @@ fn sons_ok(sons: &[u8; 32], states: &[u8; 32], high: usize) -> bool
 
 // The records, one by one; then their names, and their sons.
 pub fn enrolled(programs: [Program; 32], ticks: u64, all: u16, numbers: u8) -> Roll
-    ensures { λ r. ⌜ Enrolled ticks all numbers programs (r .ok) (r .used) ⌝ }
+    ensures { λ r. ⌜ Enrolled ticks all numbers programs (r .ok) (r .used) (r .states) (r .priorities) ⌝ }
 {
     let mut names = [0u64; 32];
     let mut sons = [0u8; 32];
     let mut states = [0u8; 32];
+    let mut priorities = [0u16; 32];
     let mut used = [0u8; 32];
     let mut high: usize = 0;
     let mut i: usize = 0;
     while i < 32 {
         let r = programs[i];
         if !record_fits(ticks, all, numbers, i + 1, r) {
-            return Roll { ok: false, used };
+            return Roll {
+                ok: false,
+                used,
+                states,
+                priorities,
+            };
         }
         if r.used {
             let name = r.name;
@@ -118,14 +126,25 @@ pub fn enrolled(programs: [Program; 32], ticks: u64, all: u16, numbers: u8) -> R
             let w = r.why;
             sons[i] = son_of(w);
             states[i] = r.state;
+            priorities[i] = r.priority;
             used[i] = 1;
             high = i + 1;
         }
         i += 1;
     }
     if !are_distinct(&names, high) {
-        return Roll { ok: false, used };
+        return Roll {
+            ok: false,
+            used,
+            states,
+            priorities,
+        };
     }
     let ok = sons_ok(&sons, &states, high);
-    Roll { ok, used }
+    Roll {
+        ok,
+        used,
+        states,
+        priorities,
+    }
 }

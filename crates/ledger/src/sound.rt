@@ -1,13 +1,19 @@
-// The test of soundness, but for chains: the sizes, the records, the places of the tracks, those of the numbers. Only `book_sound` takes the whole ledger,
-// and arrays of numbers go on by reference: copies cost more than the tests.
+// The test of soundness, but for chains: the sizes, the records, the places of the tracks, those of the numbers. Only `reviewed` takes
+// the whole ledger, and arrays of numbers go on by reference: copies cost more than the tests.
 use super::Ledger;
 use super::places::numbers_ok;
 use super::places::strangers;
 use super::roll::enrolled;
 use clock::Clock;
-ghost use mathlib.Core.Path.{_≡_};
 ghost use Rattle.tracks.specs.Inner.{Tells};
-ghost use Rattle.ledger.specs.Inner.{testBook, Sized};
+ghost use Rattle.ledger.specs.Inner.{Sized, Reviewed};
+
+// Whether the ledger is sound, but for the chains; and the states and priorities of its records, blank where it is refused early.
+pub struct Review {
+    pub ok: bool,
+    pub states: [u8; 32],
+    pub priorities: [u16; 32],
+}
 
 fn is_sized(all: u16, own: u16, numbers: u8, ticks: u64) -> bool
     ensures { λ r. ⌜ Tells r (Sized all own numbers ticks) ⌝ }
@@ -27,25 +33,44 @@ fn is_sized(all: u16, own: u16, numbers: u8, ticks: u64) -> bool
     ticks <= Clock::CEILING
 }
 
-// Whether the ledger is sound, but for the chains.
-pub fn book_sound(l: Ledger) -> bool
-    ensures { λ r. ⌜ r ≡ testBook l ⌝ }
+// All tests of the ledger in turn; where they pass, what a walk along the chains asks of the records is handed on.
+pub fn reviewed(l: Ledger) -> Review
+    ensures { λ r. ⌜ Reviewed l (r .ok) (r .states) (r .priorities) ⌝ }
 {
     let all = l.tracks.count;
     let numbers = l.numbers.count;
     if !is_sized(all, l.tracks.system, numbers, l.clock.ticks) {
-        return false;
+        return Review {
+            ok: false,
+            states: [0; 32],
+            priorities: [0; 32],
+        };
     }
     let programs = l.programs;
     let roll = enrolled(programs, l.clock.ticks, all, numbers);
+    let states = roll.states;
+    let priorities = roll.priorities;
     if !roll.ok {
-        return false;
+        return Review {
+            ok: false,
+            states,
+            priorities,
+        };
     }
     let used = roll.used;
     let marks = strangers(&used);
     if !l.tracks.held_soundly(&marks) {
-        return false;
+        return Review {
+            ok: false,
+            states,
+            priorities,
+        };
     }
     let resources = l.numbers.resources;
-    numbers_ok(numbers as usize, resources, &marks)
+    let ok = numbers_ok(numbers as usize, resources, &marks);
+    Review {
+        ok,
+        states,
+        priorities,
+    }
 }

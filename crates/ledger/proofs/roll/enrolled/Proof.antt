@@ -14,11 +14,12 @@ use Rattle.ledger.proofs.roll.enrolled.Statement.{statement}
 use Rattle.ledger.proofs.roll.enrolled.Tie as tie
 
 abbrev Inv-loop : tie.InvT-loop
-Inv-loop ticks all numbers programs names₀ sons₀ states₀ used₀ high₀ i₀ names sons states used high i =
-    Noted ticks all numbers programs names sons states used high i
+Inv-loop ticks all numbers programs names₀ sons₀ states₀ priorities₀ used₀ high₀ i₀ names sons states priorities used high i =
+    Noted ticks all numbers programs names sons states priorities used high i
 
 abbrev μ-loop : tie.MeasureT-loop
-μ-loop ticks all numbers programs names₀ sons₀ states₀ used₀ high₀ i₀ names sons states used high i = 32 - i
+μ-loop ticks all numbers programs names₀ sons₀ states₀ priorities₀ used₀ high₀ i₀ names sons states priorities used high i =
+    32 - i
 
 loop-holds : tie.Need-loop-holds Inv-loop μ-loop
 loop-holds c = noted-start _ _ _ _
@@ -27,13 +28,16 @@ returns : tie.Need-returns Inv-loop μ-loop
 returns c =
     let r = c .before .record-fits in
     let b = c .before .before .before .before in
-    noted-refused (b .loop .inv) (omega arith) _ (sym (r .ensures) ∙ not-true (r .result) (c .if1 .taken))
+    noted-refused (b .loop .inv) (omega arith) (sym (r .ensures) ∙ not-true (r .result) (c .if1 .taken))
 
 array-write-sons : tie.Need-array-write-sons Inv-loop μ-loop
 array-write-sons c = omega (arith, c .before .before .before .before .before .before .before .before .loop .inv .sons .long)
 
 array-write-states : tie.Need-array-write-states Inv-loop μ-loop
 array-write-states c = omega (arith, c .before .before .before .before .before .before .before .before .loop .inv .states .long)
+
+array-write-priorities : tie.Need-array-write-priorities Inv-loop μ-loop
+array-write-priorities c = omega (arith, c .before .before .before .before .before .before .before .before .loop .inv .priorities .long)
 
 array-write-used : tie.Need-array-write-used Inv-loop μ-loop
 array-write-used c = omega (arith, c .before .before .before .before .before .before .before .before .loop .inv .used .long)
@@ -52,8 +56,8 @@ loop-again c =
     ⊎-elim
     (λ e.
     noted-same (noted-used (b .loop .inv) (omega arith) f (e .0 .taken) (e .2 .result) (e .3 .result) (e .2 .ensures) (e .3 .ensures))
-    (e .4) (e .5) (e .6) (e .7) (e .8))
-    (λ e. noted-same (noted-unused (b .loop .inv) (omega arith) f (e .0 .left)) (e .1) (e .2) (e .3) (e .4) (e .5))
+    (e .4) (e .5) (e .6) (e .7) (e .8) (e .9))
+    (λ e. noted-same (noted-unused (b .loop .inv) (omega arith) f (e .0 .left)) (e .1) (e .2) (e .3) (e .4) (e .5) (e .6))
     (c .if2 .came)
 
 are-distinct-requires : tie.Need-are-distinct-requires Inv-loop μ-loop
@@ -79,5 +83,5 @@ enrolled-spec =
     (tie.spec Inv-loop μ-loop loop-holds (λ c. omega arith) (λ c. omega arith) (λ c. omega arith) (λ c κs. search needs) returns
     (λ c κs. search needs) (λ c. omega arith)
     (λ c. omega (arith, c .before .before .before .before .before .before .before .loop .inv .names .long)) (λ c κs. search needs)
-    array-write-sons array-write-states array-write-used (λ c. omega arith) (λ c. omega arith) (λ c. omega arith) loop-again
-    are-distinct-requires returns-2 sons-ok-requires returns-3)
+    array-write-sons array-write-states (λ c. omega arith) array-write-priorities array-write-used (λ c. omega arith)
+    (λ c. omega arith) (λ c. omega arith) loop-again are-distinct-requires returns-2 sons-ok-requires returns-3)
