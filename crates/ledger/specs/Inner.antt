@@ -6,6 +6,7 @@ use mathlib.Core.Bool.{Bool, false, _&&_, true, cond, not, _||_}
 use mathlib.Core.List.{List}
 use lib.ListN.{getD, take}
 use lib.Dec.{eqb, leb, ltb}
+use Rattle.limits.specs.Limits.{dormant, scheduled, general, disc, suspended, mostPrograms, mostNumbers, lastPriority}
 use Rattle.lists.specs.Lists.{count, upTo}
 use Rattle.records.specs.declared.Numbers.{Numbers}
 use Rattle.records.specs.Records.{Known, known, missing}
@@ -46,14 +47,14 @@ endingOf t p n = endsIn (resources t) (t .count) p n
 
 -- a list of known programs, each once
 pub record Listed (ids : List ℕ) (len : ℕ) : Type 0 where
-  pub most : len ≤ 32
+  pub most : len ≤ mostPrograms
   pub known : (z : ℕ) → 1 ≤ count z (take len ids) → Known z
   pub once : (z : ℕ) → count z (take len ids) ≤ 1
 
 -- T, S, R and the clock
 pub record Sized (T S R c : ℕ) : Type 0 where
   pub tracks : Sizes T S
-  pub few : R ≤ 16
+  pub few : R ≤ mostNumbers
   pub time : c ≤ ceiling
 
 -- due and interval, at a clock
@@ -62,15 +63,15 @@ timed c d i = cond (eqb d 0) (eqb i 0) (ltb c d && leb (d - c) farthest && leb i
 
 -- a record but its why
 unfoldable pub trim : ℕ → Program → Bool
-trim c r = cond (r .used) (legal (r .name)) (zeros r) && leb (r .priority) 32767 && timed c (r .due) (r .interval)
+trim c r = cond (r .used) (legal (r .name)) (zeros r) && leb (r .priority) lastPriority && timed c (r .due) (r .interval)
 
 -- the state that a why is for
 abbrev pub stateFits : Why → ℕ → Bool
-stateFits Nothing s = eqb s 0 || eqb s 1 || eqb s 6
-stateFits (Tracks n) s = eqb s 5
-stateFits (Son k) s = eqb s 3
-stateFits (Lock r) s = eqb s 3
-stateFits Number s = eqb s 3
+stateFits Nothing s = eqb s dormant || eqb s scheduled || eqb s suspended
+stateFits (Tracks n) s = eqb s disc
+stateFits (Son k) s = eqb s general
+stateFits (Lock r) s = eqb s general
+stateFits Number s = eqb s general
 
 -- what program p waits for, among T tracks and R numbers, but for the son's own record
 abbrev pub reasonFits : ℕ → ℕ → ℕ → Why → Bool
@@ -103,7 +104,7 @@ usedKey r = cond (r .used) 1 0
 
 -- keys, one of each record
 pub record Keyed (f : Program → ℕ) (ps : List Program) (ks : List ℕ) : Type 0 where
-  pub each : (i : ℕ) → i < 32 → getD ks i 0 ≡ f (getD ps i missing)
+  pub each : (i : ℕ) → i < mostPrograms → getD ks i 0 ≡ f (getD ps i missing)
 
 -- the states of all records, and their priorities
 pub record Columns (ps : List Program) (ss qs : List ℕ) : Type 0 where
@@ -119,34 +120,34 @@ abbrev pub Fresh : List ℕ → ℕ → Type 0
 Fresh ks i = getD ks i 0 ≢ 0 → (j : ℕ) → j < i → getD ks j 0 ≢ getD ks i 0
 
 pub record Marked (ks : List ℕ) (i mark : ℕ) : Type 0 where
-  pub within : i < 32
+  pub within : i < mostPrograms
   pub unmarked : mark ≡ 0 → Fresh ks i
 
 pub record Ended (ks : List ℕ) (high : ℕ) : Type 0 where
-  pub most : high ≤ 32
+  pub most : high ≤ mostPrograms
   pub rest : (k : ℕ) → high ≤ k → getD ks k 0 ≡ 0
 
 -- no two keys are the same, but zeros; and so for the keys of records
 abbrev pub Distinct : List ℕ → Type 0
-Distinct ks = (i : ℕ) → i < 32 → getD ks i 0 ≢ 0 → (j : ℕ) → j < 32 → i < j → getD ks j 0 ≢ getD ks i 0
+Distinct ks = (i : ℕ) → i < mostPrograms → getD ks i 0 ≢ 0 → (j : ℕ) → j < mostPrograms → i < j → getD ks j 0 ≢ getD ks i 0
 
 abbrev pub Apart : (Program → ℕ) → List Program → Type 0
-Apart f ps = (i : ℕ) → i < 32 → f (getD ps i missing) ≢ 0 → (j : ℕ) → j < 32 → i < j → f (getD ps j missing) ≢ f (getD ps i missing)
+Apart f ps = (i : ℕ) → i < mostPrograms → f (getD ps i missing) ≢ 0 → (j : ℕ) → j < mostPrograms → i < j → f (getD ps j missing) ≢ f (getD ps i missing)
 
 -- sons: the numbers of programs, none from `high` on; each that is awaited has a state that is not 0, and is awaited once
 pub record Sons (ks : List ℕ) (high : ℕ) : Type 0 where
   pub ended : Ended ks high
-  pub known : (k : ℕ) → getD ks k 0 ≤ 32
+  pub known : (k : ℕ) → getD ks k 0 ≤ mostPrograms
 
 pub record Awaited (ks states : List ℕ) : Type 0 where
-  pub live : (i : ℕ) → i < 32 → getD ks i 0 ≢ 0 → getD states (getD ks i 0 - 1) 0 ≢ 0
+  pub live : (i : ℕ) → i < mostPrograms → getD ks i 0 ≢ 0 → getD states (getD ks i 0 - 1) 0 ≢ 0
   pub once : Distinct ks
 
 -- all records, by themselves and by one another
 pub record Roster (c T R : ℕ) (ps : List Program) : Type 0 where
-  pub fitting : (i : ℕ) → i < 32 → fits c T R (i + 1) (getD ps i missing) ≡ true
+  pub fitting : (i : ℕ) → i < mostPrograms → fits c T R (i + 1) (getD ps i missing) ≡ true
   pub names : Apart nameKey ps
-  pub live : (i : ℕ) → i < 32 → sonKey (getD ps i missing) ≢ 0 → getD ps (sonKey (getD ps i missing) - 1) missing .state ≢ 0
+  pub live : (i : ℕ) → i < mostPrograms → sonKey (getD ps i missing) ≢ 0 → getD ps (sonKey (getD ps i missing) - 1) missing .state ≢ 0
   pub sons : Apart sonKey ps
 
 pub record Enrolled (c T R : ℕ) (ps : List Program) (ok : Bool) (us ss qs : List ℕ) : Type 0 where
@@ -165,9 +166,9 @@ strange u = cond (eqb u 0) 1 0
 
 pub record Strangers (used marks : List ℕ) : Type 0 where
   pub nobody : getD marks 0 0 ≡ 0
-  pub global : getD marks 33 0 ≡ 0
-  pub program : (k : ℕ) → k < 32 → getD marks (k + 1) 0 ≡ strange (getD used k 0)
-  pub other : (h : ℕ) → 33 < h → h < 256 → getD marks h 0 ≡ 1
+  pub global : getD marks globally 0 ≡ 0
+  pub program : (k : ℕ) → k < mostPrograms → getD marks (k + 1) 0 ≡ strange (getD used k 0)
+  pub other : (h : ℕ) → globally < h → h < 256 → getD marks h 0 ≡ 1
 
 -- who may hold a track, own a number or lock it: nobody, GLOBAL, or a used program
 pub record User (b : Book) (h : ℕ) : Type 0 where
@@ -185,7 +186,7 @@ abbrev pub Seated : ℕ → (ℕ → Type 0) → List Resource → Type 0
 Seated R May rs = (i : ℕ) → i < R → Sits May (getD rs i free)
 
 abbrev pub Unowned : ℕ → List Resource → Type 0
-Unowned R rs = (i : ℕ) → i < 16 → R ≤ i → (getD rs i free .owner ≡ 0) × (getD rs i free .lock ≡ 0)
+Unowned R rs = (i : ℕ) → i < mostNumbers → R ≤ i → (getD rs i free .owner ≡ 0) × (getD rs i free .lock ≡ 0)
 
 pub record Numbered (R : ℕ) (May : ℕ → Type 0) (rs : List Resource) : Type 0 where
   pub ours : Seated R May rs

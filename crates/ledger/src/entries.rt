@@ -1,11 +1,19 @@
 // One record by itself: its name, its times, its state, and what it waits for.
 use clock::Clock;
+use limits::DISC;
+use limits::DORMANT;
+use limits::GENERAL;
+use limits::LAST_PRIORITY;
+use limits::MOST_PROGRAMS;
+use limits::SCHEDULED;
+use limits::SUSPENDED;
 use records::Program;
 use records::Why;
 use records::is_legal;
 ghost use mathlib.Core.Path.{_≡_};
 ghost use mathlib.Core.Bool.{cond, not, _&&_, _||_};
 ghost use lib.Dec.{eqb};
+ghost use Rattle.limits.specs.Limits.{dormant, scheduled, suspended};
 ghost use Rattle.lists.specs.Lists.{upTo, alike};
 ghost use Rattle.records.specs.Names.{legal};
 ghost use Rattle.records.specs.Records.{known, unused};
@@ -99,22 +107,22 @@ fn is_trim(ticks: u64, r: Program) -> bool
     if !is_named(r) {
         return false;
     }
-    if 32767 < r.priority {
+    if LAST_PRIORITY < r.priority {
         return false;
     }
     is_timed(ticks, r.due, r.interval)
 }
 
 fn is_at_rest(state: u8) -> bool
-    ensures { λ r. ⌜ r ≡ (eqb state 0 || eqb state 1 || eqb state 6) ⌝ }
+    ensures { λ r. ⌜ r ≡ (eqb state dormant || eqb state scheduled || eqb state suspended) ⌝ }
 {
-    if state == 0 {
+    if state == DORMANT {
         return true;
     }
-    if state == 1 {
+    if state == SCHEDULED {
         return true;
     }
-    state == 6
+    state == SUSPENDED
 }
 
 fn state_fits(w: Why, state: u8) -> bool
@@ -122,10 +130,10 @@ fn state_fits(w: Why, state: u8) -> bool
 {
     match w {
         Why::Nothing => is_at_rest(state),
-        Why::Tracks(_) => state == 5,
-        Why::Son(_) => state == 3,
-        Why::Lock(_) => state == 3,
-        Why::Number => state == 3,
+        Why::Tracks(_) => state == DISC,
+        Why::Son(_) => state == GENERAL,
+        Why::Lock(_) => state == GENERAL,
+        Why::Number => state == GENERAL,
     }
 }
 
@@ -133,7 +141,7 @@ fn state_fits(w: Why, state: u8) -> bool
 fn son_fits(p: usize, k: u8) -> bool
     ensures { λ r. ⌜ r ≡ (known k && not (eqb k p)) ⌝ }
 {
-    if !one_to(32, k as usize) {
+    if !one_to(MOST_PROGRAMS, k as usize) {
         return false;
     }
     k as usize != p

@@ -11,6 +11,8 @@ ghost use Rattle.chains.specs.Inner.{Lists};
 ghost use Rattle.ledger.specs.Inner.{Releases, endingOf, Listed};
 use super::Release;
 use chains::Listing;
+use limits::MOST_NUMBERS;
+use limits::MOST_PROGRAMS;
 use records::Numbers;
 use records::Program;
 use records::Why;
@@ -23,7 +25,7 @@ impl Release {
         Release {
             ended: 0,
             tracks: n,
-            cleared: [false; 16],
+            cleared: [false; MOST_NUMBERS],
             dealt: false,
         }
     }
@@ -33,7 +35,7 @@ impl Release {
         requires { ⌜ (1 ≤ r) × (r ≤ 16) ⌝ }
         ensures { λ x. ⌜ Releases x (clears r dealt) ⌝ }
     {
-        let mut cleared = [false; 16];
+        let mut cleared = [false; MOST_NUMBERS];
         cleared[r - 1] = true;
         Release {
             ended: 0,
@@ -49,7 +51,7 @@ impl Release {
         requires { ⌜ 1 ≤ p ⌝ }
         ensures { λ x. ⌜ Releases x (endingOf numbers p n) ⌝ }
     {
-        let mut cleared = [false; 16];
+        let mut cleared = [false; MOST_NUMBERS];
         let count = numbers.count as usize;
         let mut i: usize = 0;
         while i < count {
@@ -78,7 +80,7 @@ impl Release {
                 if k == 0 {
                     return false;
                 }
-                if 16 < k {
+                if MOST_NUMBERS < k {
                     return false;
                 }
                 let i = k - 1;
@@ -95,7 +97,7 @@ pub fn without(list: Listing, p: u8) -> Listing
     ensures { λ r. ⌜ Lists (r .ids) (r .len) (remove p (take (list .len) (list .ids))) ⌝ }
 {
     let n = list.len;
-    let mut ids: [u8; 32] = [0; 32];
+    let mut ids: [u8; MOST_PROGRAMS] = [0; MOST_PROGRAMS];
     let mut len: usize = 0;
     let mut i: usize = 0;
     while i < n {
@@ -110,12 +112,12 @@ pub fn without(list: Listing, p: u8) -> Listing
 }
 
 // Those of the list whose reason to wait is gone.
-pub fn sift(programs: [Program; 32], list: Listing, release: Release) -> Listing
+pub fn sift(programs: [Program; MOST_PROGRAMS], list: Listing, release: Release) -> Listing
     requires { ⌜ Listed (list .ids) (list .len) ⌝ }
     ensures { λ r. ⌜ ((y : Rattle.rules.specs.Plans.Release) → Releases release y → Lists (r .ids) (r .len) (keep (λ q. awaits y (recordAt programs q .why)) (take (list .len) (list .ids)))) ⌝ }
 {
     let n = list.len;
-    let mut ids: [u8; 32] = [0; 32];
+    let mut ids: [u8; MOST_PROGRAMS] = [0; MOST_PROGRAMS];
     let mut len: usize = 0;
     let mut i: usize = 0;
     while i < n {

@@ -8,6 +8,8 @@ mod sound;
 use clock::Clock;
 pub use freeing::sift;
 pub use freeing::without;
+use limits::MOST_NUMBERS;
+use limits::MOST_PROGRAMS;
 use records::Numbers;
 use records::Program;
 pub use sound::Review;
@@ -15,7 +17,7 @@ pub use sound::reviewed;
 use tracks::Tracks;
 
 pub struct Ledger {
-    pub programs: [Program; 32],
+    pub programs: [Program; MOST_PROGRAMS],
     pub clock: Clock,
     pub tracks: Tracks,
     pub numbers: Numbers,
@@ -26,6 +28,6 @@ pub struct Ledger {
 pub struct Release {
     pub ended: u8,
     pub tracks: usize,
-    pub cleared: [bool; 16],
+    pub cleared: [bool; MOST_NUMBERS],
     pub dealt: bool,
 }

@@ -1,16 +1,12 @@
 // Who may hold tracks and own or lock numbers; and every place of the numbers, the blank ones too.
+use limits::MOST_NUMBERS;
+use limits::MOST_PROGRAMS;
 use records::Numbers;
 use records::Resource;
 ghost use Prim.Native.Nat.{_≤_};
 ghost use mathlib.Core.Path.{_≡_};
-ghost use Rattle.tracks.specs.Inner.{Tells, Byte, Serves};
+ghost use Rattle.tracks.specs.Inner.{Tells, Serves};
 ghost use Rattle.ledger.specs.Inner.{strange, Strangers, Sits, Seated, Unowned, Numbered};
-
-fn wide(x: u8) -> usize
-    ensures { λ r. ⌜ Byte x r ⌝ }
-{
-    x as usize
-}
 
 // The mark of a program that is not used.
 fn stranger(used: u8) -> u8
@@ -23,14 +19,14 @@ fn stranger(used: u8) -> u8
 }
 
 // A mark for each number that is neither 0, nor a used program's, nor GLOBAL.
-pub fn strangers(used: &[u8; 32]) -> [u8; 256]
+pub fn strangers(used: &[u8; MOST_PROGRAMS]) -> [u8; 256]
     ensures { λ r. ⌜ Strangers (now (used .entry)) r ⌝ }
 {
     let mut marks = [1u8; 256];
     marks[0] = 0;
-    marks[33] = 0;
+    marks[Numbers::GLOBAL as usize] = 0;
     let mut i: usize = 0;
-    while i < 32 {
+    while i < MOST_PROGRAMS {
         marks[i + 1] = stranger(used[i]);
         i += 1;
     }
@@ -42,10 +38,10 @@ fn number_fits(x: Resource, marks: &[u8; 256]) -> bool
     ensures { λ r. ⌜ Tells r (Sits (Serves (now (marks .entry))) x) ⌝ }
 {
     let lock = x.lock;
-    if marks[wide(x.owner)] != 0 {
+    if marks[x.owner as usize] != 0 {
         return false;
     }
-    if marks[wide(lock)] != 0 {
+    if marks[lock as usize] != 0 {
         return false;
     }
     if lock == Numbers::GLOBAL {
@@ -57,7 +53,7 @@ fn number_fits(x: Resource, marks: &[u8; 256]) -> bool
     true
 }
 
-fn ours_ok(count: usize, resources: [Resource; 16], marks: &[u8; 256]) -> bool
+fn ours_ok(count: usize, resources: [Resource; MOST_NUMBERS], marks: &[u8; 256]) -> bool
     requires { ⌜ count ≤ 16 ⌝ }
     ensures { λ r. ⌜ Tells r (Seated count (Serves (now (marks .entry))) resources) ⌝ }
 {
@@ -73,22 +69,22 @@ fn ours_ok(count: usize, resources: [Resource; 16], marks: &[u8; 256]) -> bool
 }
 
 // Nobody owns or locks a number behind them: owners and locks sum up to 0.
-fn rest_ok(count: usize, resources: [Resource; 16]) -> bool
+fn rest_ok(count: usize, resources: [Resource; MOST_NUMBERS]) -> bool
     requires { ⌜ count ≤ 16 ⌝ }
     ensures { λ r. ⌜ Tells r (Unowned count resources) ⌝ }
 {
     let mut sum: usize = 0;
     let mut i = count;
-    while i < 16 {
+    while i < MOST_NUMBERS {
         let x = resources[i];
-        sum += wide(x.owner) + wide(x.lock);
+        sum += x.owner as usize + x.lock as usize;
         i += 1;
     }
     sum == 0
 }
 
 // Every place of the numbers.
-pub fn numbers_ok(count: usize, resources: [Resource; 16], marks: &[u8; 256]) -> bool
+pub fn numbers_ok(count: usize, resources: [Resource; MOST_NUMBERS], marks: &[u8; 256]) -> bool
     requires { ⌜ count ≤ 16 ⌝ }
     ensures { λ r. ⌜ Tells r (Numbered count (Serves (now (marks .entry))) resources) ⌝ }
 {

@@ -1,6 +1,7 @@
 // All records: each by itself in one pass, which notes what is asked of one by another; then names and sons from the notes.
 use super::entries::record_fits;
 use super::entries::son_of;
+use limits::MOST_PROGRAMS;
 use records::Program;
 ghost use Prim.Native.Nat.{_<_};
 ghost use mathlib.Core.Path.{_≡_};
@@ -10,9 +11,9 @@ ghost use Rattle.ledger.specs.Inner.{joined, nameCode, slotOf, Fresh, En
 // Whether the records are sound; a mark for each used one; and their states and priorities.
 pub struct Roll {
     pub ok: bool,
-    pub used: [u8; 32],
-    pub states: [u8; 32],
-    pub priorities: [u16; 32],
+    pub used: [u8; MOST_PROGRAMS],
+    pub states: [u8; MOST_PROGRAMS],
+    pub priorities: [u16; MOST_PROGRAMS],
 }
 
 fn join(a: u8, b: u8, c: u8, d: u8, e: u8) -> u64
@@ -36,7 +37,7 @@ fn slot(key: u64) -> usize
 }
 
 // Whether the key at i is 0 or stands nowhere before it. Where no key has left a mark at its place there is nothing to look for.
-fn is_new(keys: &[u64; 32], i: usize, mark: u8) -> bool
+fn is_new(keys: &[u64; MOST_PROGRAMS], i: usize, mark: u8) -> bool
     requires { ⌜ Marked (now keys) i mark ⌝ }
     ensures { λ r. ⌜ Tells r (Fresh (now (keys .entry)) i) ⌝ }
 {
@@ -58,7 +59,7 @@ fn is_new(keys: &[u64; 32], i: usize, mark: u8) -> bool
 }
 
 // Whether no two keys are the same, but zeros.
-fn are_distinct(keys: &[u64; 32], high: usize) -> bool
+fn are_distinct(keys: &[u64; MOST_PROGRAMS], high: usize) -> bool
     requires { ⌜ Ended (now keys) high ⌝ }
     ensures { λ r. ⌜ Tells r (Distinct (now (keys .entry))) ⌝ }
 {
@@ -76,11 +77,11 @@ fn are_distinct(keys: &[u64; 32], high: usize) -> bool
 }
 
 // Whether each son that is awaited is live, and awaited once.
-fn sons_ok(sons: &[u8; 32], states: &[u8; 32], high: usize) -> bool
+fn sons_ok(sons: &[u8; MOST_PROGRAMS], states: &[u8; MOST_PROGRAMS], high: usize) -> bool
     requires { ⌜ Sons (now sons) high ⌝ }
     ensures { λ r. ⌜ Tells r (Awaited (now (sons .entry)) (now (states .entry))) ⌝ }
 {
-    let mut met = [0u8; 32];
+    let mut met = [0u8; MOST_PROGRAMS];
     let mut i: usize = 0;
     while i < high {
         let son = sons[i];
@@ -100,17 +101,17 @@ fn sons_ok(sons: &[u8; 32], states: &[u8; 32], high: usize) -> bool
 }
 
 // The records, one by one; then their names, and their sons.
-pub fn enrolled(programs: [Program; 32], ticks: u64, all: u16, numbers: u8) -> Roll
+pub fn enrolled(programs: [Program; MOST_PROGRAMS], ticks: u64, all: u16, numbers: u8) -> Roll
     ensures { λ r. ⌜ Enrolled ticks all numbers programs (r .ok) (r .used) (r .states) (r .priorities) ⌝ }
 {
-    let mut names = [0u64; 32];
-    let mut sons = [0u8; 32];
-    let mut states = [0u8; 32];
-    let mut priorities = [0u16; 32];
-    let mut used = [0u8; 32];
+    let mut names = [0u64; MOST_PROGRAMS];
+    let mut sons = [0u8; MOST_PROGRAMS];
+    let mut states = [0u8; MOST_PROGRAMS];
+    let mut priorities = [0u16; MOST_PROGRAMS];
+    let mut used = [0u8; MOST_PROGRAMS];
     let mut high: usize = 0;
     let mut i: usize = 0;
-    while i < 32 {
+    while i < MOST_PROGRAMS {
         let r = programs[i];
         if !record_fits(ticks, all, numbers, i + 1, r) {
             return Roll {

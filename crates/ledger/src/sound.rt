@@ -5,14 +5,17 @@ use super::places::numbers_ok;
 use super::places::strangers;
 use super::roll::enrolled;
 use clock::Clock;
+use limits::MOST_NUMBERS;
+use limits::MOST_PROGRAMS;
+use limits::MOST_TRACKS;
 ghost use Rattle.tracks.specs.Inner.{Tells};
 ghost use Rattle.ledger.specs.Inner.{Sized, Reviewed};
 
 // Whether the ledger is sound, but for the chains; and the states and priorities of its records, blank where it is refused early.
 pub struct Review {
     pub ok: bool,
-    pub states: [u8; 32],
-    pub priorities: [u16; 32],
+    pub states: [u8; MOST_PROGRAMS],
+    pub priorities: [u16; MOST_PROGRAMS],
 }
 
 fn is_sized(all: u16, own: u16, numbers: u8, ticks: u64) -> bool
@@ -21,13 +24,13 @@ fn is_sized(all: u16, own: u16, numbers: u8, ticks: u64) -> bool
     if all == 0 {
         return false;
     }
-    if 256 < all {
+    if MOST_TRACKS < all as usize {
         return false;
     }
     if all < own {
         return false;
     }
-    if 16 < numbers {
+    if MOST_NUMBERS < numbers as usize {
         return false;
     }
     ticks <= Clock::CEILING
@@ -42,8 +45,8 @@ pub fn reviewed(l: Ledger) -> Review
     if !is_sized(all, l.tracks.system, numbers, l.clock.ticks) {
         return Review {
             ok: false,
-            states: [0; 32],
-            priorities: [0; 32],
+            states: [0; MOST_PROGRAMS],
+            priorities: [0; MOST_PROGRAMS],
         };
     }
     let programs = l.programs;

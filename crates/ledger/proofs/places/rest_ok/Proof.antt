@@ -17,18 +17,15 @@ abbrev μ-loop : tie.MeasureT-loop
 μ-loop count resources sum₀ i₀ sum i = 16 - i
 
 loop-again : tie.Need-loop-again Inv-loop μ-loop
-loop-again c =
-    let o = c .before .wide .ensures in
-    let k = c .wide2 .ensures in (
-      omega arith,
-      omega (arith, o .small, k .small),
-      tally-more (c .before .before .before .before .loop .inv .2) _ (λ z. (omega arith, (omega (arith, o .same), omega (arith, k .same))))
-          (λ z e. omega (arith, o .same, k .same, e .0, e .1)),
-    )
+loop-again c = (
+  omega arith,
+  search needs,
+  tally-more (c .before .before .before .before .loop .inv .2) _ (λ z. (omega arith, (omega arith, omega arith))) (λ z e. omega (arith, e .0, e .1)),
+)
 
 pub rest-ok-spec : {M : Type 1} → statement M
 rest-ok-spec =
     tie.close
     (tie.spec Inv-loop μ-loop (λ c. (omega arith, omega arith, tally-start)) (λ c. omega arith) (λ c. omega arith)
-    (λ c κs. search needs) (λ c κs. search needs) (λ c. omega arith) (λ c. omega arith) (λ c. omega arith) (λ c. omega arith)
+    (λ c. search needs) (λ c. search needs) (λ c. search needs) (λ c. search needs) (λ c. omega arith) (λ c. omega arith)
     loop-again (λ c. tally-end 16 (c .before .loop .inv .2) (omega arith)))
