@@ -25,7 +25,7 @@ pub(crate) fn takes(tracks: Tracks, c: u8, h: u8, n: u64, w: u64) -> Decision
     if n == 0 {
         return stay(Answer::NotAllowed);
     }
-    if tracks.count as u64 < n {
+    if (tracks.count as u64) < n {
         return stay(Answer::NotAllowed);
     }
     if 1 < w {

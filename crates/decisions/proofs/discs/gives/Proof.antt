@@ -41,5 +41,5 @@ returns-5 c =
 pub gives-spec : {M : Type 1} → statement M
 gives-spec =
     tie.close
-    (tie.spec (λ c κs. search needs) (λ c κs. search needs) returns (λ c κs. search needs) returns-2 (λ c κs. search needs)
+    (tie.spec (λ c. search needs) (λ c κs. search needs) returns (λ c κs. search needs) returns-2 (λ c κs. search needs)
     returns-3 (λ c κs. search needs) returns-4 (λ c κs. search needs) returns-5)

@@ -20,14 +20,14 @@ returns : tie.Need-returns
 returns c = λ v nm O. stays v nm NotAllowed 0 (c .stay .ensures) refl (asked-not v _ _ _ _ (c .before .before .is-permitted .ensures) (c .before .if1 .taken))
 
 sub-performs : tie.Need-sub-performs
-sub-performs c = omega (arith, known (c .before) .0)
+sub-performs c = omega (arith, known c .0)
 
 array-copy-out-performs : tie.Need-array-copy-out-performs
-array-copy-out-performs c = omega (arith, known (c .before) .1)
+array-copy-out-performs c = omega (arith, known c .1)
 
 performs-requires : tie.Need-performs-requires
 performs-requires c κs =
-    let k = c .before .before in
+    let k = c .before in
     let f = k .before .before .before in
     record {
       can = f .before .before .before .pre;
@@ -43,16 +43,15 @@ returns-3 c = let f = c .before .before .before in λ v nm O. stays v nm NoProgr
 
 returns-4 : tie.Need-returns-4
 returns-4 c =
-    let w = c .before .before in
-    let k = w .before in
+    let k = c .before .before in
     let f = k .before .before .before in
     λ v nm O.
     like v nm (asked-of v _ _ _ _ (f .before .before .is-permitted .ensures) (f .before .if1 .left) _ _ _ (f .find .ensures) (O .programs) (k .before .p .given .1))
-    (c .performs .ensures v nm (record { row = ap (λ (ps : List Program). recordAt ps (k .before .p .given .0 .0)) (O .programs) ∙ ap (recordAt (f .before .before .before .args .t1)) (sym (w .wide .ensures)); tracks = O .tracks; clock = O .clock }))
+    (c .performs .ensures v nm (record { row = ap (λ (ps : List Program). recordAt ps (k .before .p .given .0 .0)) (O .programs); tracks = O .tracks; clock = O .clock }))
 
 pub upon-spec : {M : Type 1} → statement M
 upon-spec =
     tie.close
     (tie.spec (λ c κs. search needs) (λ c κs. search needs) returns (λ c κs. search needs) (λ c. search needs)
-    (λ c κs. search needs) (λ c. search needs) (λ c κs. search needs) (λ c. search needs) (λ c κs. search needs) sub-performs
+    (λ c κs. search needs) (λ c. search needs) (λ c κs. search needs) (λ c. search needs) (λ c. search needs) sub-performs
     (λ c. search needs) array-copy-out-performs performs-requires returns-2 returns-3 returns-4)
