@@ -10,7 +10,7 @@ use engine::raw::{
 };
 use engine::sheet::{lines, print_line};
 use engine::tables::{CEILING, CHAINS, DISC, FURTHEST, GENERAL_WAIT, RECORDS};
-use engine::{Engine, Fault};
+use engine::Engine;
 
 const DAY: u64 = 8_640_000;
 
@@ -18,7 +18,7 @@ const DAY: u64 = 8_640_000;
 pub fn reached(prng: &mut Prng, most: usize) -> Vec<Raw> {
     let length = prng.between(20, 300) as usize;
     let script = generate(prng.number(), length);
-    let mut engine = Engine::smallest(Fault::None);
+    let mut engine = Engine::smallest();
     let mut met = Vec::new();
     for line in lines(&script) {
         print_line(&mut engine, line);

@@ -9,7 +9,7 @@ use engine::tables::{
     legal_name, CEILING, CHAINS, DISC, DORMANT, FURTHEST, GENERAL_WAIT, LOWEST_PRIORITY,
     MOST_NUMBERS, MOST_TRACKS, RECORDS,
 };
-use engine::{Engine, Fault, Holder, Program, Why};
+use engine::{Engine, Holder, Program, Why};
 
 /// One bit for each program number.
 #[derive(Clone, Copy)]
@@ -128,7 +128,7 @@ const NOT_SOUND: &[u8] = b"answer=14,value=0\n";
 /// The program `sheet` into a buffer, with the test before every line or without it. How many bytes
 /// were put.
 pub fn run(text: &[u8], out: &mut Vec<u8>, tested: bool) -> usize {
-    let mut engine = Engine::smallest(Fault::None);
+    let mut engine = Engine::smallest();
     out.clear();
     if text.is_empty() {
         return 0;

@@ -9,7 +9,7 @@ use crate::show;
 use comparer::prng::Prng;
 use comparer::report::shown;
 use engine::raw::Raw;
-use engine::{parse, Answer, Fault, Value};
+use engine::{parse, Answer, Value};
 use std::collections::BTreeMap;
 
 /// Where tables come from.
@@ -108,7 +108,7 @@ impl Cases {
 
     pub fn case(&mut self, kind: Kind) -> Case {
         let mut raw = self.sound(kind);
-        let engine = raw.engine(Fault::None).expect("sound tables");
+        let engine = raw.engine().expect("sound tables");
         let prng = &mut self.prng;
         let line = ask::line(prng, &engine);
         let size = if line == b"PAGE" || prng.chance(1, 10) {
@@ -246,7 +246,7 @@ impl Count {
         self.longer += u64::from(case.answer.len() > ANSWER);
         if sound && case.answer.len() >= ANSWER {
             // The name of the request without its fields.
-            let text = parse(&case.line, Fault::None)
+            let text = parse(&case.line)
                 .map_or(String::from("not understood"), |request| format!("{:?}", request));
             let name = text.split('(').next().unwrap_or_default();
             let request = self.requests.entry(name.to_string()).or_default();

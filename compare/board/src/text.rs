@@ -10,7 +10,7 @@ use comparer::report::shown;
 use comparer::script::generate;
 use comparer::shrink::shrink;
 use engine::sheet::{lines, print_line};
-use engine::{Engine, Fault};
+use engine::Engine;
 use std::ops::Range;
 
 /// No byte that the output has.
@@ -27,7 +27,7 @@ pub struct Count {
 
 /// What is printed for each line.
 pub fn pieces(text: &[u8]) -> Vec<Vec<u8>> {
-    let mut engine = Engine::smallest(Fault::None);
+    let mut engine = Engine::smallest();
     lines(text).into_iter().map(|line| print_line(&mut engine, line)).collect()
 }
 

@@ -9,14 +9,14 @@ use comparer::prng::Prng;
 use comparer::script::generate;
 use engine::raw::{Raw, RawNumber, RawRecord, RawWhy, LINKS, UNUSED};
 use engine::sheet::lines;
-use engine::{sheet, Engine, Fault, Holder, Timer, Why};
+use engine::{sheet, Engine, Holder, Timer, Why};
 
 /// Each field at its place, worked out by hand.
 #[test]
 fn places() {
     assert_eq!((AT_NUMBERS, AT_LINKS, AT_RECORDS), (269, 301, 341));
     assert_eq!(AT_RECORDS + 32 * RECORD, TABLES);
-    let (engine, _) = Engine::fresh(256, 1, 16, Fault::None);
+    let (engine, _) = Engine::fresh(256, 1, 16);
     let mut raw = Raw::of(&engine);
     raw.clock = 0x0102_0304_0506_0708;
     raw.tracks[255] = 33;
@@ -149,7 +149,7 @@ fn natural_soundness() {
     let mut prng = Prng::new(5);
     let mut sound = [0, 0];
     for _ in 0..40_000 {
-        let mut engine = make::unreached(&mut prng).engine(Fault::None).expect("sound tables");
+        let mut engine = make::unreached(&mut prng).engine().expect("sound tables");
         assert!(natural::sound(&engine));
         change(&mut prng, &mut engine);
         let raw = Raw::of(&engine).sound();
@@ -200,7 +200,7 @@ fn change(prng: &mut Prng, engine: &mut Engine) {
                         // A due of 0 is no timer in the raw form.
                         let due = prng.pick(&[clock.max(1), clock + 1, last, last + 1]);
                         let interval = prng.pick(&[0, 1_474_200_000, 1_474_200_001]);
-                        program.timer = Some(Timer { due, interval, setting: 0 });
+                        program.timer = Some(Timer { due, interval });
                     }
                 }
             }
@@ -217,7 +217,7 @@ fn natural_run() {
         let mut out = vec![7];
         for tested in [true, false] {
             natural::run(&text, &mut out, tested);
-            assert_eq!(out, sheet(&text, Fault::None));
+            assert_eq!(out, sheet(&text));
         }
     }
 }
@@ -225,29 +225,28 @@ fn natural_run() {
 /// The texts that are timed do what their names say.
 #[test]
 fn loads() {
-    let printed = |text: &[u8]| sheet(text, Fault::None);
     let times = |out: &[u8], wanted: &str| {
         lines(out).iter().filter(|line| **line == wanted.as_bytes()).count()
     };
     assert_eq!(lines(&load::mixed(1_100)).len(), 1_100);
-    let claims = printed(&load::claims(256, 2_000));
+    let claims = sheet(&load::claims(256, 2_000));
     let refused = times(&claims, "answer=8,value=0");
     assert!(refused > 800 && refused < 900, "{}", refused);
     // The last free track, once in the opening and then once in each of six rounds.
     assert_eq!(times(&claims, "answer=0,value=254"), 7);
-    let pages = printed(&load::pages(1_000));
+    let pages = sheet(&load::pages(1_000));
     let count = times(&pages, "page=rte2");
     let held = lines(&pages).iter().filter(|line| line.starts_with(b"held=")).count();
     assert_eq!((times(&pages, "programs=32"), held), (count, 256 * count));
     assert!(count > 500 && times(&pages, "number=16:global:1") == count);
-    let ticks = printed(&load::ticks(1_000));
+    let ticks = sheet(&load::ticks(1_000));
     assert_eq!(lines(&ticks).iter().filter(|line| !line.starts_with(b"answer=0")).count(), 0);
     for n in [1, 8, 16, 32] {
-        let out = printed(&load::by_programs(n, 1_000));
+        let out = sheet(&load::by_programs(n, 1_000));
         assert!(lines(&out).iter().all(|line| line.starts_with(b"answer=0")));
     }
     for n in [16, 64, 256] {
-        let out = printed(&load::by_tracks(n, 2_000));
+        let out = sheet(&load::by_tracks(n, 2_000));
         assert!(times(&out, "answer=8,value=0") > 800);
     }
 }

@@ -5,7 +5,7 @@ use crate::other::Other;
 use crate::script::generate;
 use crate::shrink::shrink;
 use engine::sheet::lines;
-use engine::{parse, sheet, Engine, Fault, Request};
+use engine::{parse, sheet, Engine, Request};
 use std::ops::Range;
 
 /// The most lines that one run of a program gets, unless a single script is longer.
@@ -29,7 +29,7 @@ pub struct Count {
 
 /// Whether the other side prints anything but what the engine prints.
 pub fn differs(other: &Other, input: &[u8]) -> Result<bool, String> {
-    Ok(other.print(input)? != sheet(input, Fault::None))
+    Ok(other.print(input)? != sheet(input))
 }
 
 /// A shorter input that begins with an accepted FRESH where the first one did and still differs.
@@ -41,8 +41,8 @@ pub fn shortest(other: &Other, failure: &Failure) -> Result<Vec<u8>, String> {
 
 /// Whether the first line is a FRESH that is accepted.
 pub fn begins_fresh(input: &[u8]) -> bool {
-    match lines(input).first().map(|line| parse(line, Fault::None)) {
-        Some(Some(Request::Fresh(t, s, r))) => Engine::fresh(t, s, r, Fault::None).1.is_ok(),
+    match lines(input).first().map(|line| parse(line)) {
+        Some(Some(Request::Fresh(t, s, r))) => Engine::fresh(t, s, r).1.is_ok(),
         _ => false,
     }
 }
@@ -86,7 +86,7 @@ pub fn everything(seeds: Range<u64>, lines: usize) -> Vec<(Vec<u8>, Vec<u8>)> {
     inputs.extend(rest.chunks((MOST_LINES / lines.max(1)).max(1)).map(join));
     inputs.extend(fixed_inputs().into_iter().map(|(_, input)| input));
     let with_output = |input: Vec<u8>| {
-        let output = sheet(&input, Fault::None);
+        let output = sheet(&input);
         (input, output)
     };
     inputs.into_iter().map(with_output).collect()
@@ -125,7 +125,7 @@ fn run_batch(
     count.runs += 1;
     count.scripts += scripts.len() as u64;
     count.lines += (scripts.len() * lines) as u64;
-    let expected: Vec<Vec<u8>> = scripts.iter().map(|script| sheet(script, Fault::None)).collect();
+    let expected: Vec<Vec<u8>> = scripts.iter().map(|script| sheet(script)).collect();
     let got = other.print(&join(&scripts))?;
     if got == expected.concat() {
         return Ok(None);

@@ -12,7 +12,7 @@
 //! | `corners` | fixed inputs |
 //! | `forms` | fixed inputs made from the forms of a line |
 //! | `damage` | tables that are not sound |
-//! | `other` | the program, or the mutant, that is compared |
+//! | `other` | the program, or the wrong engine, that is compared |
 //! | `differ` | batches of scripts, and the first difference |
 //! | `shrink` | a shorter script that still fails |
 //! | `report` | a difference in print |
@@ -35,7 +35,7 @@ pub mod wish;
 use std::ops::Range;
 
 /// The seeds that the tests use and that `compare run` takes unless it is told others. Within
-/// them every mutant of the engine is found.
+/// them, and in the fixed inputs, every wrong engine is found but those of `faults::ON_TABLES`.
 pub const CI_SEEDS: Range<u64> = 1..801;
 
 /// Lines per script.

@@ -5,8 +5,8 @@ use comparer::other::Other;
 use comparer::report::report;
 use comparer::script::generate;
 use comparer::{CI_LINES, CI_SEEDS};
-use engine::fault::{Fault, FAULTS};
 use engine::sheet;
+use faults::{Fault, FAULTS};
 use std::io::{self, Read, Write};
 use std::ops::Range;
 use std::process::ExitCode;
@@ -47,13 +47,13 @@ fn command() -> Result<u8, String> {
     match word.as_str() {
         "run" => run(options(rest)?),
         "faults" => {
-            let list = FAULTS.iter().map(|fault| format!("{:24}{}\n", fault.name(), fault.what()));
+            let list = FAULTS.iter().map(|fault| format!("{:24}{}\n", fault.name, fault.what));
             print(list.collect::<String>().as_bytes())
         }
         "sheet" => {
             let mut input = Vec::new();
             io::stdin().lock().read_to_end(&mut input).map_err(|error| error.to_string())?;
-            print(&sheet(&input, Fault::None))
+            print(&sheet(&input))
         }
         "gen" => {
             let options = options(rest)?;
@@ -110,7 +110,7 @@ fn print(bytes: &[u8]) -> Result<u8, String> {
 
 fn run(options: Options) -> Result<u8, String> {
     let other = match (options.fault, options.program.is_empty()) {
-        (Some(fault), true) => Other::Mutant(fault),
+        (Some(fault), true) => Other::Engine(fault.sheet),
         (None, false) => Other::Program { command: options.program, limit: options.limit },
         _ => return Err(USAGE.to_string()),
     };
@@ -145,7 +145,7 @@ fn cases(options: Options) -> Result<u8, String> {
     let mut text = String::new();
     for seed in options.seeds {
         let script = generate(seed, options.lines);
-        let output = sheet(&script, Fault::None);
+        let output = sheet(&script);
         text += &format!("seed {}\nscript{}\noutput{}\n", seed, decimal(&script), decimal(&output));
     }
     print(text.as_bytes())

@@ -1,6 +1,5 @@
-//! What is compared with the engine: a `sheet` program in a process of its own, or a mutant.
+//! What is compared with the engine: a `sheet` program in a process of its own, or another engine.
 
-use engine::{sheet, Fault};
 use std::io::{Read, Write};
 use std::process::{Child, Command, Stdio};
 use std::sync::mpsc;
@@ -8,7 +7,8 @@ use std::thread;
 use std::time::Duration;
 
 pub enum Other {
-    Mutant(Fault),
+    /// The `sheet` of an engine in this process.
+    Engine(fn(&[u8]) -> Vec<u8>),
     Program {
         /// The program and its arguments; not empty.
         command: Vec<String>,
@@ -24,7 +24,7 @@ impl Other {
     /// What it prints on this input. An error is that of starting the program, not of the program.
     pub fn print(&self, input: &[u8]) -> Result<Vec<u8>, String> {
         match self {
-            Other::Mutant(fault) => Ok(sheet(input, *fault)),
+            Other::Engine(sheet) => Ok(sheet(input)),
             Other::Program { command, limit } => run(command, *limit, input),
         }
     }

@@ -1,7 +1,7 @@
 //! A difference in print: the script, then what either side prints on it.
 
+use engine::sheet;
 use engine::sheet::lines;
-use engine::{sheet, Fault};
 use std::fmt::Write;
 
 /// Bytes that are not plain print are shown as `\xNN`.
@@ -30,7 +30,7 @@ fn block(text: &mut String, title: &str, bytes: &[u8], mark: Option<usize>) {
 
 /// The first line in which the two differ is marked in both.
 pub fn report(input: &[u8], got: &[u8]) -> String {
-    let expected = sheet(input, Fault::None);
+    let expected = sheet(input);
     let (right, wrong) = (lines(&expected), lines(got));
     let same = right.iter().zip(&wrong).take_while(|(a, b)| a == b).count();
     let mut text = String::new();

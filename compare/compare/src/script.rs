@@ -6,13 +6,13 @@ use crate::profile::{Profile, Topic};
 use crate::tangle::tangle;
 use crate::{spoil, wish};
 use engine::sheet::print_line;
-use engine::{Engine, Fault};
+use engine::Engine;
 
 /// A script of so many lines. The first is an accepted FRESH; the last may lack its byte 10.
 pub fn generate(seed: u64, lines: usize) -> Vec<u8> {
     let mut prng = Prng::new(seed);
     let profile = Profile::new(&mut prng);
-    let mut engine = Engine::smallest(Fault::None);
+    let mut engine = Engine::smallest();
     let mut script = Vec::new();
     let opening = opening(&mut prng, &profile);
     for place in 0..lines {

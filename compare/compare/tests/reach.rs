@@ -4,7 +4,7 @@ use comparer::script::generate;
 use comparer::{CI_LINES, CI_SEEDS};
 use engine::raw::{Raw, RawWhy};
 use engine::sheet::lines;
-use engine::{Engine, Fault, Holder};
+use engine::{Engine, Holder};
 use std::collections::BTreeMap;
 
 #[derive(Default)]
@@ -72,7 +72,7 @@ fn note_state(reached: &mut Reached, engine: &Engine) {
 fn awkward_states_are_reached() {
     let mut reached = Reached::default();
     for seed in CI_SEEDS {
-        let mut engine = Engine::smallest(Fault::None);
+        let mut engine = Engine::smallest();
         let mut before = Raw::of(&engine);
         for line in lines(&generate(seed, CI_LINES)) {
             let answer = engine.line(line, &mut [0; 8_192]);

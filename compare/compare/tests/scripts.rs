@@ -4,7 +4,7 @@ use comparer::differ::begins_fresh;
 use comparer::script::generate;
 use comparer::{CI_LINES, CI_SEEDS};
 use engine::sheet::lines;
-use engine::{parse, Engine, Fault, Request};
+use engine::{parse, Engine, Request};
 use std::collections::BTreeMap;
 
 /// Every answer that a console line can get from tables that runs from FRESH reach. 11, 12 and 14
@@ -38,7 +38,7 @@ const REACHED: [(&str, &[u64]); 25] = [
 ];
 
 fn kind(line: &[u8]) -> String {
-    let text = parse(line, Fault::None).map_or(String::from("none"), |r| format!("{:?}", r));
+    let text = parse(line).map_or(String::from("none"), |r| format!("{:?}", r));
     text.split('(').next().unwrap_or("").to_string()
 }
 
@@ -46,7 +46,7 @@ fn kind(line: &[u8]) -> String {
 fn every_answer_of_every_line_is_reached() {
     let mut seen: BTreeMap<(String, u64), u64> = BTreeMap::new();
     for seed in CI_SEEDS {
-        let mut engine = Engine::smallest(Fault::None);
+        let mut engine = Engine::smallest();
         for line in lines(&generate(seed, CI_LINES)) {
             let answer = engine.line(line, &mut [0; 8_192]);
             *seen.entry((kind(line), answer.number)).or_insert(0) += 1;
@@ -95,7 +95,7 @@ fn bounds_and_long_lines() {
     let mut longest = 0;
     for seed in CI_SEEDS {
         for line in lines(&generate(seed, CI_LINES)) {
-            let request = parse(line, Fault::None);
+            let request = parse(line);
             longest = longest.max(request.map_or(0, |_| line.len()));
             if let Some(Request::Exec12(_, resolution, multiple, offset)) = request {
                 *timers.entry((resolution, "multiple", multiple)).or_insert(0) += 1;

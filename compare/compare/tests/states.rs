@@ -7,7 +7,7 @@ use comparer::script::generate;
 use comparer::CI_LINES;
 use engine::raw::{Raw, RawRecord, RawWhy};
 use engine::sheet::lines;
-use engine::{parse, Engine, Fault, Request};
+use engine::{parse, Engine, Request};
 
 /// A part of the seeds: every line here costs several turns through the raw form.
 const SEEDS: std::ops::Range<u64> = 1..101;
@@ -16,7 +16,7 @@ const SEEDS: std::ops::Range<u64> = 1..101;
 fn sound_after_every_line() {
     for seed in SEEDS {
         let script = generate(seed, CI_LINES);
-        let mut engine = Engine::smallest(Fault::None);
+        let mut engine = Engine::smallest();
         let mut raw = Raw::of(&engine);
         for line in lines(&script) {
             let mut buffers = ([0; 8_192], [0; 8_192]);
@@ -27,7 +27,7 @@ fn sound_after_every_line() {
             let (from_raw, same_answer) = raw.line(line, &mut buffers.1);
             assert_eq!((&from_raw, same_answer), (&next, answer), "seed {}", seed);
             assert!(buffers.0 == buffers.1);
-            let back = next.engine(Fault::None).expect("sound tables");
+            let back = next.engine().expect("sound tables");
             assert_eq!(Raw::of(&back), next);
             frame(&raw, line, &next, answer.number);
             raw = next;
@@ -42,7 +42,7 @@ fn frame(before: &Raw, line: &[u8], after: &Raw, answer: u64) {
         assert_eq!(before, after);
         return;
     }
-    let request = parse(line, Fault::None).expect("an accepted line");
+    let request = parse(line).expect("an accepted line");
     if matches!(request, Request::Fresh(..)) {
         return;
     }
@@ -88,7 +88,7 @@ fn damaged_tables() {
     let mut still_sound = 0;
     for seed in SEEDS {
         let script = generate(seed, CI_LINES);
-        let mut engine = Engine::smallest(Fault::None);
+        let mut engine = Engine::smallest();
         for line in lines(&script) {
             engine.line(line, &mut [0; 8_192]);
             let mut raw = Raw::of(&engine);
@@ -97,7 +97,7 @@ fn damaged_tables() {
             }
             let (after, answer) = raw.line(b"EXEC,6", &mut []);
             assert!(if raw.sound() { after.sound() } else { after == raw && answer.number == 14 });
-            if let Some(engine) = raw.engine(Fault::None) {
+            if let Some(engine) = raw.engine() {
                 assert_eq!(Raw::of(&engine), raw);
                 still_sound += 1;
             }

@@ -2,8 +2,7 @@
 //! resource numbers have files of their own. Every call first needs a caller (2), then its
 //! parameters (3).
 
-use crate::answer::{self, allow, done, waits, Answer, Outcome, Value};
-use crate::fault::Fault;
+use crate::answer::{allow, done, waits, Answer, Outcome, Value};
 use crate::tables::{
     legal_name, Engine, Name, Timer, Why, DORMANT, GENERAL_WAIT, SCHEDULED, SUSPENDED,
 };
@@ -25,9 +24,6 @@ impl Engine {
     pub fn exec7(&mut self) -> Outcome {
         let caller = self.caller()?;
         self.enter(caller, SUSPENDED, Why::Nothing);
-        if self.fault == Fault::Exec7Waits {
-            return waits(SUSPENDED);
-        }
         done(0)
     }
 
@@ -49,9 +45,6 @@ impl Engine {
     fn schedule_target(&mut self, name: Name) -> Result<usize, Answer> {
         allow(legal_name(name))?;
         let target = self.find(name)?;
-        if self.fault == Fault::StateOfCaller && self.programs[&target].state != DORMANT {
-            return Err(Answer::new(answer::WRONG_STATE, u64::from(SCHEDULED)));
-        }
         self.in_state(target, DORMANT)?;
         self.enter(target, SCHEDULED, Why::Nothing);
         Ok(target)
@@ -59,9 +52,7 @@ impl Engine {
 
     /// EXEC 11: day, hour, minute, second, hundredth.
     pub fn exec11(&self) -> Outcome {
-        if self.fault != Fault::TimeWithoutCaller {
-            self.caller()?;
-        }
+        self.caller()?;
         Ok(Answer { number: 0, value: Value::Time(self.time()) })
     }
 
@@ -70,48 +61,18 @@ impl Engine {
         let day = self.clock / TICKS_OF_A_DAY % 365 + 1;
         let hundredths = self.clock % TICKS_OF_A_DAY;
         let seconds = hundredths / 100;
-        let parts = [day, seconds / 3600, seconds / 60 % 60, seconds % 60, hundredths % 100];
-        self.wrong_time(parts)
-    }
-
-    /// A mutant's time; the right engine's stays.
-    fn wrong_time(&self, [day, hour, minute, second, hundredth]: [u64; 5]) -> [u64; 5] {
-        match self.fault {
-            Fault::SecondsRunOn => [day, hour, minute, minute * 60 + second, hundredth],
-            Fault::MinutesRunOn => [day, hour, hour * 60 + minute, second, hundredth],
-            Fault::HoursRunOn => [day, (day - 1) * 24 + hour, minute, second, hundredth],
-            Fault::DaysRunOn => [self.clock / TICKS_OF_A_DAY + 1, hour, minute, second, hundredth],
-            Fault::HoursLost => [day, 0, minute, second, hundredth],
-            _ => [day, hour, minute, second, hundredth],
-        }
+        [day, seconds / 3600, seconds / 60 % 60, seconds % 60, hundredths % 100]
     }
 
     /// EXEC 12: sets or replaces the timer of any program, in any state. Value due.
     pub fn exec12(&mut self, name: Name, resolution: u64, multiple: u64, offset: u64) -> Outcome {
         self.caller()?;
         allow(legal_name(name) && (1..=4).contains(&resolution))?;
-        let (most_multiple, most_offset) = match self.fault {
-            Fault::Multiple4096 => (4096, 4095),
-            Fault::Multiple4095Refused => (4094, 4095),
-            Fault::Offset4096 => (4095, 4096),
-            Fault::Offset4095Refused => (4095, 4094),
-            _ => (4095, 4095),
-        };
-        allow(multiple <= most_multiple && (1..=most_offset).contains(&offset))?;
+        allow(multiple <= 4095 && (1..=4095).contains(&offset))?;
         let p = self.find(name)?;
-        let mut unit = UNITS[resolution as usize - 1];
-        if self.fault == Fault::HourTooShort && resolution == 4 {
-            unit = 36_000;
-        }
+        let unit = UNITS[resolution as usize - 1];
         let due = self.clock + offset * unit;
-        // Counted with the entries, for the mutant alone.
-        self.entries += 1;
-        let setting = self.entries as u64;
-        let mut interval = multiple * unit;
-        if let (Fault::IntervalLeft, Some(old)) = (self.fault, self.programs[&p].timer) {
-            interval = old.interval;
-        }
-        self.program(p).timer = Some(Timer { due, interval, setting });
+        self.program(p).timer = Some(Timer { due, interval: multiple * unit });
         done(due)
     }
 }

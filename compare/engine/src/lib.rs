@@ -13,11 +13,9 @@
 //! | `waking` | Ending and waking |
 //! | `page`, `line`, `sheet` | The page and the console line |
 //! | `raw`, `sound` | the tables as a caller could hand them in, and when they are sound |
-//! | `fault` | engines that are wrong on purpose, to try the comparison |
 
 pub mod answer;
 pub mod exec;
-pub mod fault;
 pub mod line;
 pub mod numbers;
 pub mod operator;
@@ -30,7 +28,6 @@ pub mod tracks;
 pub mod waking;
 
 pub use answer::{Answer, Outcome, Value};
-pub use fault::Fault;
 pub use line::{parse, Request};
 pub use numbers::Kind;
 pub use raw::Raw;

@@ -1,7 +1,6 @@
 //! The outline, "The page and the console line": the console line.
 
 use crate::answer::{self, refused, Answer, Outcome};
-use crate::fault::Fault;
 use crate::numbers::Kind;
 use crate::tables::{legal_front, Engine, Name};
 
@@ -37,28 +36,15 @@ pub enum Request {
 pub const LONGEST_LINE: usize = 72;
 
 /// Takes a line apart. None is answer 13: a wrong word, field count or field form.
-pub fn parse(line: &[u8], fault: Fault) -> Option<Request> {
-    let line = match (fault, line.split_last()) {
-        (Fault::ReturnDropped, Some((13, front))) => front,
-        _ => line,
-    };
-    let too_long = match fault {
-        Fault::Over30Bytes => line.len() > 30,
-        Fault::Of46Bytes => line.len() == 46,
-        _ => line.len() > LONGEST_LINE,
-    };
-    if line.is_empty() || too_long {
+pub fn parse(line: &[u8]) -> Option<Request> {
+    if line.is_empty() || line.len() > LONGEST_LINE {
         return None;
     }
-    let upper = line.to_ascii_uppercase();
-    let line = if fault == Fault::LowerCase { upper.as_slice() } else { line };
     let fields: Vec<&[u8]> = line.split(|b| *b == b',').collect();
-    request(&fields, fault)
+    request(&fields)
 }
 
-fn request(fields: &[&[u8]], fault: Fault) -> Option<Request> {
-    let number = |field: &[u8]| number(field, fault);
-    let name = |field: &[u8]| name(field, fault);
+fn request(fields: &[&[u8]]) -> Option<Request> {
     let request = match fields {
         [b"FRESH", t, s, r] => Request::Fresh(number(t)?, number(s)?, number(r)?),
         [b"LOAD", n, priority] => Request::Load(name(n)?, number(priority)?),
@@ -68,7 +54,7 @@ fn request(fields: &[&[u8]], fault: Fault) -> Option<Request> {
         [b"PR", n, priority] => Request::Pr(name(n)?, number(priority)?),
         [b"OF", n, how] => Request::Of(name(n)?, number(how)?),
         [b"TICK"] => Request::Tick,
-        [b"EXEC", exec_number, rest @ ..] => exec(number(exec_number)?, rest, fault)?,
+        [b"EXEC", exec_number, rest @ ..] => exec(number(exec_number)?, rest)?,
         [b"RN", b"ALLOC", b"L", w] => Request::Alloc(Kind::Local, number(w)?),
         [b"RN", b"ALLOC", b"G", w] => Request::Alloc(Kind::Global, number(w)?),
         [b"RN", b"LOCK", r, w] => Request::Lock(number(r)?, number(w)?),
@@ -81,9 +67,7 @@ fn request(fields: &[&[u8]], fault: Fault) -> Option<Request> {
 }
 
 /// The EXEC lines; "an EXEC number not listed is 13".
-fn exec(exec_number: u64, fields: &[&[u8]], fault: Fault) -> Option<Request> {
-    let number = |field: &[u8]| number(field, fault);
-    let name = |field: &[u8]| name(field, fault);
+fn exec(exec_number: u64, fields: &[&[u8]]) -> Option<Request> {
     let request = match (exec_number, fields) {
         (4, [n, w]) => Request::Exec4(number(n)?, number(w)?),
         (15, [n, w]) => Request::Exec15(number(n)?, number(w)?),
@@ -104,26 +88,19 @@ fn exec(exec_number: u64, fields: &[&[u8]], fault: Fault) -> Option<Request> {
 }
 
 /// "numbers of 1 to 10 digits without leading zeros"
-fn number(field: &[u8], fault: Fault) -> Option<u64> {
-    let most = if fault == Fault::ElevenDigits { 11 } else { 10 };
-    let digit = |b: &u8| match fault {
-        Fault::ColonDigit if *b == b':' => true,
-        Fault::SlashDigit if *b == b'/' => true,
-        _ => b.is_ascii_digit(),
-    };
-    if field.is_empty() || field.len() > most || !field.iter().all(digit) {
+fn number(field: &[u8]) -> Option<u64> {
+    if field.is_empty() || field.len() > 10 || !field.iter().all(u8::is_ascii_digit) {
         return None;
     }
-    if field[0] == b'0' && field.len() > 1 && fault != Fault::LeadingZero {
+    if field[0] == b'0' && field.len() > 1 {
         return None;
     }
-    let value = field.iter().fold(0, |sum, b| sum * 10 + u64::from(b.saturating_sub(b'0')));
-    Some(if fault == Fault::Wraps32 { value % (1 << 32) } else { value })
+    Some(field.iter().fold(0, |sum, b| sum * 10 + u64::from(b - b'0')))
 }
 
 /// "A name field is a legal name without its blanks"
-fn name(field: &[u8], fault: Fault) -> Option<Name> {
-    if !legal_front(&misread(field, fault)) {
+fn name(field: &[u8]) -> Option<Name> {
+    if !legal_front(field) {
         return None;
     }
     let mut name = *b"     ";
@@ -131,28 +108,11 @@ fn name(field: &[u8], fault: Fault) -> Option<Name> {
     Some(name)
 }
 
-/// The name that a mutant takes this field for; the right engine takes it as it is.
-fn misread(field: &[u8], fault: Fault) -> Vec<u8> {
-    let mut seen = field.to_vec();
-    for (place, byte) in seen.iter_mut().enumerate() {
-        let letter = match fault {
-            Fault::AtLetter => *byte == b'@',
-            Fault::BracketLetter => *byte == b'[',
-            Fault::DigitFirst => place == 0 && byte.is_ascii_digit(),
-            _ => false,
-        };
-        if letter {
-            *byte = b'A';
-        }
-    }
-    seen
-}
-
 impl Engine {
     /// One console line. PAGE writes its page into the lent buffer; every other line leaves the
     /// buffer as it was.
     pub fn line(&mut self, line: &[u8], buffer: &mut [u8]) -> Answer {
-        Answer::of(match parse(line, self.fault) {
+        Answer::of(match parse(line) {
             None => refused(answer::NOT_UNDERSTOOD),
             Some(request) => self.perform(request, buffer),
         })
@@ -191,11 +151,8 @@ impl Engine {
 
     /// "FRESH,T,S,R (where refused, the tables given to the line stay)"
     fn fresh_line(&mut self, t: u64, s: u64, r: u64) -> Outcome {
-        let (mut tables, outcome) = Engine::fresh(t, s, r, self.fault);
-        if self.fault == Fault::FreshKeepsClock {
-            tables.clock = self.clock;
-        }
-        if outcome.is_ok() || self.fault == Fault::RefusedFreshResets {
+        let (tables, outcome) = Engine::fresh(t, s, r);
+        if outcome.is_ok() {
             *self = tables;
         }
         outcome

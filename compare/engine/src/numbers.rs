@@ -2,7 +2,6 @@
 //! numbers.
 
 use crate::answer::{self, allow, done, require, waits, Answer, Outcome};
-use crate::fault::Fault;
 use crate::tables::{Engine, Holder, Number, Why, FREE_NUMBER, GENERAL_WAIT};
 use crate::waking::Released;
 
@@ -22,13 +21,9 @@ impl Engine {
             Kind::Local => Holder::Program(caller),
             Kind::Global => Holder::Global,
         };
-        let is_free = |number: &Number| number.owner == Holder::Free;
-        let lowest = match self.fault {
-            Fault::AllocHighest => self.numbers.iter().rposition(is_free),
-            _ => self.numbers.iter().position(is_free),
-        };
+        let lowest = self.numbers.iter().position(|number| number.owner == Holder::Free);
         if let Some(place) = lowest {
-            // A free number has no lock; only mutants have left one here.
+            // A free number has no lock.
             self.numbers[place].owner = owner;
             return done(place as u64 + 1);
         }
@@ -43,11 +38,7 @@ impl Engine {
         let caller = self.caller()?;
         allow((1..=self.r()).contains(&r) && w <= 1)?;
         let number = self.allocated(r)?;
-        if self.fault == Fault::LockOfOwnerOnly && number.owner != Holder::Global {
-            require(number.owner == Holder::Program(caller), answer::NOT_HOLDER)?;
-        }
-        let own = number.lock == Some(caller) && self.fault != Fault::OwnLockWaits;
-        if number.lock.is_none() || own {
+        if free_for(number, caller) {
             self.numbers[r as usize - 1].lock = Some(caller);
             return done(r);
         }
@@ -62,14 +53,11 @@ impl Engine {
         allow((1..=self.r()).contains(&r))?;
         let number = self.allocated(r)?;
         require(free_for(number, caller), answer::NOT_HOLDER)?;
-        if number.lock.is_none() && self.fault != Fault::ClearAlreadyWakes {
+        if number.lock.is_none() {
             return done(0);
         }
         self.numbers[r as usize - 1].lock = None;
-        let mut released = Released { cleared: vec![r as usize], ..Released::default() };
-        if self.fault == Fault::ClearWakesAny {
-            released.deallocated.push(r as usize);
-        }
+        let released = Released { cleared: vec![r as usize], ..Released::default() };
         let woken = self.wake(&released);
         done(woken)
     }
@@ -81,13 +69,9 @@ impl Engine {
         let number = self.allocated(r)?;
         let mine = number.owner == Holder::Program(caller);
         require(mine || number.owner == Holder::Global, answer::NOT_HOLDER)?;
-        let unlocked = free_for(number, caller) || self.fault == Fault::OwnerFreesLocked && mine;
-        require(unlocked, answer::NOT_HOLDER)?;
+        require(free_for(number, caller), answer::NOT_HOLDER)?;
         self.numbers[r as usize - 1] = FREE_NUMBER;
-        let mut released = Released { deallocated: vec![r as usize], ..Released::default() };
-        if self.fault == Fault::UnlockedWakesNone && number.lock.is_none() {
-            released.deallocated = vec![0];
-        }
+        let released = Released { deallocated: vec![r as usize], ..Released::default() };
         let woken = self.wake(&released);
         done(woken)
     }

@@ -1,7 +1,6 @@
 //! The outline, "Operator requests". The tests of each call stand in the order of "Answer numbers".
 
 use crate::answer::{self, allow, done, refused, require, Outcome};
-use crate::fault::Fault;
 use crate::tables::{
     legal_name, Engine, Name, Program, Why, CEILING, DORMANT, LOWEST_PRIORITY, RECORDS, SCHEDULED,
     SUSPENDED,
@@ -13,11 +12,7 @@ impl Engine {
     pub fn load(&mut self, name: Name, priority: u64) -> Outcome {
         allow(legal_name(name) && priority <= LOWEST_PRIORITY)?;
         require(self.find(name).is_err(), answer::NAME_IN_USE)?;
-        let mut records: Vec<usize> = (1..=RECORDS).collect();
-        if self.fault == Fault::LoadHighest {
-            records.reverse();
-        }
-        let unused = records.into_iter().find(|p| !self.programs.contains_key(p));
+        let unused = (1..=RECORDS).find(|p| !self.programs.contains_key(p));
         let p = match unused {
             Some(p) => p,
             None => return refused(answer::ALL_USED),
@@ -48,18 +43,12 @@ impl Engine {
         let p = self.find(name)?;
         self.in_state(p, from)?;
         self.enter(p, to, Why::Nothing);
-        if self.fault == Fault::RunBeforeEquals && from == DORMANT {
-            self.before_its_equals(p);
-        }
         done(0)
     }
 
     /// PR: new priority; a program in a chain leaves it and enters it anew, even for the same
     /// number. Value the old priority.
     pub fn pr(&mut self, name: Name, priority: u64) -> Outcome {
-        if self.fault == Fault::NameBeforeNumber {
-            self.find(name)?;
-        }
         allow(legal_name(name) && (1..=LOWEST_PRIORITY).contains(&priority))?;
         let p = self.find(name)?;
         let (state, why, old) = {
@@ -67,13 +56,7 @@ impl Engine {
             (program.state, program.why, program.priority)
         };
         self.program(p).priority = priority;
-        let kept = match self.fault {
-            Fault::PrKeepsEntry => true,
-            Fault::PrSameKeepsEntry => priority == old,
-            Fault::PrScheduledOnly => state != SCHEDULED,
-            _ => false,
-        };
-        if state != DORMANT && !kept {
+        if state != DORMANT {
             self.enter(p, state, why);
         }
         done(old)
@@ -83,63 +66,44 @@ impl Engine {
     pub fn of(&mut self, name: Name, how: u64) -> Outcome {
         allow(legal_name(name) && (how == 1 || how == 8))?;
         let p = self.find(name)?;
-        if self.fault == Fault::OfDormantRefused && self.programs[&p].state == DORMANT {
-            return refused(answer::WRONG_STATE);
-        }
         let ending = if how == 8 { Ending::Of8 } else { Ending::Of1 };
-        let (freed, woken) = self.ending(p, ending);
-        done(if self.fault == Fault::OfCountsWoken { woken } else { freed })
+        let (freed, _) = self.ending(p, ending);
+        done(freed)
     }
 
     /// TICK: clock + 1, then by program number each timer now due. Value programs scheduled.
     pub fn tick(&mut self) -> Outcome {
-        if self.fault != Fault::CeilingPassed {
-            require(self.clock < CEILING, answer::CEILING)?;
-        }
+        require(self.clock < CEILING, answer::CEILING)?;
         self.clock += 1;
         let mut scheduled = 0;
         for p in self.now_due() {
-            let dormant = self.programs[&p].state == DORMANT;
-            if self.fault == Fault::DueWaitsTurn {
-                self.runs_on = self.caller().ok();
-            }
-            if dormant {
+            if self.programs[&p].state == DORMANT {
                 self.enter(p, SCHEDULED, Why::Nothing);
-            }
-            if dormant || self.fault == Fault::TickCountsDue {
                 scheduled += 1;
             }
-            if dormant || self.fault != Fault::DueLeft {
-                self.move_due(p);
-            }
+            self.move_due(p);
         }
         done(scheduled)
     }
 
     /// The programs whose timer is due at this tick, by program number.
     fn now_due(&self) -> Vec<usize> {
-        let mut due: Vec<(u64, usize)> = Vec::new();
+        let mut due = Vec::new();
         for (p, program) in &self.programs {
             if let Some(timer) = program.timer {
                 if timer.due == self.clock {
-                    due.push((timer.setting, *p));
+                    due.push(*p);
                 }
             }
         }
-        match self.fault {
-            Fault::TickBySetting => due.sort_unstable(),
-            Fault::TickFalling => due.reverse(),
-            _ => {}
-        }
-        due.iter().map(|(_, p)| *p).collect()
+        due
     }
 
     /// "due grows by the interval, or the timer goes if that is 0"
     fn move_due(&mut self, p: usize) {
-        let once_left = self.fault == Fault::OnceLeft;
         let program = self.program(p);
         if let Some(timer) = &mut program.timer {
-            if timer.interval > 0 || once_left {
+            if timer.interval > 0 {
                 timer.due += timer.interval;
             } else {
                 program.timer = None;

@@ -1,7 +1,6 @@
 //! The outline, "The page and the console line": the page.
 
 use crate::answer::{self, done, Answer, Outcome};
-use crate::fault::Fault;
 use crate::tables::{shown_name, Engine, Holder, Program, Timer, Why, CHAINS};
 
 impl Engine {
@@ -43,8 +42,7 @@ impl Engine {
         let mut first = 0;
         for track in 0..self.tracks.len() {
             let holder = self.tracks[track];
-            let joined = self.fault != Fault::HeldNotJoined;
-            if joined && self.tracks.get(track + 1) == Some(&holder) {
+            if self.tracks.get(track + 1) == Some(&holder) {
                 continue;
             }
             if matches!(holder, Holder::Program(_) | Holder::Global) {

@@ -2,7 +2,6 @@
 //! them. `sound` says which of them are tables; those alone turn into an engine and back.
 
 use crate::answer::{self, Answer, Outcome};
-use crate::fault::Fault;
 use crate::tables::{Engine, Holder, Name, Number, Program, Timer, Why, CHAINS, RECORDS};
 
 /// As `Why`, with any number in it.
@@ -108,11 +107,11 @@ impl Raw {
     }
 
     /// The engine with these tables, if they are sound. Entries are numbered in chain order.
-    pub fn engine(&self, fault: Fault) -> Option<Engine> {
-        if !self.sound_by(fault) {
+    pub fn engine(&self) -> Option<Engine> {
+        if !self.sound() {
             return None;
         }
-        let (mut engine, _) = Engine::fresh(self.t, self.s, self.r, fault);
+        let (mut engine, _) = Engine::fresh(self.t, self.s, self.r);
         engine.clock = self.clock;
         for (place, record) in self.records.iter().enumerate() {
             if record.used {
@@ -150,16 +149,7 @@ impl Raw {
     /// A call on these tables: 14 with the same tables if they are not sound, else what the engine
     /// answers, with the tables after it.
     pub fn call(&self, call: impl FnOnce(&mut Engine) -> Outcome) -> (Raw, Answer) {
-        self.call_by(Fault::None, call)
-    }
-
-    /// The same by a wrong engine.
-    pub fn call_by(
-        &self,
-        fault: Fault,
-        call: impl FnOnce(&mut Engine) -> Outcome,
-    ) -> (Raw, Answer) {
-        match self.engine(fault) {
+        match self.engine() {
             None => (self.clone(), Answer::new(answer::NOT_SOUND, 0)),
             Some(mut engine) => {
                 let answer = Answer::of(call(&mut engine));
@@ -202,7 +192,7 @@ fn program(record: &RawRecord) -> Program {
         RawWhy::Lock(r) => Why::Lock(r as usize),
         RawWhy::Number => Why::Number,
     };
-    let timer = Timer { due: record.due, interval: record.interval, setting: 0 };
+    let timer = Timer { due: record.due, interval: record.interval };
     Program {
         name: record.name,
         priority: record.priority,

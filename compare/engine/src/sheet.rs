@@ -1,27 +1,16 @@
 //! The outline, "The page and the console line": the program `sheet`.
 
 use crate::answer::{self, refused, Answer, Value};
-use crate::fault::Fault;
-use crate::line::{parse, Request, LONGEST_LINE};
+use crate::line::{parse, Request};
 use crate::tables::Engine;
 
 /// Console lines in, what `sheet` prints out.
-pub fn sheet(input: &[u8], fault: Fault) -> Vec<u8> {
+pub fn sheet(input: &[u8]) -> Vec<u8> {
     // It starts with the smallest tables.
-    let mut engine = Engine::smallest(fault);
+    let mut engine = Engine::smallest();
     let mut output = Vec::new();
-    let mut lines = lines(input);
-    if fault == Fault::LastLineLost && !input.ends_with(b"\n") {
-        lines.pop();
-    }
-    for line in lines {
-        if fault == Fault::LongLineInParts && line.len() > LONGEST_LINE {
-            for part in line.chunks(LONGEST_LINE) {
-                output.extend(print_line(&mut engine, part));
-            }
-        } else {
-            output.extend(print_line(&mut engine, line));
-        }
+    for line in lines(input) {
+        output.extend(print_line(&mut engine, line));
     }
     output
 }
@@ -38,7 +27,7 @@ pub fn lines(input: &[u8]) -> Vec<&[u8]> {
 
 /// `answer=a,value=v`, for PAGE the page instead.
 pub fn print_line(engine: &mut Engine, line: &[u8]) -> Vec<u8> {
-    let outcome = match parse(line, engine.fault) {
+    let outcome = match parse(line) {
         Some(Request::Page) => return engine.page_bytes(),
         Some(request) => engine.perform(request, &mut []),
         None => refused(answer::NOT_UNDERSTOOD),

@@ -1,7 +1,6 @@
 //! The outline, "Tables are sound exactly when": one function for each part of that sentence. Every
 //! one of them ends and answers for any values whatever, in whichever order they are asked.
 
-use crate::fault::Fault;
 use crate::raw::{Raw, RawNumber, RawRecord, RawWhy, BLANK_NUMBER, GLOBAL, LINKS, SYSTEM, UNUSED};
 use crate::tables::{
     legal_name, CEILING, CHAINS, DISC, FURTHEST, GENERAL_WAIT, LOWEST_PRIORITY, MOST_NUMBERS,
@@ -11,16 +10,11 @@ use crate::tables::{
 impl Raw {
     /// Answer 14 if not.
     pub fn sound(&self) -> bool {
-        self.sound_by(Fault::None)
-    }
-
-    /// The same by a wrong engine.
-    pub fn sound_by(&self, fault: Fault) -> bool {
         self.limits_hold()
             && self.names_legal_and_distinct()
             && self.unused_hold_zeros()
             && self.timers_fit()
-            && self.chains_hold_their_programs(fault)
+            && self.chains_hold_their_programs()
             && self.whys_fit()
             && self.no_son_awaited_twice()
             && self.tracks_fit()
@@ -75,14 +69,9 @@ impl Raw {
 
     /// "each chain holds just the programs of its state, once, priorities never falling, other
     /// links zero"
-    fn chains_hold_their_programs(&self, fault: Fault) -> bool {
+    fn chains_hold_their_programs(&self) -> bool {
         let mut linked = [false; RECORDS + 1];
-        let all_right = CHAINS.iter().all(|state| match fault {
-            Fault::CycleSound | Fault::CycleFollowed | Fault::CrossedSound => {
-                self.chain_seems_to_fit(*state, &mut linked, fault)
-            }
-            _ => self.chain_fits(*state, &mut linked),
-        });
+        let all_right = CHAINS.iter().all(|state| self.chain_fits(*state, &mut linked));
         let no_use = [0, 2, 4, LINKS];
         all_right
             && no_use.iter().all(|slot| self.links[*slot] == 0)
@@ -112,32 +101,6 @@ impl Raw {
             next = self.links[LINKS + usize::from(next)];
         }
         true
-    }
-
-    /// A mutant's way along a chain: it minds priorities alone, or the state as well.
-    fn chain_seems_to_fit(
-        &self,
-        state: u8,
-        linked: &mut [bool; RECORDS + 1],
-        fault: Fault,
-    ) -> bool {
-        let mut members = Vec::new();
-        let mut next = self.links[usize::from(state)];
-        while let Some(record) = self.used_record(u64::from(next)) {
-            let crossed = record.state != u64::from(state);
-            let met = members.contains(&next);
-            match fault {
-                Fault::CrossedSound if met => return false,
-                Fault::CycleSound | Fault::CycleFollowed if crossed => return false,
-                Fault::CycleSound if members.len() == RECORDS => return true,
-                _ => assert!(members.len() < 1_000, "a mutant would follow a cycle for ever"),
-            }
-            linked[usize::from(next)] = true;
-            members.push(next);
-            next = self.links[LINKS + usize::from(next)];
-        }
-        let priority = |p: &u8| self.records[usize::from(*p) - 1].priority;
-        next == 0 && members.windows(2).all(|two| priority(&two[0]) <= priority(&two[1]))
     }
 
     /// "each why fits its state (nothing in 0, 1 and 6), with count 1 to T, resource 1 to R, son

@@ -1,7 +1,6 @@
 //! The outline, "The tables", and FRESH.
 
 use crate::answer::{self, done, refused, Answer, Outcome};
-use crate::fault::Fault;
 use std::collections::BTreeMap;
 
 pub const RECORDS: usize = 32;
@@ -39,8 +38,6 @@ pub struct Timer {
     pub due: u64,
     /// 0 means once.
     pub interval: u64,
-    /// When it was set. No rule of the outline looks at this; only `Fault::TickBySetting` does.
-    pub setting: u64,
 }
 
 #[derive(Clone, Debug, PartialEq, Eq)]
@@ -84,27 +81,24 @@ pub struct Engine {
     pub numbers: Vec<Number>,
     /// How many entries into chains there were.
     pub(crate) entries: i64,
-    /// The program that two mutants take for the caller, whoever heads the chain.
-    pub(crate) runs_on: Option<usize>,
-    pub(crate) fault: Fault,
 }
 
 impl Engine {
     /// T=1, S=0, R=0.
-    pub fn smallest(fault: Fault) -> Engine {
-        Engine::empty(1, 0, 0, fault)
+    pub fn smallest() -> Engine {
+        Engine::empty(1, 0, 0)
     }
 
     /// FRESH. Refused, it yields the smallest tables.
-    pub fn fresh(t: u64, s: u64, r: u64, fault: Fault) -> (Engine, Outcome) {
+    pub fn fresh(t: u64, s: u64, r: u64) -> (Engine, Outcome) {
         if (1..=MOST_TRACKS).contains(&t) && s <= t && r <= MOST_NUMBERS {
-            (Engine::empty(t, s, r, fault), done(0))
+            (Engine::empty(t, s, r), done(0))
         } else {
-            (Engine::smallest(fault), refused(answer::NOT_ALLOWED))
+            (Engine::smallest(), refused(answer::NOT_ALLOWED))
         }
     }
 
-    fn empty(t: u64, s: u64, r: u64, fault: Fault) -> Engine {
+    fn empty(t: u64, s: u64, r: u64) -> Engine {
         let holder = |track| if track < s { Holder::System } else { Holder::Free };
         Engine {
             clock: 0,
@@ -113,15 +107,7 @@ impl Engine {
             tracks: (0..t).map(holder).collect(),
             numbers: (0..r).map(|_| FREE_NUMBER).collect(),
             entries: 0,
-            runs_on: None,
-            fault,
         }
-    }
-
-    /// The same tables with another way of going wrong.
-    pub fn with_fault(mut self, fault: Fault) -> Engine {
-        self.fault = fault;
-        self
     }
 
     /// T
@@ -149,9 +135,6 @@ impl Engine {
 
     /// Test 2. The caller is the head of the scheduled chain.
     pub fn caller(&self) -> Result<usize, Answer> {
-        if let Some(p) = self.runs_on {
-            return Ok(p);
-        }
         match self.chain(SCHEDULED).first() {
             Some(p) => Ok(*p),
             None => Err(Answer::new(answer::NO_CALLER, 0)),
@@ -187,9 +170,6 @@ impl Engine {
     pub(crate) fn enter(&mut self, p: usize, state: u8, why: Why) {
         self.entries += 1;
         let entry = self.entries;
-        if self.runs_on == Some(p) {
-            self.runs_on = None;
-        }
         let program = self.program(p);
         program.state = state;
         program.why = why;

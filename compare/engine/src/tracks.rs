@@ -1,7 +1,6 @@
 //! The outline, "Calls of the running program": EXEC 4, 15, 5 and 16, the calls for disc tracks.
 
 use crate::answer::{self, allow, done, refused, require, waits, Outcome};
-use crate::fault::Fault;
 use crate::tables::{Engine, Holder, Why, DISC};
 use crate::waking::Released;
 
@@ -20,8 +19,7 @@ impl Engine {
 
     /// The lowest run of n free tracks; value its first. None: wait in state 5, or 8.
     fn claim(&mut self, caller: usize, holder: Holder, n: u64, w: u64) -> Outcome {
-        let most = if self.fault == Fault::MostIsFree { self.t() - self.system } else { self.t() };
-        allow((1..=most).contains(&n) && w <= 1)?;
+        allow((1..=self.t()).contains(&n) && w <= 1)?;
         if let Some(first) = self.free_run(n) {
             for track in &mut self.tracks[first as usize..(first + n) as usize] {
                 *track = holder;
@@ -35,15 +33,11 @@ impl Engine {
 
     /// The first track of the lowest run of n free ones.
     pub fn free_run(&self, n: u64) -> Option<u64> {
-        if self.fault == Fault::BestFit {
-            return self.shortest_gap(n);
-        }
         let mut length = 0;
         for track in 0..self.t() {
-            let lost = self.fault == Fault::LastTrackLost && track + 1 == self.t();
-            if self.tracks[track as usize] == Holder::Free && !lost {
+            if self.tracks[track as usize] == Holder::Free {
                 length += 1;
-            } else if self.fault != Fault::AcrossGap {
+            } else {
                 length = 0;
             }
             if length == n {
@@ -51,20 +45,6 @@ impl Engine {
             }
         }
         None
-    }
-
-    /// A mutant's way: the shortest of the gaps that are long enough.
-    fn shortest_gap(&self, n: u64) -> Option<u64> {
-        let mut gaps: Vec<(u64, u64)> = Vec::new();
-        let mut start = 0;
-        for track in 0..=self.t() {
-            if self.tracks.get(track as usize) != Some(&Holder::Free) {
-                gaps.push((track - start, start));
-                start = track + 1;
-            }
-        }
-        let fitting = gaps.into_iter().filter(|(length, _)| *length >= n);
-        fitting.min().map(|(_, first)| first)
     }
 
     /// EXEC 5 with n and start: every track must be the caller's, else 9.
@@ -80,44 +60,22 @@ impl Engine {
     }
 
     fn give_back(&mut self, holder: Holder, n: u64, start: u64) -> Outcome {
-        if self.sum_wraps(n, start) {
-            // No track lies from start to an end below it, so each of them is the holder's.
-            return done(n);
-        }
         let end = match start.checked_add(n) {
             Some(end) if n >= 1 && end <= self.t() => end,
             _ => return refused(answer::NOT_ALLOWED),
         };
         let run = &mut self.tracks[start as usize..end as usize];
-        let fitting = run.iter().take_while(|track| **track == holder).count();
-        if fitting as u64 == n || self.fault == Fault::PartFreed {
-            for track in &mut run[..fitting] {
-                *track = Holder::Free;
-            }
-        }
-        require(fitting as u64 == n, answer::NOT_HOLDER)?;
-        if holder != Holder::Global || self.fault != Fault::GlobalWakesNone {
-            self.wake(&Released { tracks: n, ..Released::default() });
-        }
+        require(run.iter().all(|track| *track == holder), answer::NOT_HOLDER)?;
+        run.fill(Holder::Free);
+        self.wake(&Released { tracks: n, ..Released::default() });
         done(n)
-    }
-
-    /// A mutant's error: start + n, cut to so many bits, lies below start and within T.
-    fn sum_wraps(&self, n: u64, start: u64) -> bool {
-        let end = match self.fault {
-            Fault::SumIn32Bits => start.wrapping_add(n) % (1 << 32),
-            Fault::SumIn64Bits => start.wrapping_add(n),
-            _ => return false,
-        };
-        n >= 1 && end <= self.t() && end < start
     }
 
     /// EXEC 5 with ALL: all the caller holds, perhaps none.
     pub fn exec5_all(&mut self) -> Outcome {
         let caller = self.caller()?;
         let freed = self.free_tracks_of(caller);
-        let tracks = if self.fault == Fault::NoneFreedWakes { 1 } else { freed };
-        self.wake(&Released { tracks, ..Released::default() });
+        self.wake(&Released { tracks: freed, ..Released::default() });
         done(freed)
     }
 

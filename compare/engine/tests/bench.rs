@@ -1,10 +1,10 @@
 //! The outline's worked example and its bench sheet.
 
 use engine::raw::{Raw, RawRecord, UNUSED};
-use engine::{sheet, Answer, Engine, Fault, Value};
+use engine::{sheet, Answer, Engine, Value};
 
 fn run(script: &str) -> String {
-    String::from_utf8(sheet(script.as_bytes(), Fault::None)).expect("sheet prints text")
+    String::from_utf8(sheet(script.as_bytes())).expect("sheet prints text")
 }
 
 /// What the last lines of a script print, without the page.
@@ -75,12 +75,12 @@ fn case_7() {
 
 /// Tables with one scheduled program, at any clock.
 fn at_clock(clock: u64) -> Engine {
-    let (engine, _) = Engine::fresh(4, 1, 1, Fault::None);
+    let (engine, _) = Engine::fresh(4, 1, 1);
     let mut raw = Raw::of(&engine);
     raw.records[0] = RawRecord { used: true, name: *b"A    ", state: 1, ..UNUSED };
     raw.links[1] = 1;
     raw.clock = clock;
-    raw.engine(Fault::None).expect("sound tables")
+    raw.engine().expect("sound tables")
 }
 
 fn time(engine: &Engine) -> [u64; 5] {

@@ -2,13 +2,13 @@
 
 mod common;
 use common::{answers, last, page, run};
-use engine::{sheet, Fault};
+use engine::sheet;
 
 /// Every line is answered 13 once.
 fn not_understood(line: &[u8]) {
     let mut input = line.to_vec();
     input.push(b'\n');
-    let printed = sheet(&input, Fault::None);
+    let printed = sheet(&input);
     assert_eq!(printed, b"answer=13,value=0\n", "{:?}", String::from_utf8_lossy(line));
 }
 
@@ -55,7 +55,7 @@ fn every_byte_as_a_line() {
 #[test]
 fn every_byte_in_a_name() {
     for byte in (0..=255u8).filter(|byte| *byte != 10) {
-        let printed = sheet(&[b"LOAD,A", &[byte][..], b",1"].concat(), Fault::None);
+        let printed = sheet(&[b"LOAD,A", &[byte][..], b",1"].concat());
         let good = byte.is_ascii_uppercase() || byte.is_ascii_digit();
         let expected: &[u8] = if good { b"answer=0,value=1\n" } else { b"answer=13,value=0\n" };
         assert_eq!(printed, expected, "byte {}", byte);
@@ -156,7 +156,7 @@ fn a_long_sheet_is_quick() {
     let script = "FRESH,256,0,16\nLOAD,A,1\nRU,A\nEXEC,4,7,1\nEXEC,5,ALL\nEXEC,11\nTICK\nOF,A,8\n"
         .repeat(12_500);
     let start = std::time::Instant::now();
-    let printed = sheet(script.as_bytes(), Fault::None);
+    let printed = sheet(script.as_bytes());
     assert_eq!(printed.iter().filter(|b| **b == 10).count(), 100_000);
     assert!(start.elapsed().as_secs() < 10);
 }

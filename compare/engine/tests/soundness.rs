@@ -2,7 +2,7 @@
 //! place.
 
 use engine::raw::{Raw, RawRecord, RawWhy, GLOBAL, LINKS, SLOTS, SYSTEM, UNUSED};
-use engine::{Engine, Fault};
+use engine::Engine;
 
 fn record(name: &[u8; 5], priority: u64, state: u64, why: RawWhy) -> RawRecord {
     RawRecord { used: true, name: *name, priority, state, why, ..UNUSED }
@@ -11,7 +11,7 @@ fn record(name: &[u8; 5], priority: u64, state: u64, why: RawWhy) -> RawRecord {
 /// Programs 1 to 9: A waits for son B, B, C and D are scheduled, E waits for tracks, F for a lock,
 /// G for any number, H is suspended, I is dormant with a timer. T=8, S=2, R=3.
 fn sound_tables() -> Raw {
-    let (engine, _) = Engine::fresh(8, 2, 3, Fault::None);
+    let (engine, _) = Engine::fresh(8, 2, 3);
     let mut raw = Raw::of(&engine);
     raw.clock = 100;
     raw.records[0] = record(b"A    ", 10, 3, RawWhy::Son(2));
@@ -64,7 +64,7 @@ fn after(damage: impl FnOnce(&mut Raw)) -> bool {
 #[test]
 fn undamaged() {
     assert!(sound_tables().sound());
-    assert!(Raw::of(&Engine::smallest(Fault::None)).sound());
+    assert!(Raw::of(&Engine::smallest()).sound());
     for p in 10..=32 {
         // Any other free record may take a program.
         assert!(after(|raw| raw.records[p - 1] = record(b"NEW  ", 1, 0, RawWhy::Nothing)));
@@ -252,18 +252,18 @@ fn numbers() {
 fn limits_reached() {
     for (t, s, r) in [(1, 0, 0), (1, 1, 0), (4, 4, 1), (256, 0, 16), (256, 255, 0), (256, 256, 16)]
     {
-        let (engine, _) = Engine::fresh(t, s, r, Fault::None);
+        let (engine, _) = Engine::fresh(t, s, r);
         assert!(Raw::of(&engine).sound(), "FRESH,{},{},{}", t, s, r);
     }
     // No track at all, and nothing else wrong.
-    let mut raw = Raw::of(&Engine::smallest(Fault::None));
+    let mut raw = Raw::of(&Engine::smallest());
     raw.t = 0;
     assert!(!raw.sound());
 }
 
 /// Two programs: p, and another that is scheduled.
 fn beside(p: usize, state: u64, why: RawWhy) -> Raw {
-    let (engine, _) = Engine::fresh(4, 0, 1, Fault::None);
+    let (engine, _) = Engine::fresh(4, 0, 1);
     let mut raw = Raw::of(&engine);
     let other = p % 32 + 1;
     raw.records[other - 1] = record(b"A    ", 10, 1, RawWhy::Nothing);
@@ -295,7 +295,7 @@ fn every_record() {
         for chain in [[other as u8, p as u8], [p as u8, other as u8]] {
             let mut two = beside(p, 1, RawWhy::Nothing);
             link(&mut two, 1, &chain);
-            let engine = two.engine(Fault::None).expect("sound tables");
+            let engine = two.engine().expect("sound tables");
             assert_eq!(engine.chain(1), chain.map(usize::from));
             assert_eq!(Raw::of(&engine), two);
             // Its father waits in chain 3, and then another as well.
@@ -317,7 +317,7 @@ fn every_record() {
 fn timers_there_and_back() {
     let mut raw = beside(1, 0, RawWhy::Nothing);
     raw.records[0].due = 1;
-    let engine = raw.engine(Fault::None).expect("sound tables");
+    let engine = raw.engine().expect("sound tables");
     assert_eq!(Raw::of(&engine), raw);
     assert_eq!(engine.programs[&1].timer.map(|timer| (timer.due, timer.interval)), Some((1, 0)));
     assert_eq!(engine.programs[&2].timer, None);
@@ -342,7 +342,7 @@ fn the_raw_form() {
 #[test]
 fn round_trip() {
     let raw = sound_tables();
-    let engine = raw.engine(Fault::None).expect("sound tables");
+    let engine = raw.engine().expect("sound tables");
     assert_eq!(engine.chain(1), [4, 3, 2]);
     assert_eq!(engine.chain(3), [6, 1, 7]);
     assert_eq!(Raw::of(&engine), raw);

@@ -3,7 +3,7 @@
 
 mod common;
 use common::{answers, chain, last, page};
-use engine::{Answer, Engine, Fault, Kind};
+use engine::{Answer, Engine, Kind};
 
 const THREE: &str = "LOAD,A,10 LOAD,B,10 LOAD,C,10";
 
@@ -180,7 +180,7 @@ fn numbers_are_not_cut_to_32_bits() {
 
 #[test]
 fn wide_parameters_are_refused() {
-    let (mut engine, _) = Engine::fresh(4, 0, 2, Fault::None);
+    let (mut engine, _) = Engine::fresh(4, 0, 2);
     let (a, most) = (*b"A    ", u64::MAX);
     assert_eq!(engine.load(a, most), Err(Answer::new(3, 0)));
     assert_eq!(engine.load(a, 32_767), Ok(Answer::new(0, 1)));
@@ -215,8 +215,8 @@ fn wide_parameters_are_refused() {
         assert_eq!(answer, Err(Answer::new(3, 0)));
     }
     assert_eq!(engine, before);
-    assert_eq!(Engine::fresh(most, 0, 0, Fault::None).1, Err(Answer::new(3, 0)));
-    assert_eq!(Engine::fresh(5, 6, 0, Fault::None).0, Engine::smallest(Fault::None));
+    assert_eq!(Engine::fresh(most, 0, 0).1, Err(Answer::new(3, 0)));
+    assert_eq!(Engine::fresh(5, 6, 0).0, Engine::smallest());
 }
 
 #[test]

@@ -1,11 +1,11 @@
 //! Rules that no run from FRESH can show: calls on sound tables that were put by hand.
 
 use engine::raw::{Raw, RawRecord, RawWhy, GLOBAL, LINKS, UNUSED};
-use engine::{Answer, Engine, Fault};
+use engine::{Answer, Engine};
 
 /// One program runs (1, priority 5), one is dormant (4), two are in chain 3 (2, 3).
 fn tables(why2: RawWhy, why3: RawWhy) -> Raw {
-    let (engine, _) = Engine::fresh(4, 0, 2, Fault::None);
+    let (engine, _) = Engine::fresh(4, 0, 2);
     let mut raw = Raw::of(&engine);
     let record = |name: &[u8; 5], priority, state, why| RawRecord {
         used: true,
@@ -97,7 +97,7 @@ fn two_waiters_of_one_son_are_not_sound() {
 #[test]
 fn page_through_a_line_needs_its_buffer() {
     let raw = tables(RawWhy::Lock(1), RawWhy::Number);
-    let length = raw.engine(Fault::None).expect("sound tables").page_bytes().len();
+    let length = raw.engine().expect("sound tables").page_bytes().len();
     let mut short = vec![7; length - 1];
     let (same, answer) = raw.line(b"PAGE", &mut short);
     assert_eq!((same, answer), (raw.clone(), Answer::new(12, length as u64)));
@@ -110,7 +110,7 @@ fn page_through_a_line_needs_its_buffer() {
 /// The longest page there is: 7,866 bytes, below 8,192.
 #[test]
 fn the_longest_page() {
-    let (engine, _) = Engine::fresh(256, 0, 16, Fault::None);
+    let (engine, _) = Engine::fresh(256, 0, 16);
     let mut raw = Raw::of(&engine);
     raw.clock = 1_000_000_000_000;
     for place in 0..32 {
@@ -134,6 +134,6 @@ fn the_longest_page() {
         number.owner = GLOBAL;
         number.lock = 32;
     }
-    let page = raw.engine(Fault::None).expect("sound tables").page_bytes();
+    let page = raw.engine().expect("sound tables").page_bytes();
     assert_eq!(page.len(), 7_866);
 }

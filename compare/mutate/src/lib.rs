@@ -3,14 +3,8 @@
 //!
 //! | file | subject |
 //! |---|---|
-//! | `lexer` | a source in tokens |
-//! | `dead` | what only the engines that are wrong on purpose run |
 //! | `sites` | the changes that a source allows |
-//! | `many` | all changes within functions in one source, one of them chosen when it runs |
 //! | `trial` | changed engines, built and tried |
 
-pub mod dead;
-pub mod lexer;
-pub mod many;
 pub mod sites;
 pub mod trial;

@@ -1,7 +1,9 @@
 //! The command line: see `USAGE`.
 
-use mutate::sites::{changes, Change};
-use mutate::trial::{name, read, sources, Shop, Verdict, OFF_THE_CONSOLE};
+use edit::change::{apply, Change};
+use edit::files::{files, name, read};
+use mutate::sites::changes;
+use mutate::trial::{Shop, Verdict, OFF_THE_CONSOLE};
 use std::path::{Path, PathBuf};
 use std::process::ExitCode;
 
@@ -10,9 +12,6 @@ Changes the sources of ENGINE (./engine) one constant or operator at a time, and
 changed engines pass both the comparer and the engine's tests. --list only lists the changes. PART is
 functions or constants: only what is within functions, or only what is not. Status 0: all were tried;
 2: not run.";
-
-/// It has the list of the engines that are wrong on purpose, and nothing else.
-const LEFT_OUT: &str = "fault.rs";
 
 struct Options {
     list: bool,
@@ -71,9 +70,9 @@ fn shown(file: &str, change: &Change) -> String {
 
 fn run(options: Options) -> Result<(), String> {
     let mut all: Vec<(String, String, Change)> = Vec::new();
-    for path in sources(&options.engine.join("src"))? {
+    for path in files(&options.engine.join("src"), "rs")? {
         let file = name(&path);
-        if file == LEFT_OUT || options.file.as_ref().map_or(false, |wanted| *wanted != file) {
+        if options.file.as_ref().map_or(false, |wanted| *wanted != file) {
             continue;
         }
         let source = read(&path)?;
@@ -103,7 +102,7 @@ fn try_all(engine: &Path, folder: &Path, all: &[(String, String, Change)]) -> Re
         if change.body.is_some() {
             within.push((file.clone(), source.clone(), change.clone()));
         } else {
-            tell(&mut counts, shop.alone(file, &change.apply(source))?, file, change);
+            tell(&mut counts, shop.alone(file, &apply(source, &[change]))?, file, change);
         }
     }
     let unbuilt = shop.together(&within)?;

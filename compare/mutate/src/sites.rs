@@ -1,79 +1,19 @@
 //! The changes that a source allows: each number one up, one down or 0, each operator another.
 
-use crate::dead::{closing, dead, find};
-use crate::lexer::{tokens, Kind, Token};
-
-/// One change of a source.
-#[derive(Clone, Debug, PartialEq, Eq)]
-pub struct Change {
-    pub start: usize,
-    pub old: String,
-    pub new: String,
-    /// From 1.
-    pub line: usize,
-    /// The line it is in, without its blanks at both ends.
-    pub context: String,
-    /// Where the body of its function starts and ends, brackets and all; none for a constant.
-    pub body: Option<(usize, usize)>,
-}
-
-impl Change {
-    pub fn apply(&self, source: &str) -> String {
-        let (front, rest) = source.split_at(self.start);
-        [front, &self.new, &rest[self.old.len()..]].concat()
-    }
-}
+use edit::change::Change;
+use edit::lexer::{bodies, tokens, Kind, Token};
 
 pub fn changes(source: &str) -> Vec<Change> {
-    // Comments matter to what is dead alone.
     let tokens = tokens(source);
-    let dead = dead(&tokens);
     let bodies = bodies(&tokens);
     let mut changes = Vec::new();
     for (place, token) in tokens.iter().enumerate() {
-        let of_fault = tokens.get(place + 1).map_or(false, |next| next.is("Fault"));
-        if dead[place] || of_fault {
-            continue;
-        }
         let before = place.checked_sub(1).map(|place| tokens[place]);
         for new in others(source, before, token) {
-            let within = |body: &&(usize, usize)| body.0 < token.start && token.start < body.1;
-            let body = bodies.iter().find(within).copied();
-            changes.push(Change { body, ..change(source, token, new) });
+            changes.push(Change::new(source, &bodies, (token.start, token.end()), new));
         }
     }
     changes
-}
-
-fn change(source: &str, token: &Token, new: String) -> Change {
-    let front = &source[..token.start];
-    let line_start = front.rfind('\n').map_or(0, |place| place + 1);
-    let line = source[line_start..].lines().next().unwrap_or("");
-    Change {
-        start: token.start,
-        old: token.text.to_string(),
-        new,
-        line: front.matches('\n').count() + 1,
-        context: line.trim().to_string(),
-        body: None,
-    }
-}
-
-/// The bodies of all functions, which do not lie in one another.
-fn bodies(tokens: &[Token]) -> Vec<(usize, usize)> {
-    let mut bodies = Vec::new();
-    for place in 0..tokens.len() {
-        // The type of a function has no name.
-        let named = tokens.get(place + 1).map_or(false, |next| next.kind == Kind::Word);
-        if tokens[place].is("fn") && named {
-            let open = find(tokens, place, "{");
-            let close = closing(tokens, open);
-            if close < tokens.len() {
-                bodies.push((tokens[open].start, tokens[close].end()));
-            }
-        }
-    }
-    bodies
 }
 
 /// What may stand in this token's place.

@@ -1,12 +1,12 @@
 //! Changed engines, built and tried: first by the comparer in the place of the program, then by the
 //! engine's own tests.
 
-use crate::many::{with_all, CHOICE};
-use crate::sites::Change;
 use comparer::differ::everything;
 use comparer::other::Other;
 use comparer::{CI_LINES, CI_SEEDS};
-use std::ffi::OsStr;
+use edit::change::Change;
+use edit::files::{files, name, read};
+use edit::many::with_all;
 use std::fs;
 use std::path::{Path, PathBuf};
 use std::process::{Command, Stdio};
@@ -27,13 +27,32 @@ pub const OFF_THE_CONSOLE: [&str; 2] = ["raw.rs", "sound.rs"];
 /// How long one run may take; the right engine takes a second.
 const LIMIT: Duration = Duration::from_secs(15);
 
+/// The module that chooses: the number in the environment, 0 for no change.
+const CHOICE: &str = "
+pub mod choice {
+    use std::sync::atomic::{AtomicUsize, Ordering};
+    static CHOSEN: AtomicUsize = AtomicUsize::new(usize::MAX);
+    pub fn chosen() -> usize {
+        match CHOSEN.load(Ordering::Relaxed) {
+            usize::MAX => {
+                let text = std::env::var(\"MUTANT\").unwrap_or_default();
+                let number = text.parse().unwrap_or(0);
+                CHOSEN.store(number, Ordering::Relaxed);
+                number
+            }
+            number => number,
+        }
+    }
+}
+";
+
 const ENGINE: &str = "--extern=engine=libengine.rlib";
 
 const SHEET: &str = "use std::io::{Read, Write};
 fn main() {
     let mut input = Vec::new();
     std::io::stdin().lock().read_to_end(&mut input).expect(\"input\");
-    let output = engine::sheet(&input, engine::Fault::None);
+    let output = engine::sheet(&input);
     std::io::stdout().lock().write_all(&output).expect(\"output\");
 }
 ";
@@ -51,12 +70,12 @@ impl Shop {
         let inputs = everything(CI_SEEDS, CI_LINES);
         let shop = Shop { folder: folder.to_path_buf(), inputs };
         fs::create_dir_all(shop.at("src")).map_err(|error| error.to_string())?;
-        for file in sources(&engine.join("src"))? {
+        for file in files(&engine.join("src"), "rs")? {
             shop.write(&format!("src/{}", name(&file)), &read(&file)?)?;
         }
         let tests = fs::canonicalize(engine.join("tests")).map_err(|error| error.to_string())?;
         let mut all = String::from("#![allow(clippy::all)]\n");
-        for file in sources(&tests)? {
+        for file in files(&tests, "rs")? {
             let module = name(&file).trim_end_matches(".rs").to_string();
             all += &format!("#[path = {:?}]\nmod {};\n", file.display().to_string(), module);
         }
@@ -244,22 +263,4 @@ fn place_of_error(said: &str) -> Option<(String, usize)> {
     let error = parts.nth(1)?.trim_start().starts_with("error");
     let place = (name(Path::new(file)), line.parse().ok()?);
     Some(place).filter(|_| error)
-}
-
-/// The Rust sources of a folder, by name.
-pub fn sources(folder: &Path) -> Result<Vec<PathBuf>, String> {
-    let entries = fs::read_dir(folder).map_err(|e| format!("{}: {}", folder.display(), e))?;
-    let paths = entries.filter_map(|entry| entry.ok()).map(|entry| entry.path());
-    let mut sources: Vec<PathBuf> =
-        paths.filter(|path| path.extension() == Some(OsStr::new("rs"))).collect();
-    sources.sort();
-    Ok(sources)
-}
-
-pub fn name(path: &Path) -> String {
-    path.file_name().map_or(String::new(), |name| name.to_string_lossy().to_string())
-}
-
-pub fn read(path: &Path) -> Result<String, String> {
-    fs::read_to_string(path).map_err(|error| format!("{}: {}", path.display(), error))
 }

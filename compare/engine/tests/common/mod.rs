@@ -1,9 +1,9 @@
 //! Small helpers for scripts with expected output.
 
-use engine::{sheet, Fault};
+use engine::sheet;
 
 pub fn run(script: &str) -> String {
-    String::from_utf8(sheet(script.as_bytes(), Fault::None)).expect("sheet prints text")
+    String::from_utf8(sheet(script.as_bytes())).expect("sheet prints text")
 }
 
 /// A script written with blanks between its lines, as console lines have none.

@@ -1,4 +1,5 @@
-//! A Rust source in tokens, as far as rustfmt's way of writing needs it.
+//! A Rust source in tokens, as far as rustfmt's way of writing needs it, and the bodies of its
+//! functions.
 
 #[derive(Clone, Copy, Debug, PartialEq, Eq)]
 pub enum Kind {
@@ -98,4 +99,39 @@ fn quoted(rest: &str, quote: char) -> usize {
         escaped = c == '\\' && !escaped;
     }
     rest.len()
+}
+
+/// The bodies of all functions, brackets and all, which do not lie in one another.
+pub fn bodies(tokens: &[Token]) -> Vec<(usize, usize)> {
+    let mut bodies = Vec::new();
+    for place in 0..tokens.len() {
+        // The type of a function has no name.
+        let named = tokens.get(place + 1).map_or(false, |next| next.kind == Kind::Word);
+        if tokens[place].is("fn") && named {
+            let open = find(tokens, place, "{");
+            let close = closing(tokens, open);
+            if close < tokens.len() {
+                bodies.push((tokens[open].start, tokens[close].end()));
+            }
+        }
+    }
+    bodies
+}
+
+/// The place of this token from there on.
+pub fn find(tokens: &[Token], from: usize, text: &str) -> usize {
+    (from..tokens.len()).find(|place| tokens[*place].is(text)).unwrap_or(tokens.len())
+}
+
+/// The place of the bracket that closes the one at this place.
+fn closing(tokens: &[Token], open: usize) -> usize {
+    let mut depth = 0;
+    for (place, token) in tokens.iter().enumerate().skip(open) {
+        depth += i32::from(["{", "(", "[", "#["].iter().any(|mark| token.is(mark)));
+        depth -= i32::from(["}", ")", "]"].iter().any(|mark| token.is(mark)));
+        if depth == 0 {
+            return place;
+        }
+    }
+    tokens.len()
 }
