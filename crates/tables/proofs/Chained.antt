@@ -11,7 +11,7 @@ use lib.ListN.{getD, replicate}
 use lib.Dec.{ltb, eqb}
 use borrow.Author.Tests.{eq-eqb, ne-eqb, eqb-true, eqb-false, lt-ltb, ltb-true, not-true, not-false}
 use Rattle.lists.specs.Lists.{same, count, Ascending}
-use Rattle.lists.proofs.Laws.{same-refl, same-ne, same-le, same-eq}
+use Rattle.lists.proofs.Laws.{same-refl, same-ne, same-le, same-eq, ascending-map}
 use Rattle.lists.proofs.Tests.{both, and, unless, implies, otherwise, or, false-true, clash}
 use Rattle.records.specs.declared.Program.{Program}
 use Rattle.records.specs.Records.{Known, recordAt}
@@ -22,7 +22,8 @@ use Rattle.chains.specs.Links.{walk, read, Leads, total, Links, testLinks}
 use Rattle.chains.specs.Inner.{prioIn}
 use Rattle.chains.proofs.Reading.{walk-end, getD-read, length-read}
 use Rattle.chains.proofs.Agree.{links-clause, links-test}
-use Rattle.tables.specs.Walks.{bookWith, testChained, Ordered, Unmet, Walk, AllOrdered, standing, Marked, Walks, settled, Rest, Rests}
+use Rattle.ledger.specs.Inner.{Columns}
+use Rattle.tables.specs.Walks.{bookWith, testChained, Chained, ofProgram, Ordered, Unmet, Walk, AllOrdered, standing, Marked, Walks, settled, Rest, Rests}
 use Rattle.tables.proofs.Members.{chained-within}
 
 -- who stands in the chains of states 1 to n
@@ -56,10 +57,10 @@ unfolding read
 total-standing l p = omega arith
 
 -- the loop over the states: those below have been walked
-pub record Sofar (ps : List Program) (l : List ℕ) (state : ℕ) (met : List ℕ) : Type 0 where
+pub record Sofar (st pr : ℕ → ℕ) (l : List ℕ) (state : ℕ) (met : List ℕ) : Type 0 where
   pub low : 1 ≤ state
   pub high : state ≤ 7
-  pub ordered : AllOrdered ps l (state - 1)
+  pub ordered : AllOrdered st pr l (state - 1)
   pub marked : Marked l (state - 1) met
 
 unmarked : (n i : ℕ) → getD (replicate {A = ℕ} n 0) i 0 ≡ 0
@@ -67,17 +68,17 @@ unmarked zero i = refl
 unmarked (suc n) zero = refl
 unmarked (suc n) (suc i) = unmarked n i
 
-pub sofar-start : (ps : List Program) (l : List ℕ) → Sofar ps l 1 (replicate 32 0)
-sofar-start ps l = record {
+pub sofar-start : (st pr : ℕ → ℕ) (l : List ℕ) → Sofar st pr l 1 (replicate 32 0)
+sofar-start st pr l = record {
   low = omega arith;
   high = omega arith;
   ordered = λ s a b. absurd (omega arith);
   marked = λ p P. unmarked 32 (p - 1);
 }
 
-module _ {ps : List Program} {l : List ℕ} {state : ℕ} {met : List ℕ} (S : Sofar ps l state met) where
-  module _ (h : state ≤ 6) {ok : Bool} {marks : List ℕ} (W : Walk ps l state met ok marks) where
-    pub sofar-more : not ok ≡ false → Sofar ps l (state + 1) marks
+module _ {st pr : ℕ → ℕ} {l : List ℕ} {state : ℕ} {met : List ℕ} (S : Sofar st pr l state met) where
+  module _ (h : state ≤ 6) {ok : Bool} {marks : List ℕ} (W : Walk st pr l state met ok marks) where
+    pub sofar-more : not ok ≡ false → Sofar st pr l (state + 1) marks
     sofar-more t = record {
       low = omega arith;
       high = omega arith;
@@ -85,11 +86,11 @@ module _ {ps : List Program} {l : List ℕ} {state : ℕ} {met : List ℕ} (S : 
       marked = λ p P. omega (arith, W .marked (not-false ok t) p P, S .marked p P, standing-more l state p (S .low));
     }
       where
-        go : (s : ℕ) → 1 ≤ s → s ≤ state + 1 - 1 → Dec (s ≡ state) → Ordered ps l s (walk l s 32)
-        go s a b (yes e) = subst (λ (x : ℕ). Ordered ps l x (walk l x 32)) (sym e) (W .ordered (not-false ok t))
+        go : (s : ℕ) → 1 ≤ s → s ≤ state + 1 - 1 → Dec (s ≡ state) → Ordered st pr l s (walk l s 32)
+        go s a b (yes e) = subst (λ (x : ℕ). Ordered st pr l x (walk l x 32)) (sym e) (W .ordered (not-false ok t))
         go s a b (no w) = S .ordered s a (omega arith)
 
-    pub sofar-refused : not ok ≡ true → Walks ps l ok marks
+    pub sofar-refused : not ok ≡ true → Walks st pr l ok marks
     sofar-refused t = record {
       ordered = λ e. clash e (not-true ok t);
       marked = λ e. clash e (not-true ok t);
@@ -97,18 +98,18 @@ module _ {ps : List Program} {l : List ℕ} {state : ℕ} {met : List ℕ} (S : 
     }
       where
         -- who is in the chain of this state is in none below
-        below : (p : ℕ) → recordAt ps p .state ≡ state → (n : ℕ) → standing l (state - 1) p ≡ n → standing l (state - 1) p ≡ 0
+        below : (p : ℕ) → st p ≡ state → (n : ℕ) → standing l (state - 1) p ≡ n → standing l (state - 1) p ≡ 0
         below p e zero z = z
         below p e (suc n) z =
             let r = standing-some l (state - 1) p (omega arith) in
             absurd (omega (arith, S .ordered (r .0) (r .1) (r .2) .state p (r .3), S .low, r .2))
 
-        unmet : AllOrdered ps l 6 → Unmet met (walk l state 32)
+        unmet : AllOrdered st pr l 6 → Unmet met (walk l state 32)
         unmet A p k =
             let O = A state (S .low) h in
             S .marked p (O .within p k) ∙ below p (O .state p k) (standing l (state - 1) p) refl
 
-  pub sofar-end : 6 < state → Walks ps l true met
+  pub sofar-end : 6 < state → Walks st pr l true met
   sofar-end h = record {
     ordered = λ e s a b. S .ordered s a (omega (arith, S .high));
     marked = λ e p P. S .marked p P ∙ ap (λ (x : ℕ). standing l x p) six;
@@ -137,23 +138,23 @@ settled-is mark link state f =
     positive (suc n) h = omega arith
 
 -- the loop over the programs: those below p are settled
-pub record Seen (ps : List Program) (l : List ℕ) (marks : List ℕ) (p : ℕ) : Type 0 where
+pub record Seen (st : ℕ → ℕ) (l : List ℕ) (marks : List ℕ) (p : ℕ) : Type 0 where
   pub low : 1 ≤ p
   pub high : p ≤ 33
   pub dormant : getD l 0 0 ≡ 0
   pub nobody : getD l 7 0 ≡ 0
-  pub others : (k : ℕ) → 1 ≤ k → k < p → settled (getD marks (k - 1) 0) (getD l (7 + k) 0) (recordAt ps k .state) ≡ true
+  pub others : (k : ℕ) → 1 ≤ k → k < p → settled (getD marks (k - 1) 0) (getD l (7 + k) 0) (st k) ≡ true
 
 -- a test that fails refutes the rest
-pub rest-fails : {ps : List Program} {l : List ℕ} {marks : List ℕ} → (Rest ps l marks → ⊥) → Rests ps l marks false
+pub rest-fails : {st : ℕ → ℕ} {l : List ℕ} {marks : List ℕ} → (Rest st l marks → ⊥) → Rests st l marks false
 rest-fails f = record { fine = λ e. false-true e; refused = λ e. f }
 
-module _ {ps : List Program} {l : List ℕ} {marks : List ℕ} {p : ℕ} (S : Seen ps l marks p) where
-  module _ (h : p ≤ 32) (b : Bool) (e : b ≡ settled (getD marks (p - 1) 0) (getD l (7 + p) 0) (recordAt ps p .state)) where
-    pub seen-refused : not b ≡ true → Rests ps l marks false
+module _ {st : ℕ → ℕ} {l : List ℕ} {marks : List ℕ} {p : ℕ} (S : Seen st l marks p) where
+  module _ (h : p ≤ 32) (b : Bool) (e : b ≡ settled (getD marks (p - 1) 0) (getD l (7 + p) 0) (st p)) where
+    pub seen-refused : not b ≡ true → Rests st l marks false
     seen-refused t = rest-fails (λ R. clash (R .others p (S .low, h)) (sym e ∙ not-true b t))
 
-    pub seen-more : not b ≡ false → Seen ps l marks (p + 1)
+    pub seen-more : not b ≡ false → Seen st l marks (p + 1)
     seen-more t = record {
       low = omega arith;
       high = omega arith;
@@ -162,27 +163,74 @@ module _ {ps : List Program} {l : List ℕ} {marks : List ℕ} {p : ℕ} (S : Se
       others = λ k a c. go k a c (ℕ-discrete k p);
     }
       where
-        go : (k : ℕ) → 1 ≤ k → k < p + 1 → Dec (k ≡ p) → settled (getD marks (k - 1) 0) (getD l (7 + k) 0) (recordAt ps k .state) ≡ true
+        go : (k : ℕ) → 1 ≤ k → k < p + 1 → Dec (k ≡ p) → settled (getD marks (k - 1) 0) (getD l (7 + k) 0) (st k) ≡ true
         go k a c (yes i) =
-            subst (λ (x : ℕ). settled (getD marks (x - 1) 0) (getD l (7 + x) 0) (recordAt ps x .state) ≡ true) (sym i) (sym e ∙ not-false b t)
+            subst (λ (x : ℕ). settled (getD marks (x - 1) 0) (getD l (7 + x) 0) (st x) ≡ true) (sym i) (sym e ∙ not-false b t)
         go k a c (no w) = S .others k a (omega arith)
 
-  pub seen-end : 32 < p → Rests ps l marks true
+  pub seen-end : 32 < p → Rests st l marks true
   seen-end h = record {
     fine = λ e. record { dormant = S .dormant; nobody = S .nobody; others = λ k K. S .others k (K .0) (omega (arith, K .1)) };
     refused = λ e. false-true (sym e);
   }
 
+-- the clauses say the same where states and priorities do
+record Alike (st pr st′ pr′ : ℕ → ℕ) : Type 0 where
+  state : (p : ℕ) → Known p → st p ≡ st′ p
+  priority : (p : ℕ) → Known p → pr p ≡ pr′ p
+
+alike-back : {st pr st′ pr′ : ℕ → ℕ} → Alike st pr st′ pr′ → Alike st′ pr′ st pr
+alike-back A = record { state = λ p P. sym (A .state p P); priority = λ p P. sym (A .priority p P) }
+
+module _ {st pr st′ pr′ : ℕ → ℕ} (A : Alike st pr st′ pr′) {l : List ℕ} where
+  ordered-alike : (s : ℕ) (c : List ℕ) → Ordered st pr l s c → Ordered st′ pr′ l s c
+  ordered-alike s c O = record {
+    lies = O .lies;
+    within = O .within;
+    state = λ p h. sym (A .state p (O .within p h)) ∙ O .state p h;
+    once = O .once;
+    rising = ascending-map (λ p q. pr p ≤ pr q) (λ p q. pr′ p ≤ pr′ q) c
+        (λ p q a b h. omega (arith, A .priority p (O .within p a), A .priority q (O .within q b))) (O .rising);
+  }
+
+  rest-alike : (marks : List ℕ) → Rest st l marks → Rest st′ l marks
+  rest-alike marks R = record {
+    dormant = R .dormant;
+    nobody = R .nobody;
+    others = λ p P. ap (settled (getD marks (p - 1) 0) (getD l (7 + p) 0)) (sym (A .state p P)) ∙ R .others p P;
+  }
+
+module _ {st pr st′ pr′ : ℕ → ℕ} (A : Alike st pr st′ pr′) {l : List ℕ} {ok : Bool} {marks : List ℕ} where
+  walks-alike : Walks st pr l ok marks → Walks st′ pr′ l ok marks
+  walks-alike W = record {
+    ordered = λ e s a b. ordered-alike A s (walk l s 32) (W .ordered e s a b);
+    marked = W .marked;
+    refused = λ e O. W .refused e (λ s a b. ordered-alike (alike-back A) s (walk l s 32) (O s a b));
+  }
+
+  rests-alike : Rests st l marks ok → Rests st′ l marks ok
+  rests-alike R = record { fine = λ e. rest-alike A marks (R .fine e); refused = λ e F. R .refused e (rest-alike (alike-back A) marks F) }
+
+-- so it is with columns and the records that they are of
+abbrev stateIn : List Program → ℕ → ℕ
+stateIn ps p = recordAt ps p .state
+
+columns-alike : {ps : List Program} {ss qs : List ℕ} → Columns ps ss qs → Alike (ofProgram ss) (ofProgram qs) (stateIn ps) (prioIn ps)
+columns-alike C = record {
+  state = λ p P. C .states .each (p - 1) (omega (arith, P .0, P .1));
+  priority = λ p P. C .priorities .each (p - 1) (omega (arith, P .0, P .1));
+}
+
 -- the walks and the rest say that chains and links are sound
 module _ (ps : List Program) (l : List ℕ) (met : List ℕ) (M : Marked l 6 met) where
-  module _ (A : AllOrdered ps l 6) (R : Rest ps l met) where
+  module _ (A : AllOrdered (stateIn ps) (prioIn ps) l 6) (R : Rest (stateIn ps) l met) where
     rest-of : (p : ℕ) → Known p → standing l 6 p ≡ 0 → (getD l (7 + p) 0 ≡ 0) × (1 ≤ recordAt ps p .state → 6 < recordAt ps p .state)
     rest-of p P z = settled-true (getD met (p - 1) 0) (getD l (7 + p) 0) (recordAt ps p .state) (R .others p P) (M p P ∙ z)
 
     member-of : (s p : ℕ) → 1 ≤ s → s < 7 → Known p → count p (walk l s 32) ≡ same (recordAt ps p .state) s
     member-of s p a h P = go (ℕ-discrete (recordAt ps p .state) s) (standing l 6 p) refl (count p (walk l s 32)) refl
       where
-        O : Ordered ps l s (walk l s 32)
+        O : Ordered (stateIn ps) (prioIn ps) l s (walk l s 32)
         O = A s a (omega arith)
 
         go : Dec (recordAt ps p .state ≡ s) → (n : ℕ) → standing l 6 p ≡ n → (k : ℕ) → count p (walk l s 32) ≡ k → count p (walk l s 32) ≡ same (recordAt ps p .state) s
@@ -220,7 +268,7 @@ module _ (ps : List Program) (l : List ℕ) (met : List ℕ) (M : Marked l 6 met
     none-at-all : (p : ℕ) → standing l 6 p ≡ 0 → total p (read l) ≡ 0
     none-at-all p z = omega (arith, total-standing l p, ap (count p) (walk-end l 0 32 (L .none)))
 
-    chains-rest : Rest ps l met
+    chains-rest : Rest (stateIn ps) l met
     chains-rest = record {
       dormant = L .none;
       nobody = L .others 0 (omega arith) (zero-out (total 0 (read l)) refl);
@@ -241,8 +289,8 @@ module _ (ps : List Program) (l : List ℕ) (met : List ℕ) (M : Marked l 6 met
                 absurd (omega (arith, C .member s p h (omega arith) P, same-refl s, ap (count p) (getD-read l s (omega arith)), standing-in l 6 p s h k))
 
 module _ (ps : List Program) (l : List ℕ) where
-  chains-ordered : Chains (bookWith ps) (read l) → Links l → AllOrdered ps l 6
-  chains-ordered C L s a b = subst (Ordered ps l s) (getD-read l s (omega arith)) (record {
+  chains-ordered : Chains (bookWith ps) (read l) → Links l → AllOrdered (stateIn ps) (prioIn ps) l 6
+  chains-ordered C L s a b = subst (Ordered (stateIn ps) (prioIn ps) l s) (getD-read l s (omega arith)) (record {
     lies = L .along s a (omega arith);
     within = λ p. C .within s p a (omega arith);
     state = λ p k. same-eq (recordAt ps p .state) s (omega (arith, C .member s p a (omega arith) (C .within s p a (omega arith) k)));
@@ -263,16 +311,23 @@ module _ (ps : List Program) (l : List ℕ) where
       go true false e k = refl
       go true true e k = absurd (f (chains-clause (bookWith ps) (read l) e) (links-clause l k))
 
-  -- the test passes where the walks are in order and the rest is settled, and else fails
-  module _ {ok : Bool} {marks : List ℕ} (W : Walks ps l ok marks) where
-    pub walks-refused : not ok ≡ true → false ≡ testChained ps l
-    walks-refused t = no-test (λ C L. W .refused (not-true ok t) (chains-ordered C L))
+  yes-test : Chains (bookWith ps) (read l) → Links l → true ≡ testChained ps l
+  unfolding testChained
+  yes-test C L = sym (and (chains-test (bookWith ps) (read l) C) (links-test l L))
 
-    pub walks-rest : not ok ≡ false → (fine : Bool) → Rests ps l marks fine → fine ≡ testChained ps l
-    unfolding testChained
-    walks-rest t true R =
-        let A = W .ordered (not-false ok t) in
-        let M = W .marked (not-false ok t) in
-        let F = R .fine refl in
-        sym (and (chains-test (bookWith ps) (read l) (ordered-chains ps l marks M A F)) (links-test l (ordered-links ps l marks M A F)))
-    walks-rest t false R = no-test (λ C L. R .refused refl (chains-rest ps l marks (W .marked (not-false ok t)) C L))
+-- the test passes where the walks are in order and the rest is settled, and else fails
+module _ (ss qs l : List ℕ) {ok : Bool} {marks : List ℕ} (W : Walks (ofProgram ss) (ofProgram qs) l ok marks) where
+  pub walks-refused : not ok ≡ true → Chained ss qs l false
+  walks-refused t ps K = no-test ps l (λ C L. walks-alike (columns-alike K) W .refused (not-true ok t) (chains-ordered ps l C L))
+
+  pub walks-rest : not ok ≡ false → (fine : Bool) → Rests (ofProgram ss) l marks fine → Chained ss qs l fine
+  walks-rest t fine R ps K = go fine (rests-alike (columns-alike K) R)
+    where
+      M : Marked l 6 marks
+      M = W .marked (not-false ok t)
+
+      go : (b : Bool) → Rests (stateIn ps) l marks b → b ≡ testChained ps l
+      go true F =
+          yes-test ps l (ordered-chains ps l marks M (walks-alike (columns-alike K) W .ordered (not-false ok t)) (F .fine refl))
+          (ordered-links ps l marks M (walks-alike (columns-alike K) W .ordered (not-false ok t)) (F .fine refl))
+      go false F = no-test ps l (λ C L. F .refused refl (chains-rest ps l marks M C L))

@@ -13,10 +13,8 @@ use lib.Seq.{getD-set-same, getD-set-other}
 use Rattle.lists.specs.Lists.{same, count, Ascending}
 use Rattle.lists.proofs.Laws.{same-refl, same-ne, same-le, count-append, among}
 use Rattle.lists.proofs.Tests.{false-true}
-use Rattle.records.specs.declared.Program.{Program}
-use Rattle.records.specs.Records.{Known, recordAt}
+use Rattle.records.specs.Records.{Known}
 use Rattle.chains.specs.Links.{walk, Leads}
-use Rattle.chains.specs.Inner.{prioIn}
 use Rattle.chains.proofs.Reading.{chain-walk}
 use Rattle.tables.specs.Walks.{Ordered, Unmet, Walk}
 
@@ -73,23 +71,23 @@ module _ (R : ℕ → ℕ → Type 0) where
       among (λ x. R x n) q p qs (A .0 n (omega (arith, count-append n qs (n ∷ d), same-refl n))) (ascending-after qs n d (A .1) p) h
 
 -- the loop's invariant: met are the marks before it, and least is the priority of the last that was passed
-pub record Going (ps : List Program) (l : List ℕ) (s : ℕ) (met marks : List ℕ) (least n : ℕ) : Type 0 where
+pub record Going (st pr : ℕ → ℕ) (l : List ℕ) (s : ℕ) (met marks : List ℕ) (least n : ℕ) : Type 0 where
   pub done : List ℕ
   pub at : ℕ
   pub trail : Trail l s done at
   pub next : n ≡ getD l at 0
   pub within : (p : ℕ) → 1 ≤ count p done → Known p
-  pub state : (p : ℕ) → 1 ≤ count p done → recordAt ps p .state ≡ s
+  pub state : (p : ℕ) → 1 ≤ count p done → st p ≡ s
   pub once : (p : ℕ) → count p done ≤ 1
-  pub rising : Ascending (λ p q. prioIn ps p ≤ prioIn ps q) done
+  pub rising : Ascending (λ p q. pr p ≤ pr q) done
   pub marked : (p : ℕ) → Known p → getD marks (p - 1) 0 ≡ getD met (p - 1) 0 + count p done
-  pub below : (p : ℕ) → 1 ≤ count p done → prioIn ps p ≤ least
-  pub tight : (x : ℕ) → ((p : ℕ) → 1 ≤ count p done → prioIn ps p ≤ x) → least ≤ x
+  pub below : (p : ℕ) → 1 ≤ count p done → pr p ≤ least
+  pub tight : (x : ℕ) → ((p : ℕ) → 1 ≤ count p done → pr p ≤ x) → least ≤ x
   pub long : length marks ≡ 32
   pub room : length done + count 0 marks ≤ 32
 
-pub going-start : (ps : List Program) (l : List ℕ) (s : ℕ) (met : List ℕ) (n : ℕ) → length met ≡ 32 → n ≡ getD l s 0 → Going ps l s met met 0 n
-going-start ps l s met n long e = record {
+pub going-start : (st pr : ℕ → ℕ) (l : List ℕ) (s : ℕ) (met : List ℕ) (n : ℕ) → length met ≡ 32 → n ≡ getD l s 0 → Going st pr l s met met 0 n
+going-start st pr l s met n long e = record {
   done = [];
   at = s;
   trail = refl;
@@ -106,13 +104,13 @@ going-start ps l s met n long e = record {
 }
 
 -- of a chain in order the next is a program, in that state, not met, and no lower than the last
-pub record Next (ps : List Program) (s : ℕ) (marks : List ℕ) (least n : ℕ) : Type 0 where
+pub record Next (st pr : ℕ → ℕ) (s : ℕ) (marks : List ℕ) (least n : ℕ) : Type 0 where
   pub known : Known n
-  pub state : recordAt ps n .state ≡ s
+  pub state : st n ≡ s
   pub unmet : getD marks (n - 1) 0 ≡ 0
-  pub after : least ≤ prioIn ps n
+  pub after : least ≤ pr n
 
-module _ {ps : List Program} {l : List ℕ} {s : ℕ} {met marks : List ℕ} {least n : ℕ} (G : Going ps l s met marks least n) where
+module _ {st pr : ℕ → ℕ} {l : List ℕ} {s : ℕ} {met marks : List ℕ} {least n : ℕ} (G : Going st pr l s met marks least n) where
   no-zero : count 0 (G .done) ≡ 0
   no-zero = go (count 0 (G .done)) refl
     where
@@ -124,14 +122,14 @@ module _ {ps : List Program} {l : List ℕ} {s : ℕ} {met marks : List ℕ} {le
   pub going-walk : n ≡ 0 → walk l s 32 ≡ G .done
   going-walk h = chain-walk l 32 s (G .done) (trail-end l s (G .done) (G .at) (G .trail) (sym (G .next) ∙ h)) (omega (arith, G .room)) no-zero
 
-  pub going-end : n ≡ 0 → Walk ps l s met true marks
+  pub going-end : n ≡ 0 → Walk st pr l s met true marks
   going-end h = record {
-    ordered = λ e. subst (λ (c : List ℕ). Ordered ps l s c) (sym (going-walk h)) ordered;
+    ordered = λ e. subst (λ (c : List ℕ). Ordered st pr l s c) (sym (going-walk h)) ordered;
     marked = λ e p P. G .marked p P ∙ ap (λ (c : List ℕ). getD met (p - 1) 0 + count p c) (sym (going-walk h));
     refused = λ e. false-true (sym e);
   }
     where
-      ordered : Ordered ps l s (G .done)
+      ordered : Ordered st pr l s (G .done)
       ordered = record {
         lies = trail-end l s (G .done) (G .at) (G .trail) (sym (G .next) ∙ h);
         within = G .within;
@@ -140,7 +138,7 @@ module _ {ps : List Program} {l : List ℕ} {s : ℕ} {met marks : List ℕ} {le
         rising = G .rising;
       }
 
-  going-next : n ≢ 0 → (c : List ℕ) → Ordered ps l s c → Unmet met c → Next ps s marks least n
+  going-next : n ≢ 0 → (c : List ℕ) → Ordered st pr l s c → Unmet met c → Next st pr s marks least n
   going-next h c O U =
       let t = trail-on l s (G .done) (G .at) n c (G .trail) (G .next) h no-zero (O .lies) in
       let counts : count n c ≡ count n (G .done) + (same n n + count n (t .0)) = ap (count n) (t .1) ∙ count-append n (G .done) (n ∷ t .0) in
@@ -150,12 +148,12 @@ module _ {ps : List Program} {l : List ℕ} {s : ℕ} {met marks : List ℕ} {le
         known = known;
         state = O .state n here;
         unmet = omega (arith, G .marked n known, U n here, O .once n, same-refl n);
-        after = G .tight (prioIn ps n)
-            (ascending-after (λ p q. prioIn ps p ≤ prioIn ps q) (G .done) n (t .0)
-            (subst (Ascending (λ p q. prioIn ps p ≤ prioIn ps q)) (t .1) (O .rising)));
+        after = G .tight (pr n)
+            (ascending-after (λ p q. pr p ≤ pr q) (G .done) n (t .0)
+            (subst (Ascending (λ p q. pr p ≤ pr q)) (t .1) (O .rising)));
       }
 
-  pub going-refused : n ≢ 0 → (Next ps s marks least n → ⊥) → Walk ps l s met false marks
+  pub going-refused : n ≢ 0 → (Next st pr s marks least n → ⊥) → Walk st pr l s met false marks
   going-refused h f = record {
     ordered = λ e. false-true e;
     marked = λ e. false-true e;
@@ -163,7 +161,7 @@ module _ {ps : List Program} {l : List ℕ} {s : ℕ} {met marks : List ℕ} {le
   }
 
   -- and with such a one the loop goes on
-  module _ (N : Next ps s marks least n) where
+  module _ (N : Next st pr s marks least n) where
     place : n - 1 < length marks
     place = omega (arith, G .long, N .known .0, N .known .1)
 
@@ -192,18 +190,18 @@ module _ {ps : List Program} {l : List ℕ} {s : ℕ} {met marks : List ℕ} {le
         go (yes e) = rw e (omega (arith, counted n, same-refl n, new))
         go (no w) = omega (arith, counted p, same-ne p n w, G .once p)
 
-    pub going-on : (n′ : ℕ) → n′ ≡ getD l (7 + n) 0 → Going ps l s met (set marks (n - 1) 1) (prioIn ps n) n′
+    pub going-on : (n′ : ℕ) → n′ ≡ getD l (7 + n) 0 → Going st pr l s met (set marks (n - 1) 1) (pr n) n′
     going-on n′ e = record {
       done = G .done ++ n ∷ [];
       at = 7 + n;
       trail = trail-more l s (G .done) (G .at) n (G .trail) (G .next);
       next = e;
       within = passed Known (G .within) (N .known);
-      state = passed (λ p. recordAt ps p .state ≡ s) (G .state) (N .state);
+      state = passed (λ p. st p ≡ s) (G .state) (N .state);
       once = more-once;
-      rising = ascending-more (λ p q. prioIn ps p ≤ prioIn ps q) (G .done) n (G .rising) (λ p h. omega (arith, G .below p h, N .after));
+      rising = ascending-more (λ p q. pr p ≤ pr q) (G .done) n (G .rising) (λ p h. omega (arith, G .below p h, N .after));
       marked = more-marked;
-      below = passed (λ p. prioIn ps p ≤ prioIn ps n) (λ p h. omega (arith, G .below p h, N .after)) (omega arith);
+      below = passed (λ p. pr p ≤ pr n) (λ p h. omega (arith, G .below p h, N .after)) (omega arith);
       tight = λ x f. f n (omega (arith, counted n, same-refl n));
       long = length-set marks (n - 1) 1 ∙ G .long;
       room = omega (arith, G .room, length-append (G .done) (n ∷ []), unmarked-less marks (n - 1) place (N .unmet));

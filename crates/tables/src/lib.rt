@@ -26,6 +26,12 @@ pub struct Outcome {
     pub tables: Tables,
 }
 
+// Whether the tables are sound, and who stands at the head of the scheduled chain, or 0.
+pub struct Opening {
+    pub sound: bool,
+    pub caller: u8,
+}
+
 // The tables, and how many programs were woken or started.
 pub struct Counted {
     pub tables: Tables,

@@ -1,11 +1,11 @@
 // Whether tables are sound, of any that a caller hands in: also of links that cross, run in circles or lead nowhere.
 ghost use mathlib.Core.Path.{_≡_};
-ghost use Prim.Native.Nat.{_<_};
+ghost use lib.ListN.{getD};
 ghost use Rattle.tables.specs.Sound.{sound};
-ghost use Rattle.tables.specs.Walks.{testChained, Walks, settled, Rests};
+ghost use Rattle.tables.specs.Walks.{Chained, ofProgram, Walks, settled, Rests};
+use super::Opening;
 use super::Tables;
-use ledger::book_sound;
-use records::Program;
+use ledger::reviewed;
 
 // Whether what was walked is in order, and a mark for each program that was met.
 struct Walked {
@@ -20,8 +20,8 @@ fn wide(x: u8) -> usize
 }
 
 // Walks along the chains of states 1 to 6 and marks their programs. Each walk ends, since it meets none twice.
-fn walk_chains(programs: [Program; 32], links: [u8; 40]) -> Walked
-    ensures { λ r. ⌜ Walks programs links (r .ok) (r .met) ⌝ }
+fn walk_chains(states: &[u8; 32], priorities: &[u16; 32], links: &[u8; 40]) -> Walked
+    ensures { λ r. ⌜ Walks (ofProgram (now (states .entry))) (ofProgram (now (priorities .entry))) (now (links .entry)) (r .ok) (r .met) ⌝ }
 {
     let mut met: [u8; 32] = [0; 32];
     let mut state: u8 = 1;
@@ -35,15 +35,15 @@ fn walk_chains(programs: [Program; 32], links: [u8; 40]) -> Walked
             if met[n - 1] != 0 {
                 return Walked { ok: false, met };
             }
-            let r = programs[n - 1];
-            if r.state != state {
+            if states[n - 1] != state {
                 return Walked { ok: false, met };
             }
-            if r.priority < least {
+            let priority = priorities[n - 1];
+            if priority < least {
                 return Walked { ok: false, met };
             }
             met[n - 1] = 1;
-            least = r.priority;
+            least = priority;
             n = wide(links[7 + n]);
         }
         state += 1;
@@ -68,8 +68,8 @@ fn is_settled(mark: u8, link: u8, state: u8) -> bool
 }
 
 // Whether the heads of no chain are 0, and whoever was not met is settled.
-fn is_rest_settled(programs: [Program; 32], links: [u8; 40], met: [u8; 32]) -> bool
-    ensures { λ r. ⌜ Rests programs links met r ⌝ }
+fn is_rest_settled(states: &[u8; 32], links: &[u8; 40], met: &[u8; 32]) -> bool
+    ensures { λ r. ⌜ Rests (ofProgram (now (states .entry))) (now (links .entry)) (now (met .entry)) r ⌝ }
 {
     if links[0] != 0 {
         return false;
@@ -79,8 +79,7 @@ fn is_rest_settled(programs: [Program; 32], links: [u8; 40], met: [u8; 32]) -> b
     }
     let mut p: usize = 1;
     while p <= 32 {
-        let r = programs[p - 1];
-        if !is_settled(met[p - 1], links[7 + p], r.state) {
+        if !is_settled(met[p - 1], links[7 + p], states[p - 1]) {
             return false;
         }
         p += 1;
@@ -89,28 +88,43 @@ fn is_rest_settled(programs: [Program; 32], links: [u8; 40], met: [u8; 32]) -> b
 }
 
 // Whether the chains are as soundness asks.
-fn chains_sound(programs: [Program; 32], links: [u8; 40]) -> bool
-    ensures { λ r. ⌜ r ≡ testChained programs links ⌝ }
+fn chains_sound(states: &[u8; 32], priorities: &[u16; 32], links: &[u8; 40]) -> bool
+    ensures { λ r. ⌜ Chained (now (states .entry)) (now (priorities .entry)) (now (links .entry)) r ⌝ }
 {
-    let w = walk_chains(programs, links);
+    let w = walk_chains(states, priorities, links);
     if !w.ok {
         return false;
     }
     let met = w.met;
-    is_rest_settled(programs, links, met)
+    is_rest_settled(states, links, &met)
 }
 
 impl Tables {
+    // The test of the tables, whatever is handed in; and their caller, read off the same links.
+    pub fn opened(self) -> Opening
+        ensures { λ r. ⌜ (r .sound ≡ sound self) × (r .caller ≡ getD (self .links) 1 0) ⌝ }
+    {
+        let ledger = self.ledger;
+        let review = reviewed(ledger);
+        let links = self.links;
+        let caller = links[1];
+        if !review.ok {
+            return Opening {
+                sound: false,
+                caller,
+            };
+        }
+        let states = review.states;
+        let priorities = review.priorities;
+        let sound = chains_sound(&states, &priorities, &links);
+        Opening { sound, caller }
+    }
+
     // Whether the tables are sound, whatever a caller hands in.
     pub fn is_sound(self) -> bool
         ensures { λ r. ⌜ r ≡ sound self ⌝ }
     {
-        let ledger = self.ledger;
-        if !book_sound(ledger) {
-            return false;
-        }
-        let programs = ledger.programs;
-        let links = self.links;
-        chains_sound(programs, links)
+        let o = self.opened();
+        o.sound
     }
 }

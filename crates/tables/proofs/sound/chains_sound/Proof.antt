@@ -6,13 +6,12 @@ use Rattle.tables.proofs.sound.chains_sound.Statement.{statement}
 use Rattle.tables.proofs.sound.chains_sound.Tie as tie
 
 returns : tie.Need-returns
-returns c = let w = c .before .before in walks-refused (w .before .args .programs) (w .before .args .links) (w .walk-chains .ensures) (c .if1 .taken)
+returns c = walks-refused _ _ _ (c .before .before .walk-chains .ensures) (c .if1 .taken)
 
 returns-2 : tie.Need-returns-2
 returns-2 c =
-    let w = c .before .before .before .before in
-    walks-rest (w .before .args .programs) (w .before .args .links) (w .walk-chains .ensures) (c .before .before .if1 .left)
-    (c .is-rest-settled .result) (c .is-rest-settled .ensures)
+    let i = c .before .before .before in
+    walks-rest _ _ _ (i .before .before .walk-chains .ensures) (i .if1 .left) (c .is-rest-settled .result) (c .is-rest-settled .ensures)
 
 pub chains-sound-spec : {M : Type 1} → statement M
 chains-sound-spec = tie.close (tie.spec (λ c κs. search needs) returns (λ c κs. search needs) returns-2)
