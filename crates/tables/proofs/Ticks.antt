@@ -23,7 +23,8 @@ use Rattle.rules.specs.Rules.{dueAt, ticked}
 use Rattle.rules.specs.Keeper.{lists, State, play}
 use Rattle.tables.specs.declared.Tables.{Tables}
 use Rattle.tables.specs.Tables.{plain}
-use Rattle.tables.specs.Inner.{Orderly, Ready, Played, Counts, tickEvents, startsNow}
+use Rattle.decisions.specs.Inner.{tickEvents, startsNow}
+use Rattle.tables.specs.Inner.{Orderly, Ready, Played, Counts}
 use Rattle.tables.proofs.Agree.{sound-clauses}
 use Rattle.tables.proofs.Serving.{play-append}
 use Rattle.tables.proofs.Endings.{played-as, played-on}

@@ -63,7 +63,7 @@ abbrev pub moved : Program → Program
 moved r = withTimer (cond (eqb (r .interval) 0) 0 (r .due + r .interval)) (r .interval) r
 
 abbrev pub onTick : ℕ → Program → Program
-onTick now r = cond (eqb (r .due) now) (cond (eqb (r .state) 0) (inState 1 Nothing (moved r)) (moved r)) r
+onTick now r = cond (eqb (r .due) now) (cond (eqb (r .state) limits.dormant) (inState limits.scheduled Nothing (moved r)) (moved r)) r
 
 pub record Ticked (t : Tables) : Type 0 where
   pub done : asked t TICK .number ≡ 0

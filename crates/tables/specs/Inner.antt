@@ -29,7 +29,7 @@ use Rattle.chains.specs.Inner.{Laid, Lists}
 use Rattle.decisions.specs.declared.Effect.{Effect}
 use Rattle.decisions.specs.Inner.{eventsFor, replyFor, Apt}
 use Rattle.tables.specs.declared.Tables.{Tables}
-use Rattle.tables.specs.Tables.{plain}
+use Rattle.tables.specs.Tables.{plain, callerOf}
 use Rattle.tables.specs.Calls.{Result, laid}
 use Rattle.tables.specs.Sound.{sound}
 
@@ -107,10 +107,11 @@ pub record CanNumber (t : Tables) (x : Numbers) : Type 0 where
   pub fit : numbers.Fit x
   pub count : x .count ≡ t .ledger .numbers .count
 
--- whether tables pass the test, and what follows
-pub record Tested (t : Tables) (b : Bool) : Type 0 where
+-- whether tables pass the test, and what follows; c is the caller
+pub record Tested (t : Tables) (b : Bool) (c : ℕ) : Type 0 where
   pub is : b ≡ sound t
   pub ready : b ≡ true → Ready t
+  pub caller : b ≡ true → c ≡ callerOf t
 
 -- two lists of programs that can wake
 pub record CanSettle (t : Tables) (ids : List ℕ) (len : ℕ) (ids′ : List ℕ) (len′ : ℕ) : Type 0 where

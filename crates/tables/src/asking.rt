@@ -91,9 +91,9 @@ impl Tables {
     pub fn ask(self, name: [u8; 5], q: Request) -> Outcome
         ensures { λ r. ⌜ told r ≡ asked self (theRequest name q) ⌝ }
     {
-        if self.tested() {
-            let c = self.caller();
-            return self.carry(name, decisions::decide(self.ledger, c, name, q));
+        let o = self.tested();
+        if o.sound {
+            return self.carry(name, decisions::decide(self.ledger, o.caller, name, q));
         }
         self.refused(Answer::NotSound)
     }

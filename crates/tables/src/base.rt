@@ -1,17 +1,17 @@
-// What every call begins with: the test of the tables, a refusal, the caller.
+// What every call begins with: the test of the tables, and a refusal.
 ghost use mathlib.Core.Path.{_≡_};
-ghost use Rattle.tables.specs.Tables.{callerOf};
-ghost use Rattle.tables.specs.Inner.{Ready, Tested};
+ghost use Rattle.tables.specs.Inner.{Tested};
+use super::Opening;
 use super::Outcome;
 use super::Tables;
 use rules::Answer;
 
 impl Tables {
-    // Whether the tables are sound, and so ready for what calls do to them.
-    pub(crate) fn tested(self) -> bool
-        ensures { λ r. ⌜ Tested self r ⌝ }
+    // Whether the tables are sound, and so ready for what calls do to them; and who calls.
+    pub(crate) fn tested(self) -> Opening
+        ensures { λ r. ⌜ Tested self (r .sound) (r .caller) ⌝ }
     {
-        self.is_sound()
+        self.opened()
     }
 
     // A refusal: the tables as they came.
@@ -22,14 +22,5 @@ impl Tables {
             answer: answer,
             tables: self,
         }
-    }
-
-    // The head of the scheduled chain, or 0.
-    pub(crate) fn caller(self) -> u8
-        requires { ⌜ Ready self ⌝ }
-        ensures { λ r. ⌜ r ≡ callerOf self ⌝ }
-    {
-        let links = self.links;
-        links[1]
     }
 }

@@ -1,6 +1,7 @@
 // The ending of a program.
 ghost use mathlib.Core.List.{_∷_, _++_, map};
 ghost use lib.ListN.{take};
+ghost use Rattle.limits.specs.Limits.{dormant};
 ghost use Rattle.records.specs.Numbers.{resources, without};
 ghost use Rattle.records.specs.declared.Why.the-variants.{Nothing};
 ghost use Rattle.tracks.specs.Tracks.{nobody, replaced};
@@ -14,6 +15,7 @@ use super::Counted;
 use super::Tables;
 use super::Waiters;
 use ledger::Release;
+use limits::DORMANT;
 use records::Why;
 use tracks::Tracks;
 
@@ -26,7 +28,7 @@ impl Tables {
         if k == 8 {
             return self.unloaded(p);
         }
-        let t = self.becomes(p, 0, Why::Nothing);
+        let t = self.becomes(p, DORMANT, Why::Nothing);
         t.timed(p, 0, 0)
     }
 
@@ -58,12 +60,12 @@ impl Tables {
     // EXEC 6: p ends itself and keeps its tracks; how many it wakes.
     pub(crate) fn ended_self(self, p: u8) -> Counted
         requires { ⌜ CanTurn self p ⌝ }
-        ensures { λ r. ⌜ Counts self (on p (becomes 0 Nothing) ∷ settle (view lists (plain self)) p (ends (view lists (plain self)) p 0)) (woken (view lists (plain self)) (ends (view lists (plain self)) p 0)) (r .tables) (r .number) ⌝ }
+        ensures { λ r. ⌜ Counts self (on p (becomes dormant Nothing) ∷ settle (view lists (plain self)) p (ends (view lists (plain self)) p 0)) (woken (view lists (plain self)) (ends (view lists (plain self)) p 0)) (r .tables) (r .number) ⌝ }
     {
         let book = self.ledger;
         let numbers = book.numbers;
         let w = self.waiters(Release::of_ending(numbers, p, 0));
-        let idle = self.becomes(p, 0, Why::Nothing);
+        let idle = self.becomes(p, DORMANT, Why::Nothing);
         let tables = idle.settled(p, w);
         Counted {
             tables,

@@ -6,8 +6,10 @@ ghost use Rattle.tables.specs.Calls.{told, made};
 ghost use Rattle.decisions.specs.Inner.{Sizes};
 use super::Outcome;
 use super::Tables;
+use chains::SLOTS;
 use clock::Clock;
 use ledger::Ledger;
+use limits::MOST_PROGRAMS;
 use records::Numbers;
 use rules::Answer;
 use tracks::Tracks;
@@ -35,7 +37,7 @@ impl Tables {
         ensures { λ t. ⌜ t ≡ lay (fresh lists tracks system numbers) ⌝ }
     {
         let unused = records::unused_record();
-        let programs = [unused; 32];
+        let programs = [unused; MOST_PROGRAMS];
         let clock = Clock::from_ticks(0);
         let holders = Tracks::fresh(tracks, system);
         let free = Numbers::fresh(numbers);
@@ -45,7 +47,7 @@ impl Tables {
             tracks: holders,
             numbers: free,
         };
-        let links = [0; 40];
+        let links = [0; SLOTS];
         Tables {
             ledger: ledger,
             links: links,

@@ -12,13 +12,14 @@ mod ticking;
 mod waking;
 
 use chains::Listing;
+use chains::SLOTS;
 use ledger::Ledger;
 use rules::Answer;
 
 // A caller may hand in anything: every call tests first whether the tables are sound.
 pub struct Tables {
     pub ledger: Ledger,
-    pub links: [u8; 40],
+    pub links: [u8; SLOTS],
 }
 
 pub struct Outcome {

@@ -16,6 +16,9 @@ use super::Tables;
 use super::Waiters;
 use chains::Listing;
 use ledger::Release;
+use limits::DISC;
+use limits::GENERAL;
+use limits::MOST_PROGRAMS;
 use tracks::Tracks;
 
 // How many they are.
@@ -36,12 +39,12 @@ impl Tables {
     {
         if release.tracks == 0 {
             return Listing {
-                ids: [0; 32],
+                ids: [0; MOST_PROGRAMS],
                 len: 0,
             };
         }
         let links = self.links;
-        let list = chains::chain_of(links, 5);
+        let list = chains::chain_of(links, DISC as usize);
         ledger::without(list, release.ended)
     }
 
@@ -51,7 +54,7 @@ impl Tables {
         ensures { λ r. ⌜ ((y : Rattle.rules.specs.Plans.Release) → Releases release y → Lists (r .ids) (r .len) (fromGeneral (view lists (plain self)) y)) ⌝ }
     {
         let links = self.links;
-        let list = chains::chain_of(links, 3);
+        let list = chains::chain_of(links, GENERAL as usize);
         let rest = ledger::without(list, release.ended);
         let book = self.ledger;
         let programs = book.programs;

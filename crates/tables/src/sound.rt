@@ -5,12 +5,18 @@ ghost use Rattle.tables.specs.Sound.{sound};
 ghost use Rattle.tables.specs.Walks.{Chained, ofProgram, Walks, settled, Rests};
 use super::Opening;
 use super::Tables;
+use chains::SLOTS;
 use ledger::reviewed;
+use limits::DORMANT;
+use limits::MOST_PROGRAMS;
+use limits::SCHEDULED;
+use limits::STATES;
+use limits::SUSPENDED;
 
 // Whether what was walked is in order, and a mark for each program that was met.
 struct Walked {
     ok: bool,
-    met: [u8; 32],
+    met: [u8; MOST_PROGRAMS],
 }
 
 fn wide(x: u8) -> usize
@@ -20,16 +26,20 @@ fn wide(x: u8) -> usize
 }
 
 // Walks along the chains of states 1 to 6 and marks their programs. Each walk ends, since it meets none twice.
-fn walk_chains(states: &[u8; 32], priorities: &[u16; 32], links: &[u8; 40]) -> Walked
+fn walk_chains(
+    states: &[u8; MOST_PROGRAMS],
+    priorities: &[u16; MOST_PROGRAMS],
+    links: &[u8; SLOTS],
+) -> Walked
     ensures { λ r. ⌜ Walks (ofProgram (now (states .entry))) (ofProgram (now (priorities .entry))) (now (links .entry)) (r .ok) (r .met) ⌝ }
 {
-    let mut met: [u8; 32] = [0; 32];
-    let mut state: u8 = 1;
-    while state <= 6 {
+    let mut met: [u8; MOST_PROGRAMS] = [0; MOST_PROGRAMS];
+    let mut state = SCHEDULED;
+    while state <= SUSPENDED {
         let mut least: u16 = 0;
-        let mut n = wide(links[wide(state)]);
+        let mut n = wide(links[state as usize]);
         while n != 0 {
-            if 32 < n {
+            if MOST_PROGRAMS < n {
                 return Walked { ok: false, met };
             }
             if met[n - 1] != 0 {
@@ -44,7 +54,7 @@ fn walk_chains(states: &[u8; 32], priorities: &[u16; 32], links: &[u8; 40]) -> W
             }
             met[n - 1] = 1;
             least = priority;
-            n = wide(links[7 + n]);
+            n = wide(links[STATES + n]);
         }
         state += 1;
     }
@@ -61,25 +71,29 @@ fn is_settled(mark: u8, link: u8, state: u8) -> bool
     if link != 0 {
         return false;
     }
-    if state == 0 {
+    if state == DORMANT {
         return true;
     }
-    6 < state
+    SUSPENDED < state
 }
 
 // Whether the heads of no chain are 0, and whoever was not met is settled.
-fn is_rest_settled(states: &[u8; 32], links: &[u8; 40], met: &[u8; 32]) -> bool
+fn is_rest_settled(
+    states: &[u8; MOST_PROGRAMS],
+    links: &[u8; SLOTS],
+    met: &[u8; MOST_PROGRAMS],
+) -> bool
     ensures { λ r. ⌜ Rests (ofProgram (now (states .entry))) (now (links .entry)) (now (met .entry)) r ⌝ }
 {
-    if links[0] != 0 {
+    if links[DORMANT as usize] != 0 {
         return false;
     }
-    if links[7] != 0 {
+    if links[STATES] != 0 {
         return false;
     }
     let mut p: usize = 1;
-    while p <= 32 {
-        if !is_settled(met[p - 1], links[7 + p], states[p - 1]) {
+    while p <= MOST_PROGRAMS {
+        if !is_settled(met[p - 1], links[STATES + p], states[p - 1]) {
             return false;
         }
         p += 1;
@@ -88,7 +102,11 @@ fn is_rest_settled(states: &[u8; 32], links: &[u8; 40], met: &[u8; 32]) -> bool
 }
 
 // Whether the chains are as soundness asks.
-fn chains_sound(states: &[u8; 32], priorities: &[u16; 32], links: &[u8; 40]) -> bool
+fn chains_sound(
+    states: &[u8; MOST_PROGRAMS],
+    priorities: &[u16; MOST_PROGRAMS],
+    links: &[u8; SLOTS],
+) -> bool
     ensures { λ r. ⌜ Chained (now (states .entry)) (now (priorities .entry)) (now (links .entry)) r ⌝ }
 {
     let w = walk_chains(states, priorities, links);
@@ -101,13 +119,13 @@ fn chains_sound(states: &[u8; 32], priorities: &[u16; 32], links: &[u8; 40]) -> 
 
 impl Tables {
     // The test of the tables, whatever is handed in; and their caller, read off the same links.
-    pub fn opened(self) -> Opening
+    pub(crate) fn opened(self) -> Opening
         ensures { λ r. ⌜ (r .sound ≡ sound self) × (r .caller ≡ getD (self .links) 1 0) ⌝ }
     {
         let ledger = self.ledger;
         let review = reviewed(ledger);
         let links = self.links;
-        let caller = links[1];
+        let caller = links[SCHEDULED as usize];
         if !review.ok {
             return Opening {
                 sound: false,

@@ -4,21 +4,20 @@ ghost use mathlib.Core.Path.{_≡_};
 ghost use mathlib.Core.Bool.{cond, _&&_};
 ghost use mathlib.Core.List.{[]};
 ghost use lib.Dec.{eqb};
+ghost use Rattle.limits.specs.Limits.{dormant};
 ghost use Rattle.lists.specs.Lists.{hit, keep};
 ghost use Rattle.records.specs.Records.{all};
 ghost use Rattle.rules.specs.Rules.{ticked};
-ghost use Rattle.tables.specs.Inner.{Played, CanTick, CanTickOn, Counts, tickEvents, startsNow};
+ghost use Rattle.decisions.specs.Inner.{tickEvents, startsNow};
+ghost use Rattle.tables.specs.Inner.{Played, CanTick, CanTickOn, Counts};
 ghost use Rattle.tables.specs.Tables.{plain};
 use super::Counted;
 use super::Tables;
+use limits::DORMANT;
+use limits::MOST_PROGRAMS;
+use limits::SCHEDULED;
 use records::Program;
 use records::Why;
-
-fn wide(x: u8) -> usize
-    ensures { λ r. ⌜ r ≡ x ⌝ }
-{
-    x as usize
-}
 
 // The due that follows: none without an interval.
 fn next_due(due: u64, interval: u64) -> u64
@@ -33,12 +32,12 @@ fn next_due(due: u64, interval: u64) -> u64
 
 // 1 where a tick that makes the clock `now` starts the program, and 0 where not.
 fn starts(r: Program, now: u64) -> u64
-    ensures { λ n. ⌜ n ≡ hit (eqb (r .due) now && eqb (r .state) 0) ⌝ }
+    ensures { λ n. ⌜ n ≡ hit (eqb (r .due) now && eqb (r .state) dormant) ⌝ }
 {
     if r.due != now {
         return 0;
     }
-    if r.state != 0 {
+    if r.state != DORMANT {
         return 0;
     }
     1
@@ -56,8 +55,8 @@ impl Tables {
         let mut t = self.clocked(now);
         let mut n: u64 = 0;
         let mut p: u8 = 1;
-        while p <= 32 {
-            let r = programs[wide(p) - 1];
+        while p <= MOST_PROGRAMS as u8 {
+            let r = programs[p as usize - 1];
             if r.due != now {
                 p += 1;
                 continue;
@@ -81,9 +80,9 @@ impl Tables {
             return self;
         }
         let t = self.timed(p, next_due(r.due, r.interval), r.interval);
-        if r.state != 0 {
+        if r.state != DORMANT {
             return t;
         }
-        t.becomes(p, 1, Why::Nothing)
+        t.becomes(p, SCHEDULED, Why::Nothing)
     }
 }

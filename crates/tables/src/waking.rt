@@ -4,6 +4,7 @@ ghost use Rattle.rules.specs.Plans.{wake};
 ghost use Rattle.tables.specs.Inner.{Played, CanWake};
 use super::Tables;
 use chains::Listing;
+use limits::SCHEDULED;
 use records::Why;
 
 impl Tables {
@@ -16,7 +17,7 @@ impl Tables {
         let mut i: usize = 0;
         while i < n {
             let p = list.ids[i];
-            t = t.becomes(p, 1, Why::Nothing);
+            t = t.becomes(p, SCHEDULED, Why::Nothing);
             i += 1;
         }
         t

@@ -22,4 +22,4 @@ returns-2 c =
     disc-all _ _ _ _ _ _ (b .before .before .pre) (b .if1 .left) (c .before .chain-of .ensures) (c .without .ensures)
 
 pub disc-waiters-spec : {M : Type 1} → statement M
-disc-waiters-spec = tie.close (tie.spec returns (λ c κs. search needs) without-requires returns-2)
+disc-waiters-spec = tie.close (tie.spec returns (λ c. search needs) (λ c κs. search needs) without-requires returns-2)

@@ -25,4 +25,4 @@ returns c =
     general-all _ _ _ _ _ _ _ _ (w .before .before .before .pre) (w .before .chain-of .ensures) (w .without .ensures) (c .sift .ensures)
 
 pub general-waiters-spec : {M : Type 1} → statement M
-general-waiters-spec = tie.close (tie.spec (λ c κs. search needs) without-requires sift-requires returns)
+general-waiters-spec = tie.close (tie.spec (λ c. search needs) (λ c κs. search needs) without-requires sift-requires returns)

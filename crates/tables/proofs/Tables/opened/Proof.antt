@@ -24,4 +24,4 @@ returns-2 c =
     )
 
 pub opened-spec : {M : Type 1} → statement M
-opened-spec = tie.close (tie.spec (λ c κs. search needs) (λ c. search needs) returns (λ c κs. search needs) returns-2)
+opened-spec = tie.close (tie.spec (λ c κs. search needs) (λ c. search needs) (λ c. search needs) returns (λ c κs. search needs) returns-2)

@@ -19,7 +19,7 @@ arrays s = record {
 }
 
 returns : tie.Need-returns
-returns c = tested-is (c .before .args .self) (c .is-sound .result) (arrays (c .before)) (c .is-sound .ensures)
+returns c = let o = c .opened .ensures in tested-is (c .before .args .self) _ _ (arrays (c .before)) (o .0) (o .1)
 
 pub tested-spec : {M : Type 1} → statement M
 tested-spec = tie.close (tie.spec (λ c κs. search needs) returns)

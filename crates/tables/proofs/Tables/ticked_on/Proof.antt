@@ -4,7 +4,7 @@
 use Prim.Native.Nat.{ℕ, _+_, _-_}
 use native.Mathlib.Nat.{add-zero}
 use native.Mathlib.Omega.{arith}
-use mathlib.Core.Path.{_≡_, ap, subst}
+use mathlib.Core.Path.{refl, subst}
 use Rattle.records.specs.declared.Program.{Program}
 use Rattle.records.specs.Records.{recordAt}
 use Rattle.tables.proofs.Ticks.{Ticking, ticking-start, ticking-step, tick-done, due-fits, starts-few, starts-later, not-due}
@@ -22,68 +22,65 @@ loop-holds : tie.Need-loop-holds Inv-loop μ-loop
 loop-holds c = ticking-start _ _ _ (c .clocked .ensures .orderly)
 
 sub-r : tie.Need-sub-r Inv-loop μ-loop
-sub-r c = omega (arith, c .before .before .loop .inv .low)
+sub-r c = omega (arith, c .before .loop .inv .low)
 
 array-copy-out-r : tie.Need-array-copy-out-r Inv-loop μ-loop
-array-copy-out-r c = omega (arith, c .before .loop-test .taken)
+array-copy-out-r c = omega (arith, c .loop-test .taken)
 
 -- the record that is read
 abbrev S : tie.After-r Inv-loop μ-loop → tie.Start Inv-loop μ-loop
-S r = r .before .before .before .before .before .before .before .before
+S r = r .before .before .before .before .before .before .before
 
 abbrev read : tie.After-r Inv-loop μ-loop → Program
-read r = recordAt (S r .args .self .ledger .programs) (r .before .wide .result)
-
-here : (r : tie.After-r Inv-loop μ-loop) → read r ≡ recordAt (S r .args .self .ledger .programs) (r .before .before .before .loop .p)
-here r = ap (recordAt (S r .args .self .ledger .programs)) (r .before .wide .ensures)
+read r = recordAt (S r .args .self .ledger .programs) (r .before .before .loop .p)
 
 add-p : tie.Need-add-p Inv-loop μ-loop
-add-p c = omega (arith, c .before .before .before .before .loop-test .taken)
+add-p c = omega (arith, c .before .before .before .loop-test .taken)
 
 loop-less : tie.Need-loop-less Inv-loop μ-loop
-loop-less c = omega (arith, c .before .before .before .before .loop-test .taken)
+loop-less c = omega (arith, c .before .before .before .loop-test .taken)
 
 -- a program that is not due: nothing is done for it
 loop-again : tie.Need-loop-again Inv-loop μ-loop
 loop-again c =
     let r = c .before .before in
-    let i = r .before .before in
+    let i = r .before in
     let l = i .before in
     let now = S r .args .self .ledger .clock .ticks + 1 in
     subst (λ (m : ℕ). Ticking (S r .args .self .ledger .programs) now (l .before .clocked .result) (l .loop .t) m (l .loop .p + 1)) (add-zero (l .loop .n))
-    (ticking-step _ _ _ _ _ _ _ (here r) (l .loop .inv) (i .loop-test .taken) 0 (l .loop .t)
+    (ticking-step _ _ _ _ _ _ _ refl (l .loop .inv) (i .loop-test .taken) 0 (l .loop .t)
     (starts-later (read r) now (c .if1 .taken)) (not-due (l .loop .t) (l .loop .p) (read r) now (l .loop .inv .orderly) (c .if1 .taken)))
 
 add-n : tie.Need-add-n Inv-loop μ-loop
 add-n c =
     let r = c .before .before .before in
-    let l = r .before .before .before in
+    let l = r .before .before in
     omega (arith, l .loop .inv .few, l .loop .inv .high, starts-few (read r) (S r .args .self .ledger .clock .ticks + 1) (c .starts .result) (c .starts .ensures))
 
 ticked-requires : tie.Need-ticked-requires Inv-loop μ-loop
 ticked-requires c κs =
     let r = c .before .before .before in
-    let i = r .before .before in
+    let i = r .before in
     let l = i .before in
     record {
       orderly = l .loop .inv .orderly;
       known = (l .loop .inv .low, i .loop-test .taken);
-      fits = due-fits (S r .args .self) _ _ (S r .pre .ready) (l .loop .inv .low, i .loop-test .taken) (here r) (S r .pre .below);
+      fits = due-fits (S r .args .self) _ _ (S r .pre .ready) (l .loop .inv .low, i .loop-test .taken) refl (S r .pre .below);
     }
 
 add-p-2 : tie.Need-add-p-2 Inv-loop μ-loop
-add-p-2 c = let i = c .before .before .before .before .before .before in omega (arith, i .loop-test .taken)
+add-p-2 c = let i = c .before .before .before .before .before in omega (arith, i .loop-test .taken)
 
 loop-less-2 : tie.Need-loop-less-2 Inv-loop μ-loop
-loop-less-2 c = let i = c .before .before .before .before .before .before in omega (arith, i .loop-test .taken)
+loop-less-2 c = let i = c .before .before .before .before .before in omega (arith, i .loop-test .taken)
 
 loop-again-2 : tie.Need-loop-again-2 Inv-loop μ-loop
 loop-again-2 c =
     let k = c .before in
     let r = k .before .before .before in
-    let i = r .before .before in
+    let i = r .before in
     let l = i .before in
-    ticking-step _ _ _ _ _ _ _ (here r) (l .loop .inv) (i .loop-test .taken) (k .starts .result) (c .ticked .result) (k .starts .ensures) (c .ticked .ensures)
+    ticking-step _ _ _ _ _ _ _ refl (l .loop .inv) (i .loop-test .taken) (k .starts .result) (c .ticked .result) (k .starts .ensures) (c .ticked .ensures)
 
 returns : tie.Need-returns Inv-loop μ-loop
 returns c =
@@ -94,6 +91,6 @@ returns c =
 pub ticked-on-spec : {M : Type 1} → statement M
 ticked-on-spec =
     tie.close
-    (tie.spec Inv-loop μ-loop (λ c. omega arith) (λ c κs. search needs) loop-holds (λ c κs. search needs) sub-r (λ c. search needs)
-    array-copy-out-r add-p loop-less loop-again (λ c κs. search needs) add-n ticked-requires add-p-2 loop-less-2 loop-again-2
+    (tie.spec Inv-loop μ-loop (λ c. omega arith) (λ c κs. search needs) loop-holds (λ c. search needs) (λ c. search needs) sub-r
+    (λ c. search needs) array-copy-out-r add-p loop-less loop-again (λ c κs. search needs) add-n ticked-requires add-p-2 loop-less-2 loop-again-2
     returns)

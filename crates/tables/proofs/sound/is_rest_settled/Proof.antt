@@ -44,6 +44,6 @@ returns-4 c = seen-end (c .before .loop .inv) (c .loop-test .left)
 pub is-rest-settled-spec : {M : Type 1} → statement M
 is-rest-settled-spec =
     tie.close
-    (tie.spec Inv-loop μ-loop (λ c. omega arith) returns (λ c. omega arith) returns-2 loop-holds (λ c. omega arith)
+    (tie.spec Inv-loop μ-loop (λ c. search needs) (λ c. omega arith) returns (λ c. omega arith) returns-2 loop-holds (λ c. omega arith)
     (λ c. omega arith) (λ c. omega arith) (λ c. omega arith) (λ c. omega arith) (λ c. omega arith) (λ c κs. search needs)
     returns-3 (λ c. omega arith) (λ c. omega arith) loop-again returns-4)

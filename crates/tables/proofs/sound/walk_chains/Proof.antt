@@ -33,13 +33,12 @@ loop-holds c = (refl, sofar-start _ _ _)
 
 loop2-holds : tie.Need-loop2-holds Inv-loop2 μ-loop2 Inv-loop μ-loop
 loop2-holds c =
-    let o = c .before .before .before .before in
-    going-start _ _ _ (o .loop .state) (o .loop .met) _ (o .loop .inv .0)
-    (c .wide2 .ensures ∙ ap (λ (x : ℕ). getD (now (o .before .args .links)) x 0) (c .before .before .wide .ensures))
+    let o = c .before .before .before in
+    going-start _ _ _ (o .loop .state) (o .loop .met) _ (o .loop .inv .0) (c .wide .ensures)
 
 -- the outer loop of a turn, and that a walk which is refused refuses all
 abbrev outer : tie.At-loop2 Inv-loop2 μ-loop2 Inv-loop μ-loop → tie.In-loop Inv-loop2 μ-loop2 Inv-loop μ-loop
-outer b = b .before .before .before .before
+outer b = b .before .before .before
 
 refused : (h : tie.In-loop2 Inv-loop2 μ-loop2 Inv-loop μ-loop) →
     let b = h .before in
@@ -90,7 +89,7 @@ loop2-less : tie.Need-loop2-less Inv-loop2 μ-loop2 Inv-loop μ-loop
 loop2-less c = let b = c .before .before in going-less (turn b .loop2 .inv) (next b)
 
 loop2-again : tie.Need-loop2-again Inv-loop2 μ-loop2 Inv-loop μ-loop
-loop2-again c = let b = c .before .before in going-on (turn b .loop2 .inv) (next b) _ (c .wide3 .ensures)
+loop2-again c = let b = c .before .before in going-on (turn b .loop2 .inv) (next b) _ (c .wide2 .ensures)
 
 loop-again : tie.Need-loop-again Inv-loop2 μ-loop2 Inv-loop μ-loop
 loop-again c =
@@ -106,7 +105,7 @@ returns-5 c = sofar-end (c .before .loop .inv .1) (c .loop-test .left)
 pub walk-chains-spec : {M : Type 1} → statement M
 walk-chains-spec =
     tie.close
-    (tie.spec Inv-loop2 μ-loop2 Inv-loop μ-loop loop-holds (λ c κs. search needs) (λ c. omega arith) (λ c κs. search needs)
+    (tie.spec Inv-loop2 μ-loop2 Inv-loop μ-loop loop-holds (λ c. search needs) (λ c. omega arith) (λ c κs. search needs)
     loop2-holds returns (λ c. omega arith) array-read-if2 returns-2 (λ c. omega arith) (λ c. omega arith) returns-3
     (λ c. omega arith) (λ c. omega arith) (λ c. omega arith) returns-4 (λ c. omega arith) array-write-met (λ c. omega arith)
     (λ c. omega arith) (λ c κs. search needs) loop2-less loop2-again (λ c. omega arith) (λ c. omega arith) loop-again returns-5)
