@@ -1,4 +1,5 @@
--- A turn, line by line: what is left of it while lines are printed for. Where a line with room before it comes first, it is printed for and the turn goes on behind it.
+-- A turn, line by line: what is left of it while lines are printed for. Where a line with room before it comes first, it is
+-- printed for and the turn goes on behind it.
 -- Assumes nothing.
 use Prim.Native.Nat.{ℕ, _+_, _-_, _≤_, _<_}
 use native.Mathlib.Decide.{decLt}
@@ -65,7 +66,8 @@ pub record Going (t₀ : Tables) (block : List ℕ) (at : ℕ) (out₀ out : Lis
   pub many : used ≡ length bytes
   pub fits : used ≤ length out₀
   pub buffer : out ≡ front bytes out₀
-  pub left : turn t₀ (ended (parts 10 (drop at block))) at (length out₀) ≡ behind bytes (turn t (ended (parts 10 (drop from block))) from (length out₀ - used))
+  pub left : turn t₀ (ended (parts 10 (drop at block))) at (length out₀)
+      ≡ behind bytes (turn t (ended (parts 10 (drop from block))) from (length out₀ - used))
 
 pub going-start : (t : Tables) (block : List ℕ) (at : ℕ) (out : List ℕ) → Going t block at out out t at 0
 going-start t block at out =
@@ -90,10 +92,12 @@ module _ {t₀ t : Tables} {block out₀ out : List ℕ} {at from used : ℕ} (g
 
   going-behind : drop used out ≡ drop used out₀
   going-behind =
-      ap (drop used) (g .buffer) ∙ drop-at (g .bytes) (drop (length (g .bytes)) out₀) used (sym (g .many)) ∙ ap (λ (k : ℕ). drop k out₀) (sym (g .many))
+      ap (drop used) (g .buffer) ∙ drop-at (g .bytes) (drop (length (g .bytes)) out₀) used (sym (g .many))
+      ∙ ap (λ (k : ℕ). drop k out₀) (sym (g .many))
 
   pub going-length : length out ≡ length out₀
-  going-length = ap length (g .buffer) ∙ omega (arith, length-append (g .bytes) (drop (length (g .bytes)) out₀), length-drop (length (g .bytes)) out₀, g .fits, g .many)
+  going-length = ap length (g .buffer)
+      ∙ omega (arith, length-append (g .bytes) (drop (length (g .bytes)) out₀), length-drop (length (g .bytes)) out₀, g .fits, g .many)
 
   -- a line is printed for, into the part of the buffer that is left, which then comes back
   module _ (e : ℕ) (E : LineEnd block from e) (ends : e < length block) (big : room ≤ length out₀ - used) (r : Outcome) (after : List ℕ)
@@ -115,7 +119,8 @@ module _ {t₀ t : Tables} {block out₀ out : List ℕ} {at from used : ℕ} (g
     said : beside after (told r) ≡ lineShown t line (drop used out)
     said = says ∙ ap₂ (λ (l : List ℕ) (o : List ℕ). lineShown t l o) (line-taken block from e low) (part-to-end out used)
 
-    printing : beside after (told r) ≡ record { number = 0; values = length put ∷ []; tables = keyed t line lent .tables; buffer = front put (drop used out) }
+    printing : beside after (told r)
+        ≡ record { number = 0; values = length put ∷ []; tables = keyed t line lent .tables; buffer = front put (drop used out) }
     printing = said ∙ shown-long t line (drop used out) (omega (arith, behind-length))
 
     many : n ≡ length put
@@ -129,14 +134,16 @@ module _ {t₀ t : Tables} {block out₀ out : List ℕ} {at from used : ℕ} (g
 
     back : putMid used (length out - used) out after ≡ take used out ++ after
     back =
-        ap (λ (xs : List ℕ). take used out ++ (after ++ xs)) (post-is used (length out) out (omega (arith, g .fits, going-length)) ∙ drop-of-length-le out {i = length out} (omega arith))
+        ap (λ (xs : List ℕ). take used out ++ (after ++ xs))
+        (post-is used (length out) out (omega (arith, g .fits, going-length)) ∙ drop-of-length-le out {i = length out} (omega arith))
         ∙ ap (λ (xs : List ℕ). take used out ++ xs) (append-nil after)
 
     buffer : putMid used (length out - used) out after ≡ front (g .bytes ++ put) out₀
     buffer =
         back
         ∙ ap (λ (xs : List ℕ). xs ++ after) going-front
-        ∙ ap (λ (xs : List ℕ). g .bytes ++ xs) (ap (λ (w : Written). w .buffer) printing ∙ ap (λ (xs : List ℕ). put ++ drop (length put) xs) going-behind)
+        ∙ ap (λ (xs : List ℕ). g .bytes ++ xs)
+        (ap (λ (w : Written). w .buffer) printing ∙ ap (λ (xs : List ℕ). put ++ drop (length put) xs) going-behind)
         ∙ ap (λ (xs : List ℕ). g .bytes ++ (put ++ xs)) (drop-drop (length put) used out₀ ∙ ap (λ (k : ℕ). drop k out₀) all)
         ∙ sym (append-assoc (g .bytes) put (drop (length (g .bytes ++ put)) out₀))
 

@@ -1,4 +1,5 @@
--- A block of the program is a step of `arriving`: turn after turn prints for every line that ends in it, and what is carried to the front is what `arriving` holds.
+-- A block of the program is a step of `arriving`: turn after turn prints for every line that ends in it, and what is carried
+-- to the front is what `arriving` holds.
 -- The turns come to the place behind the last of those lines; from there to the end is the line that goes on.
 -- Assumes nothing.
 use Prim.Native.Nat.{ℕ, _≤_}
@@ -15,14 +16,16 @@ use Rattle.blocks.proofs.AllTurns.{all-turns}
 use Rattle.blocks.proofs.Copying.{carried-part, carried-turned}
 
 -- what is carried from a place on to the end is what stands there, `most` bytes of it at most
-carried-holds : (block : List ℕ) (p end : ℕ) → end ≤ length block → take (carried block p end .held) (carried block p end .block) ≡ take most (drop p (take end block))
+carried-holds : (block : List ℕ) (p end : ℕ) → end ≤ length block
+    → take (carried block p end .held) (carried block p end .block) ≡ take most (drop p (take end block))
 carried-holds block p end h = go (decLe p end)
   where
     kept : List ℕ
     kept = take most (drop p (take end block))
 
     go : Dec (p ≤ end) → take (carried block p end .held) (carried block p end .block) ≡ kept
-    go (yes l) = ap (λ (c : Carried). take (c .held) (c .block)) (carried-part block p end l h) ∙ take-append-seam kept (drop (length kept) block)
+    go (yes l) = ap (λ (c : Carried). take (c .held) (c .block)) (carried-part block p end l h)
+        ∙ take-append-seam kept (drop (length kept) block)
     go (no l) =
         let e : drop p (take end block) ≡ [] = drop-of-length-le (take end block) {i = p} (omega (arith, l, length-take-le end block h)) in
         ap (λ (c : Carried). take (c .held) (c .block)) (sym (carried-turned block p end (omega (arith, l)))) ∙ sym (ap (take most) e)

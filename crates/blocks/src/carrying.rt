@@ -2,8 +2,8 @@
 ghost use mathlib.Core.Path.{_≡_};
 ghost use Rattle.blocks.specs.Blocks.{carried};
 
-// What the block has of the line, from `from` to `to`, goes to the front. 73 bytes of it are enough, since a line of more than 72 is not understood whatever
-// they are.
+// What the block has of the line, from `from` to `to`, goes to the front. 73 bytes of it are enough, since a line of more than
+// 72 is not understood whatever they are.
 pub fn carry(block: &mut [u8], from: usize, to: usize) -> usize
     ensures { λ r. ⌜ record { held = r; block = now (block .exit) } ≡ carried (now (block .entry)) from to ⌝ }
 {

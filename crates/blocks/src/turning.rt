@@ -6,7 +6,8 @@ use tables::Tables;
 
 // Prints for line after line, from place `at` on, while 8,192 bytes are left of the lent buffer.
 pub fn print_block(tables: Tables, block: &[u8], at: usize, out: &mut [u8]) -> Turn
-    ensures { λ r. ⌜ record { tables = r .tables; place = r .place; used = r .used; buffer = now (out .exit) } ≡ turned tables (now (block .entry)) at (now (out .entry)) ⌝ }
+    ensures { λ r. ⌜ record { tables = r .tables; place = r .place; used = r .used; buffer = now (out .exit) }
+        ≡ turned tables (now (block .entry)) at (now (out .entry)) ⌝ }
 {
     let mut t = tables;
     let mut from = at;

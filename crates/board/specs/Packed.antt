@@ -89,7 +89,8 @@ packedLength = 1237
 -- clock, tracks, system's tracks, numbers; holders; resources; links; records
 unfoldable pub packed : Tables → List ℕ
 packed t =
-    inBytes 8 (t .ledger .clock .ticks) ++ inBytes 2 (t .ledger .tracks .count) ++ inBytes 2 (t .ledger .tracks .system) ++ (t .ledger .numbers .count ∷ [])
+    inBytes 8 (t .ledger .clock .ticks) ++ inBytes 2 (t .ledger .tracks .count) ++ inBytes 2 (t .ledger .tracks .system)
+    ++ (t .ledger .numbers .count ∷ [])
     ++ places (t .ledger .tracks) ++ join (map packResource (t .ledger .numbers .resources)) ++ t .links
     ++ join (map packProgram (t .ledger .programs))
 

@@ -1,5 +1,5 @@
-// Runs that no console script reaches: a clock near the day's end and near its ceiling, tables that are not sound, a buffer that is too short. Each is
-// made by setting a field of the tables, and then keyed in like any other.
+// Runs that no console script reaches: a clock near the day's end and near its ceiling, tables that are not sound, a buffer that is too
+// short. Each is made by setting a field of the tables, and then keyed in like any other.
 ghost use Prim.Native.Nat.{_≤_};
 ghost use lib.ListN.{length};
 use clock::Clock;

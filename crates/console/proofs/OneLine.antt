@@ -1,5 +1,5 @@
--- What a line prints. A lent buffer of at least 8,192 bytes holds every page, so what a line answers does not hang on which is lent; and the page, or else the
--- answer's line, is what stands at its front.
+-- What a line prints. A lent buffer of at least 8,192 bytes holds every page, so what a line answers does not hang on which is lent; and
+-- the page, or else the answer's line, is what stands at its front.
 -- Assumes nothing.
 use Prim.Native.Nat.{ℕ, _≤_, _<_}
 use native.Mathlib.Omega.{arith}
@@ -72,7 +72,8 @@ line-alike : {v w : Written} → Alike v w → answerLine v ≡ answerLine w
 unfolding answerLine
 line-alike {v} h = λ i. answerLine (record { number = h .number i; values = h .values i; tables = v .tables; buffer = v .buffer })
 
-pub keyed-alike : (t : Tables) (l a b : List ℕ) → (sound t ≡ true → length (page (plain t)) ≤ length a) → (sound t ≡ true → length (page (plain t)) ≤ length b)
+pub keyed-alike : (t : Tables) (l a b : List ℕ) → (sound t ≡ true → length (page (plain t)) ≤ length a)
+    → (sound t ≡ true → length (page (plain t)) ≤ length b)
     → Alike (keyed t l a) (keyed t l b)
 unfolding keyedIn
 keyed-alike t l a b ha hb = go (sound t) refl (lineOf l)
@@ -88,12 +89,14 @@ abbrev pub printing : List ℕ → Tables → List ℕ → Written
 printing bytes t out = record { number = 0; values = length bytes ∷ []; tables = t; buffer = front bytes out }
 
 -- too few bytes are lent
-pub shown-short : (t : Tables) (l out : List ℕ) → length out < room → lineShown t l out ≡ record { number = 12; values = room ∷ []; tables = t; buffer = out }
+pub shown-short : (t : Tables) (l out : List ℕ) → length out < room
+    → lineShown t l out ≡ record { number = 12; values = room ∷ []; tables = t; buffer = out }
 unfolding lineShown
 shown-short t l out h = rw (lt-leb room (length out) h, lineShown)
 
 -- enough are lent
-pub shown-long : (t : Tables) (l out : List ℕ) → room ≤ length out → lineShown t l out ≡ printing (shown (lineOf l) t (keyed t l lent)) (keyed t l lent .tables) out
+pub shown-long : (t : Tables) (l out : List ℕ) → room ≤ length out
+    → lineShown t l out ≡ printing (shown (lineOf l) t (keyed t l lent)) (keyed t l lent .tables) out
 unfolding lineShown
 shown-long t l out big = rw (le-leb room (length out) big, lineShown)
 
@@ -105,7 +108,8 @@ pub printed-fits : (t : Tables) (l out after : List ℕ) (r : Outcome) → besid
     → printedBytes (answers.number (r .answer)) (answers.values (r .answer)) ≤ length out
 printed-fits t l out after r e same = go (decLt (length out) room)
   where
-    many : (w : Written) → lineShown t l out ≡ w → printedBytes (answers.number (r .answer)) (answers.values (r .answer)) ≡ printedBytes (w .number) (w .values)
+    many : (w : Written) → lineShown t l out ≡ w
+        → printedBytes (answers.number (r .answer)) (answers.values (r .answer)) ≡ printedBytes (w .number) (w .values)
     many w f = ap (λ (v : Written). printedBytes (v .number) (v .values)) (e ∙ f)
 
     go : Dec (length out < room) → printedBytes (answers.number (r .answer)) (answers.values (r .answer)) ≤ length out
@@ -113,7 +117,11 @@ printed-fits t l out after r e same = go (decLt (length out) room)
     go (no h) =
         let big : room ≤ length out = omega arith in
         let f = shown-long t l out big in
-        omega (arith, many _ f, front-fits (shown (lineOf l) t (keyed t l lent)) out (ap length (sym (ap (λ (v : Written). v .buffer) (e ∙ f))) ∙ same))
+        omega (
+          arith,
+          many _ f,
+          front-fits (shown (lineOf l) t (keyed t l lent)) out (ap length (sym (ap (λ (v : Written). v .buffer) (e ∙ f))) ∙ same),
+        )
 
 module _ (t : Tables) (l out : List ℕ) (big : room ≤ length out) (fits : sound t ≡ true → length (page (plain t)) ≤ room) where
   pub keyed-lent : Alike (keyed t l out) (keyed t l lent)
@@ -150,7 +158,8 @@ module _ (t : Tables) (l out : List ℕ) (big : room ≤ length out) (fits : sou
 
     -- PAGE done
     module _ (n : ℕ) (p : lineOf l ≡ PAGE) (d : r .answer ≡ Done n) where
-      done-keyed : beside after (told r) ≡ record { number = 0; values = length (page (plain t)) ∷ []; tables = t; buffer = front (page (plain t)) out }
+      done-keyed : beside after (told r)
+          ≡ record { number = 0; values = length (page (plain t)) ∷ []; tables = t; buffer = front (page (plain t)) out }
       done-keyed = let e = done-sound n d in same ∙ keyed-page t l e p out (omega (arith, fits e))
 
       pub printed-page : beside after (told r) ≡ lineShown t l out
@@ -164,7 +173,8 @@ module _ (t : Tables) (l out : List ℕ) (big : room ≤ length out) (fits : sou
           go : (s : Bool) → sound t ≡ s → s ≡ false
           go true e =
               let k = same ∙ keyed-page t l e p out (omega (arith, fits e)) in
-              absurd (other p (length (page (plain t))) (one-answer (r .answer) (Done (length (page (plain t)))) (ap (λ (w : Written). w .number) k) (ap (λ (w : Written). w .values) k)))
+              absurd (other p (length (page (plain t))) (one-answer (r .answer) (Done (length (page (plain t))))
+              (ap (λ (w : Written). w .number) k) (ap (λ (w : Written). w .values) k)))
           go false e = refl
 
       pub printed-kept : after ≡ out

@@ -19,7 +19,8 @@ use Rattle.text.proofs.Fields.{drop-take}
 use Rattle.text.proofs.Read.{upTo-over}
 use Rattle.console.specs.declared.words.Word.{Word}
 use Rattle.console.specs.Line.{Line, bad, Form, Entry, lookUp, execs, numbers, forms, lineOf}
-use Rattle.console.specs.Inner.{fieldsFrom, noWord, lead, rows, rowAt, requests, taking, ended, entries, keys, behind, seek, starts, startAt, Row}
+use Rattle.console.specs.Inner.{fieldsFrom, noWord, lead, rows, rowAt, requests, taking, ended, entries}
+use Rattle.console.specs.Inner.{keys, behind, seek, starts, startAt, Row}
 use Rattle.console.proofs.FieldLaws.{fields-past, fields-cut, fields-all}
 
 -- of the entries, those behind the word `last`

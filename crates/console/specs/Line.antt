@@ -1,4 +1,5 @@
--- The console line: 1 to 72 bytes, words joined by commas (OUTLINE, "The page and the console line"). A wrong word, field count or field form is not understood.
+-- The console line: 1 to 72 bytes, words joined by commas (OUTLINE, "The page and the console line"). A wrong word, field
+-- count or field form is not understood.
 -- Assumes nothing.
 use Prim.Native.Nat.{ℕ}
 use Prim.Native.String.{String}
@@ -9,7 +10,8 @@ use lib.ListN.{length}
 use Rattle.lists.specs.Lists.{upTo, alike}
 use Rattle.text.specs.Text.{text, numberOf, parts}
 use Rattle.records.specs.Names.{nameOf}
-use Rattle.rules.specs.Requests.{RU, SS, GO, PR, OF, Call, EXEC4, EXEC15, EXEC5, EXEC16, EXEC5ALL, EXEC6, EXEC7, EXEC11, EXEC9, EXEC10, EXEC12, ALLOC, LOCK, CLEAR, FREE, Request, FRESH, LOAD, operator, TICK, running}
+use Rattle.rules.specs.Requests.{RU, SS, GO, PR, OF, Call, EXEC4, EXEC15, EXEC5, EXEC16, EXEC5ALL, EXEC6, EXEC7, EXEC11, EXEC9, EXEC10}
+use Rattle.rules.specs.Requests.{EXEC12, ALLOC, LOCK, CLEAR, FREE, Request, FRESH, LOAD, operator, TICK, running}
 
 -- what a line says
 pub data Line : Type 0 where

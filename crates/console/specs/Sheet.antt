@@ -35,11 +35,13 @@ shown (asks q) t r = answerLine r
 abbrev pub bytesFor : Tables → List ℕ → List ℕ
 bytesFor t l = shown (lineOf l) t (keyed t l lent)
 
--- What a line prints, at the front of a lent buffer: 0, and how many bytes; or 12, and the bytes needed, where fewer than 8,192 are lent: then nothing is done.
+-- What a line prints, at the front of a lent buffer: 0, and how many bytes; or 12, and the bytes needed, where fewer than
+-- 8,192 are lent: then nothing is done.
 unfoldable pub lineShown : Tables → List ℕ → List ℕ → Written
 lineShown t l out =
     elim (leb room (length out)) [
-      | true ↦ record { number = 0; values = length (bytesFor t l) ∷ []; tables = keyed t l lent .tables; buffer = front (bytesFor t l) out }
+      | true ↦
+          record { number = 0; values = length (bytesFor t l) ∷ []; tables = keyed t l lent .tables; buffer = front (bytesFor t l) out }
       | false ↦ record { number = 12; values = room ∷ []; tables = t; buffer = out }
     ]
 

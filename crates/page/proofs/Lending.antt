@@ -1,4 +1,5 @@
--- What PAGE hands back, by the paths of the code: 8,192 bytes are room for the page of sound tables, and a buffer that was long enough begins with the page.
+-- What PAGE hands back, by the paths of the code: 8,192 bytes are room for the page of sound tables, and a buffer that
+-- was long enough begins with the page.
 -- Assumes nothing.
 use Prim.Native.Nat.{ℕ, _+_, _<_, _≤_}
 use native.Mathlib.Nat.{zero-add}

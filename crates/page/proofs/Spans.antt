@@ -1,5 +1,5 @@
--- What is left of the parts of a page that repeat, a piece for each thing: the used records from program p on, the states from the one at i on, the runs of tracks
--- from track i on, the resource numbers behind the first i.
+-- What is left of the parts of a page that repeat, a piece for each thing: the used records from program p on, the states from the one at i
+-- on, the runs of tracks from track i on, the resource numbers behind the first i.
 -- Assumes nothing.
 use Prim.Native.Nat.{ℕ, zero, suc, _+_, _-_, _<_, _≤_}
 use native.Mathlib.Numerals.{add-one}
@@ -22,7 +22,8 @@ use Rattle.tracks.specs.Inner.{RunFrom}
 use Rattle.tracks.proofs.RunLaws.{runsFrom, runs-past}
 use Rattle.chains.specs.Links.{walk, read}
 use Rattle.chains.proofs.Reading.{getD-read}
-use Rattle.page.specs.Page.{bytesOf, bytes, chained, usedIn, recorded, recordLines, chainLine, chainLines, heldLine, heldLines, numberLine, numberLines}
+use Rattle.page.specs.Page.{bytesOf, bytes, chained, usedIn, recorded, recordLines, chainLine, chainLines}
+use Rattle.page.specs.Page.{heldLine, heldLines, numberLine, numberLines}
 use Rattle.page.proofs.Writing.{pieces, pieces-join}
 
 -- USED RECORDS
@@ -51,7 +52,8 @@ module _ (ps : List Program) (p k : ℕ) (e : k ≡ p - 1) (h : p ≤ 32) where
       ∙ ap (λ (t : Bool). cond t (p ∷ usedFrom ps (p + 1)) (usedFrom ps (p + 1))) (at-place (λ (r : Program). r .used) ps p k b e u)
 
   pub records-here : getD ps k missing .used ≡ true → recordsFrom ps p ≡ bytes (recorded p (getD ps k missing)) ∷ recordsFrom ps (p + 1)
-  records-here u = ap (recordsOf ps) (used-next true u) ∙ ap (λ (i : ℕ). bytes (recorded p (getD ps i missing)) ∷ recordsFrom ps (p + 1)) (sym e)
+  records-here u =
+      ap (recordsOf ps) (used-next true u) ∙ ap (λ (i : ℕ). bytes (recorded p (getD ps i missing)) ∷ recordsFrom ps (p + 1)) (sym e)
 
   pub records-on : getD ps k missing .used ≡ false → recordsFrom ps p ≡ recordsFrom ps (p + 1)
   records-on u = ap (recordsOf ps) (used-next false u)
@@ -118,7 +120,8 @@ module _ (n : ℕ) (xs : List Resource) where
   numbers-here i h =
       let e : i + 1 - 1 ≡ i = omega arith in
       ap numbersOf (span-next (i + 1) n (omega arith))
-      ∙ ap (λ (x : Resource). bytes (numberLine (i + 1) x) ∷ numbersFrom (i + 1)) (ap (λ (k : ℕ). getD (take n xs) k free) e ∙ getD-take n xs i free h)
+      ∙ ap (λ (x : Resource). bytes (numberLine (i + 1) x) ∷ numbersFrom (i + 1))
+      (ap (λ (k : ℕ). getD (take n xs) k free) e ∙ getD-take n xs i free h)
 
   pub numbers-past : (i : ℕ) → n ≤ i → numbersFrom i ≡ []
   numbers-past i h = ap numbersOf (span-none (i + 1) n (omega arith))

@@ -92,7 +92,8 @@ abbrev pub recorded : ℕ → Program → List Line
 recorded p r =
     let timer : Bool = ltb 0 (r .due) in
     paired recordKeys
-    (decimal p ∷ bare (r .name) ∷ decimal (r .priority) ∷ decimal (r .state) ∷ reason (r .why) ∷ orDash timer (r .due) ∷ orDash timer (r .interval) ∷ [])
+    (decimal p ∷ bare (r .name) ∷ decimal (r .priority) ∷ decimal (r .state) ∷ reason (r .why) ∷ orDash timer (r .due)
+    ∷ orDash timer (r .interval) ∷ [])
 
 unfoldable pub recordLines : List Program → List Line
 recordLines ps = join (map (λ p. recorded p (recordAt ps p)) (usedIn ps))
@@ -126,8 +127,8 @@ numberLines n xs = join (map (λ r. numberLine r (numberAt xs r)) (from 1 n))
 abbrev pub parts : State lists → List (List Line)
 parts a =
     let b : Book = a .book in
-    headLines (b .clock) (b .tracks) (b .system) (b .numbers) (length (usedIn (b .programs))) ∷ recordLines (b .programs) ∷ chainLines (a .kept)
-    ∷ heldLines (b .holders) ∷ numberLines (b .numbers) (b .resources) ∷ (line endKey (text "page") ∷ []) ∷ []
+    headLines (b .clock) (b .tracks) (b .system) (b .numbers) (length (usedIn (b .programs))) ∷ recordLines (b .programs)
+    ∷ chainLines (a .kept) ∷ heldLines (b .holders) ∷ numberLines (b .numbers) (b .resources) ∷ (line endKey (text "page") ∷ []) ∷ []
 
 unfoldable pub lines : State lists → List Line
 lines a = join (parts a)

@@ -1,4 +1,5 @@
-// The words of a page, each in one place: the writer puts them, a reader will compare them. The keys are those of specs/Page.antt, in its order.
+// The words of a page, each in one place: the writer puts them, a reader will compare them. The keys are
+// those of specs/Page.antt, in its order.
 pub(crate) const PAGE: [u8; 4] = *b"page";
 
 pub(crate) const RTE2: [u8; 4] = *b"rte2";

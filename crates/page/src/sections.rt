@@ -89,7 +89,8 @@ pub(crate) fn put_runs(buf: &mut [u8], at: usize, tracks: Tracks) -> usize
 pub(crate) fn put_resources(buf: &mut [u8], at: usize, numbers: Numbers) -> usize
     requires { ⌜ numbers .count ≤ 16 ⌝ }
     requires { ⌜ at + length (bytes (numberLines (numbers .count) (take (numbers .count) (numbers .resources)))) ≤ length (now buf) ⌝ }
-    ensures { λ r. ⌜ Wrote (now (buf .entry)) at (bytes (numberLines (numbers .count) (take (numbers .count) (numbers .resources)))) (now (buf .exit)) r ⌝ }
+    ensures { λ r. ⌜ Wrote (now (buf .entry)) at (bytes (numberLines (numbers .count) (take (numbers .count) (numbers .resources))))
+        (now (buf .exit)) r ⌝ }
 {
     let count = wide(numbers.count);
     let resources = numbers.resources;

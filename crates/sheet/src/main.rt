@@ -1,5 +1,5 @@
-// The program `sheet`: reads lines from standard input and prints what each comes to, from the smallest tables on. The work on bytes is done by `blocks` and
-// `console`; here is only the order of the reads and writes.
+// The program `sheet`: reads lines from standard input and prints what each comes to, from the smallest tables on. The work on bytes is
+// done by `blocks` and `console`; here is only the order of the reads and writes.
 ghost use Prim.Native.Nat.{_<_, _≤_};
 ghost use lib.ListN.{length};
 ghost use Rattle.sheet.specs.Inner.{Through};
@@ -15,8 +15,8 @@ struct Printed {
     written: bool,
 }
 
-// Prints for the lines that end in the block: turn after turn, until one prints nothing. Each turn but the last prints for a line, so there are no more turns than
-// bytes.
+// Prints for the lines that end in the block: turn after turn, until one prints nothing. Each turn but the last prints for a line,
+// so there are no more turns than bytes.
 fn print_turns(tables: Tables, block: &[u8], out: &mut [u8]) -> Printed
     requires { ⌜ 8192 ≤ length (now out) ⌝ }
     ensures { λ r. ⌜ Through tables (now (block .entry)) r ⌝ }
@@ -58,8 +58,8 @@ fn print_last(tables: Tables, line: &[u8], out: &mut [u8]) {
     }
 }
 
-// Prints for all of the input, which is read into the block. A proved loop has to end, and nothing says that the input does: it counts down from a number that no
-// run uses up.
+// Prints for all of the input, which is read into the block. A proved loop has to end, and nothing says that the input does: it counts
+// down from a number that no run uses up.
 fn print_all(block: &mut [u8], out: &mut [u8])
     requires { ⌜ 73 < length (now block) ⌝ }
     requires { ⌜ 8192 ≤ length (now out) ⌝ }

@@ -1,4 +1,5 @@
--- `sections::count_used` meets its contract. The loop's invariant: those counted and the used records left are all. The measure is the records left.
+-- `sections::count_used` meets its contract. The loop's invariant: those counted and the used records left are
+-- all. The measure is the records left.
 -- Assumes nothing.
 use Prim.Native.Nat.{_+_, _-_, _≤_}
 use native.Mathlib.Omega.{arith}

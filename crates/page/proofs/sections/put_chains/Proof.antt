@@ -1,4 +1,5 @@
--- `sections::put_chains` meets its contract. The loop's invariant: the lines of the states from the one at i on are left. The measure is the states left.
+-- `sections::put_chains` meets its contract. The loop's invariant: the lines of the states from the one at i on are
+-- left. The measure is the states left.
 -- Assumes nothing.
 use Prim.Native.Nat.{ℕ, _+_, _-_, _≤_}
 use native.Mathlib.Omega.{arith}
@@ -39,7 +40,8 @@ listed : (c : tie.After-chain-of Inv-loop μ-loop)
     lineOf d (walk (c .before .before .before .before .before .args .links) (state d) 32) ≡ lineOf d (take (r .len) (r .ids))
 listed c =
     let d = c .before .before in
-    ap (lineOf d) (sym (c .chain-of .ensures .some ∙ ap (λ (k : ℕ). walk (c .before .before .before .before .before .args .links) k 32) (c .before .wide .ensures)))
+    ap (lineOf d) (sym (c .chain-of .ensures .some
+    ∙ ap (λ (k : ℕ). walk (c .before .before .before .before .before .args .links) k 32) (c .before .wide .ensures)))
 
 loop-again : tie.Need-loop-again Inv-loop μ-loop
 loop-again c =
@@ -54,4 +56,5 @@ put-chains-spec =
     (λ c. omega arith) (λ c κs. search needs) (λ c κs. search needs)
     (λ c κs. let f = c .before in (f .chain-of .ensures .most, omega (arith, ap length (listed f), todo-room (here (f .before .before)))))
     (λ c. omega arith) (λ c. omega arith) loop-again (λ c. todo-same (c .before .loop .inv .1))
-    (λ c. let b = c .before in todo-end (todo-as (chains-past (b .before .before .args .links) (b .loop .i) (omega arith)) (b .loop .inv .1))))
+    (λ c. let b = c .before in
+    todo-end (todo-as (chains-past (b .before .before .args .links) (b .loop .i) (omega arith)) (b .loop .inv .1))))

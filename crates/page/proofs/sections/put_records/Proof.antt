@@ -1,4 +1,5 @@
--- `sections::put_records` meets its contract. The loop's invariant: the lines of the used records from p on are left. The measure is the records left.
+-- `sections::put_records` meets its contract. The loop's invariant: the lines of the used records from p on are
+-- left. The measure is the records left.
 -- Assumes nothing.
 use Prim.Native.Nat.{_-_, _≤_}
 use native.Mathlib.Omega.{arith}
@@ -20,7 +21,8 @@ put-record-requires : tie.Need-put-record-requires Inv-loop μ-loop
 put-record-requires c κs =
     let w = c .before .before .before in
     let b = w .before .before in
-    let here = records-here (b .before .before .args .t3) (b .loop .p) (w .wide .result - 1) (omega arith) (omega arith) (c .before .if1 .taken) in
+    let here = records-here (b .before .before .args .t3) (b .loop .p) (w .wide .result - 1) (omega arith) (omega arith)
+    (c .before .if1 .taken) in
     todo-room (todo-as here (b .loop .inv .2))
 
 loop-again : tie.Need-loop-again Inv-loop μ-loop
@@ -33,7 +35,8 @@ loop-again c =
       omega arith,
       omega arith,
       ⊎-elim
-          (λ t. todo-at (t .5) (t .6) (todo-step (todo-as (records-here ps p k (omega arith) (omega arith) (t .0 .taken)) (b .loop .inv .2)) (t .2 .ensures)))
+          (λ t. todo-at (t .5) (t .6)
+          (todo-step (todo-as (records-here ps p k (omega arith) (omega arith) (t .0 .taken)) (b .loop .inv .2)) (t .2 .ensures)))
           (λ t. todo-at (t .1) (t .2) (todo-as (records-on ps p k (omega arith) (omega arith) (t .0 .left)) (b .loop .inv .2)))
           (c .if1 .came),
     )
@@ -45,4 +48,5 @@ put-records-spec =
     (λ c. let s = c .before in (omega arith, omega arith, todo-start (recordsFrom (s .args .t3) 1) (records-all (s .args .t3)) (s .pre)))
     (λ c κs. search needs) (λ c. omega arith) (λ c. search needs) (λ c. search needs) put-record-requires (λ c. search needs)
     (λ c. search needs) loop-again (λ c. todo-same (c .before .loop .inv .2))
-    (λ c. let b = c .before in todo-end (todo-as (records-past (b .before .before .args .t3) (b .loop .p) (omega arith)) (b .loop .inv .2))))
+    (λ c. let b = c .before in
+    todo-end (todo-as (records-past (b .before .before .args .t3) (b .loop .p) (omega arith)) (b .loop .inv .2))))

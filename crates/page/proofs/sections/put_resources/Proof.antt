@@ -1,4 +1,5 @@
--- `sections::put_resources` meets its contract. The loop's invariant: the lines of the numbers behind the first i are left. The measure is the numbers left.
+-- `sections::put_resources` meets its contract. The loop's invariant: the lines of the numbers behind the first i are
+-- left. The measure is the numbers left.
 -- Assumes nothing.
 use Prim.Native.Nat.{ℕ, _+_, _-_, _≤_}
 use native.Mathlib.Omega.{arith}
@@ -28,22 +29,29 @@ loop-holds : tie.Need-loop-holds Inv-loop μ-loop
 loop-holds c =
     let w = c .before .wide in
     let s = c .before .before .before in
-    let xs = s .args .numbers .resources in
-    (omega arith, todo-start (numbersFrom (w .result) xs 0) (numbers-all (w .result) xs) (omega (arith, ap (λ (n : ℕ). length (all xs n)) (w .ensures), s .pre .1)))
+    let xs = s .args .numbers .resources in (
+      omega arith,
+      todo-start (numbersFrom (w .result) xs 0) (numbers-all (w .result) xs)
+          (omega (arith, ap (λ (n : ℕ). length (all xs n)) (w .ensures), s .pre .1)),
+    )
 
 here : (c : tie.In-loop Inv-loop μ-loop)
-    → let b = c .before in let s = c .before .before .before .before .before .args in let n = c .before .before .before .wide .result in let xs = s .numbers .resources in
-    Todo (s .buf .now) (s .at) (all xs n) (b .loop .buf) (b .loop .o) (bytes (numberLine (b .loop .i + 1) (getD xs (b .loop .i) free)) ∷ numbersFrom n xs (b .loop .i + 1))
+    → let b = c .before in let s = c .before .before .before .before .before .args in let n = c .before .before .before .wide .result in
+    let xs = s .numbers .resources in
+    Todo (s .buf .now) (s .at) (all xs n) (b .loop .buf) (b .loop .o)
+    (bytes (numberLine (b .loop .i + 1) (getD xs (b .loop .i) free)) ∷ numbersFrom n xs (b .loop .i + 1))
 here c =
     let b = c .before in
-    todo-as (numbers-here (c .before .before .before .wide .result) (c .before .before .before .before .before .args .numbers .resources) (b .loop .i) (omega arith)) (b .loop .inv .1)
+    todo-as (numbers-here (c .before .before .before .wide .result) (c .before .before .before .before .before .args .numbers .resources)
+    (b .loop .i) (omega arith)) (b .loop .inv .1)
 
 returns : tie.Need-returns Inv-loop μ-loop
 returns c =
     let b = c .before in
     let w = b .before .before .wide in
     let xs = b .before .before .before .before .args .numbers .resources in
-    wrote-as (ap (all xs) (sym (w .ensures))) (todo-end (todo-as (numbers-past (w .result) xs (b .loop .i) (omega arith)) (b .loop .inv .1)))
+    wrote-as (ap (all xs) (sym (w .ensures)))
+    (todo-end (todo-as (numbers-past (w .result) xs (b .loop .i) (omega arith)) (b .loop .inv .1)))
 
 pub put-resources-spec : {M : Type 1} → statement M
 put-resources-spec =
