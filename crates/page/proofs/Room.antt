@@ -6,6 +6,7 @@ use native.Mathlib.Omega.{arith}
 use mathlib.Core.Path.{ap}
 use mathlib.Core.List.{List}
 use lib.ListN.{length, length-append}
+use Rattle.limits.specs.Limits.{pageRoom}
 use Rattle.text.specs.Text.{text}
 use Rattle.text.proofs.Laws.{entry-length}
 use Rattle.records.specs.declared.Program.{Program}
@@ -54,5 +55,5 @@ page-length a S =
       entry-length (text endKey) (text "page"),
     )))
 
-pub page-room : (a : State lists) → Sound a → length (page a) ≤ 8192
+pub page-room : (a : State lists) → Sound a → length (page a) ≤ pageRoom
 page-room a S = omega (arith, page-length a S)

@@ -9,6 +9,7 @@ use mathlib.Core.Bool.{Bool, true, false, cond}
 use mathlib.Core.List.{List, [], _∷_, map}
 use lib.ListN.{length, getD, take, drop, drop-of-length-le}
 use lib.Seq.{getD-take, drop-cons}
+use Rattle.limits.specs.Limits.{states, mostPrograms}
 use Rattle.lists.specs.Lists.{keep, from, join, every, upTo}
 use Rattle.lists.proofs.Tests.{both, upTo-true}
 use Rattle.records.specs.declared.Program.{Program}
@@ -28,7 +29,7 @@ use Rattle.page.proofs.Writing.{pieces, pieces-join}
 
 -- USED RECORDS
 abbrev pub usedFrom : List Program → ℕ → List ℕ
-usedFrom ps p = keep (λ q. recordAt ps q .used) (span p 32)
+usedFrom ps p = keep (λ q. recordAt ps q .used) (span p mostPrograms)
 
 abbrev recordsOf : List Program → List ℕ → List (List ℕ)
 recordsOf ps c = pieces (λ q. recorded q (recordAt ps q)) c
@@ -45,10 +46,10 @@ unfolding recordLines
 records-all ps = pieces-join (λ q. recorded q (recordAt ps q)) (usedIn ps) ∙ ap (λ (c : List ℕ). join (recordsOf ps c)) (used-all ps)
 
 -- the record of p stands at k
-module _ (ps : List Program) (p k : ℕ) (e : k ≡ p - 1) (h : p ≤ 32) where
+module _ (ps : List Program) (p k : ℕ) (e : k ≡ p - 1) (h : p ≤ mostPrograms) where
   pub used-next : (b : Bool) → getD ps k missing .used ≡ b → usedFrom ps p ≡ cond b (p ∷ usedFrom ps (p + 1)) (usedFrom ps (p + 1))
   used-next b u =
-      ap (keep (λ q. recordAt ps q .used)) (span-next p 32 h)
+      ap (keep (λ q. recordAt ps q .used)) (span-next p mostPrograms h)
       ∙ ap (λ (t : Bool). cond t (p ∷ usedFrom ps (p + 1)) (usedFrom ps (p + 1))) (at-place (λ (r : Program). r .used) ps p k b e u)
 
   pub records-here : getD ps k missing .used ≡ true → recordsFrom ps p ≡ bytes (recorded p (getD ps k missing)) ∷ recordsFrom ps (p + 1)
@@ -58,10 +59,10 @@ module _ (ps : List Program) (p k : ℕ) (e : k ≡ p - 1) (h : p ≤ 32) where
   pub records-on : getD ps k missing .used ≡ false → recordsFrom ps p ≡ recordsFrom ps (p + 1)
   records-on u = ap (recordsOf ps) (used-next false u)
 
-pub used-past : (ps : List Program) (p : ℕ) → 32 < p → usedFrom ps p ≡ []
-used-past ps p h = ap (keep (λ q. recordAt ps q .used)) (span-none p 32 h)
+pub used-past : (ps : List Program) (p : ℕ) → mostPrograms < p → usedFrom ps p ≡ []
+used-past ps p h = ap (keep (λ q. recordAt ps q .used)) (span-none p mostPrograms h)
 
-pub records-past : (ps : List Program) (p : ℕ) → 32 < p → recordsFrom ps p ≡ []
+pub records-past : (ps : List Program) (p : ℕ) → mostPrograms < p → recordsFrom ps p ≡ []
 records-past ps p h = ap (recordsOf ps) (used-past ps p h)
 
 -- CHAINS
@@ -78,8 +79,11 @@ state-at [] e i h = absurd (omega arith)
 state-at (s ∷ ss) e zero h = both (upTo 1 6 s) (every (upTo 1 6) ss) e .0
 state-at (s ∷ ss) e (suc i) h = state-at ss (both (upTo 1 6 s) (every (upTo 1 6) ss) e .1) i (omega arith)
 
+pub chained-most : (i : ℕ) → i < length chained → getD chained i 0 < states
+chained-most i h = omega (arith, upTo-true 1 6 (getD chained i 0) (state-at chained refl i h))
+
 pub chains-here : (l : List ℕ) (i : ℕ) → i < length chained → let s = getD chained i 0 in
-    chainsFrom l i ≡ bytesOf (chainLine s (walk l s 32)) ∷ chainsFrom l (i + 1)
+    chainsFrom l i ≡ bytesOf (chainLine s (walk l s mostPrograms)) ∷ chainsFrom l (i + 1)
 chains-here l i h =
     let s = getD chained i 0 in
     let t = upTo-true 1 6 s (state-at chained refl i h) in

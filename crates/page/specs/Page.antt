@@ -6,6 +6,7 @@ use mathlib.Core.Bool.{Bool, cond, _||_}
 use mathlib.Core.List.{List, [], _∷_, _++_, map}
 use lib.ListN.{length, getD}
 use lib.Dec.{eqb, ltb}
+use Rattle.limits.specs.Limits.{scheduled, general, disc, suspended}
 use Rattle.lists.specs.Lists.{keep, from, join}
 use Rattle.text.specs.Text.{text, decimal, between, entry}
 use Rattle.records.specs.declared.Program.{Program}
@@ -53,7 +54,7 @@ endKey = "end"
 
 -- the states whose chains are shown
 abbrev pub chained : List ℕ
-chained = 1 ∷ 3 ∷ 5 ∷ 6 ∷ []
+chained = scheduled ∷ general ∷ disc ∷ suspended ∷ []
 
 -- VALUES
 -- a number that may be absent

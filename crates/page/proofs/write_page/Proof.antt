@@ -8,6 +8,7 @@ use mathlib.Core.Bool.{true, false}
 use lib.ListN.{length, take, replicate, length-map, length-replicate}
 use lib.Seq.{length-take-le}
 use borrow.Author.Tests.{not-true, not-false}
+use Rattle.limits.specs.Limits.{pageRoom}
 use Rattle.records.proofs.Program as program
 use Rattle.records.proofs.Resource as resource
 use Rattle.text.proofs.Laws.{wrote-length, wrote-take}
@@ -36,10 +37,10 @@ approved : (c : tie.Else1) → sound (c .before .before .before .args .tables) �
 approved c = sym (c .before .is-sound .ensures) ∙ not-false (c .before .is-sound .result) (c .if1 .left)
 
 -- the space is room for the page, and the page is what it begins with
-fits : (c : tie.After-space) → CanPage (c .before .before .before .before .args .tables) (replicate {A = ℕ} 8192 0)
+fits : (c : tie.After-space) → CanPage (c .before .before .before .before .args .tables) (replicate {A = ℕ} pageRoom 0)
 fits c =
     let s = c .before .before .before .before in
-    can-page (s .args .tables) (replicate {A = ℕ} 8192 0) (arrays s) (approved (c .before)) (omega (arith, length-replicate {A = ℕ} 8192 0))
+    can-page (s .args .tables) (replicate {A = ℕ} pageRoom 0) (arrays s) (approved (c .before)) (omega (arith, length-replicate {A = ℕ} pageRoom 0))
 
 within : (c : tie.After-put-page) → c .put-page .result ≤ length (c .put-page .last .0)
 within c = omega (arith, c .put-page .ensures .place, wrote-length (c .put-page .ensures), fits (c .before) .room)
