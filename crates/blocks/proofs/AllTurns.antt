@@ -12,6 +12,7 @@ use lib.Dec.{eqb}
 use lib.ListN.{length, take, drop, length-append, length-drop}
 use lib.Seq.{slice, drop-drop, length-slice, take-length}
 use borrow.Author.Tests.{eqb-true, eqb-false}
+use Rattle.limits.specs.Limits.{pageRoom}
 use Rattle.text.specs.Text.{onFirst, parts, entry}
 use Rattle.text.specs.Inner.{PartEnd}
 use Rattle.text.proofs.Fields.{until, part-end}
@@ -22,7 +23,7 @@ use Rattle.page.specs.Page.{bytes, lines, page}
 use Rattle.page.specs.Paging.{Written}
 use Rattle.console.specs.Line.{Line, bad, PAGE, asks, lineOf}
 use Rattle.console.specs.Console.{keyed}
-use Rattle.console.specs.Sheet.{bytesFor, room, lent, answerLine, shown, printed}
+use Rattle.console.specs.Sheet.{bytesFor, lent, answerLine, shown, printed}
 use Rattle.blocks.specs.Blocks.{All, ended, unended, tablesAfter, Turn, turn, Turned, turned, turns}
 use Rattle.blocks.proofs.Cuts.{ended-next, unended-next}
 use Rattle.blocks.proofs.Arriving.{printed-append, after-append}
@@ -111,9 +112,9 @@ pub record Took (t : Tables) (s : List ℕ) (at n : ℕ) (x : Turn) : Type 0 whe
   pub rest : unended (parts 10 (drop past s)) ≡ unended (parts 10 s)
   pub bytes : x .bytes ≡ printed t lines
   pub tables : x .tables ≡ tablesAfter t lines
-  pub some : room ≤ n → lines ≡ [] → ended (parts 10 s) ≡ []
+  pub some : pageRoom ≤ n → lines ≡ [] → ended (parts 10 s) ≡ []
 
-took-none : (t : Tables) (s : List ℕ) (at n : ℕ) → (room ≤ n → ended (parts 10 s) ≡ []) → Took t s at n (over t at)
+took-none : (t : Tables) (s : List ℕ) (at n : ℕ) → (pageRoom ≤ n → ended (parts 10 s) ≡ []) → Took t s at n (over t at)
 unfolding printed tablesAfter
 took-none t s at n h =
     record { lines = []; past = 0; place = omega arith; split = refl; rest = refl; bytes = refl; tables = refl; some = λ b e. h b }
@@ -143,16 +144,16 @@ turn-took [] t s at n e = took-none t s at n (λ b. e)
 turn-took (l ∷ ls) t s at n e =
     let f = first-line s l ls e in
     go (turn-took ls (keyed t l lent .tables) (drop (length l + 1) s) (at + length l + 1) (n - length (bytesFor t l)) (f .others))
-    (decLt n room)
+    (decLt n pageRoom)
   where
     go : Took (keyed t l lent .tables) (drop (length l + 1) s) (at + length l + 1) (n - length (bytesFor t l))
         (turn (keyed t l lent .tables) ls (at + length l + 1) (n - length (bytesFor t l)))
-        → Dec (n < room) → Took t s at n (turn t (l ∷ ls) at n)
+        → Dec (n < pageRoom) → Took t s at n (turn t (l ∷ ls) at n)
     go h (yes small) = rw (turn-full t (l ∷ ls) at n small) (took-none t s at n (λ b. absurd (omega arith)))
     go h (no big) = rw (turn-next t l ls at n (omega arith)) (took-line t s at n l ls _ _ (first-line s l ls e) h)
 
 -- a turn that prints nothing
-pub turn-ends : (t : Tables) (s : List ℕ) (at n : ℕ) → room ≤ n → length (turn t (ended (parts 10 s)) at n .bytes) ≡ 0
+pub turn-ends : (t : Tables) (s : List ℕ) (at n : ℕ) → pageRoom ≤ n → length (turn t (ended (parts 10 s)) at n .bytes) ≡ 0
     → ended (parts 10 s) ≡ []
 turn-ends t s at n big e =
     let h = turn-took (ended (parts 10 s)) t s at n refl in
@@ -210,7 +211,7 @@ ended-few (x ∷ xs) = go (eqb x 10) (ended-few xs)
     go true ih = omega (arith, ap length (ended-next [] xs))
     go false ih = omega (arith, first (parts 10 xs))
 
-turns-all : (k : ℕ) (t : Tables) (block : List ℕ) (at n : ℕ) → room ≤ n → length (ended (parts 10 (drop at block))) ≤ k
+turns-all : (k : ℕ) (t : Tables) (block : List ℕ) (at n : ℕ) → pageRoom ≤ n → length (ended (parts 10 (drop at block))) ≤ k
     → All t block at (turns k t block at n)
 unfolding turns took-none
 turns-all zero t block at n big few =
@@ -247,7 +248,7 @@ turns-all (suc k) t block at n big few =
               printed-one t (h .lines) (λ q. eqb-false (length (x .bytes)) 0 e (ap length (h .bytes) ∙ q)),
             )
 
-pub all-turns : (k : ℕ) (t : Tables) (block : List ℕ) (at n : ℕ) → room ≤ n → length block ≤ k → All t block at (turns k t block at n)
+pub all-turns : (k : ℕ) (t : Tables) (block : List ℕ) (at n : ℕ) → pageRoom ≤ n → length block ≤ k → All t block at (turns k t block at n)
 all-turns k t block at n big few = turns-all k t block at n big (omega (arith, ended-few (drop at block), length-drop at block))
 
 -- what a turn printed fits what was lent
@@ -331,7 +332,7 @@ module _ (t : Tables) (block : List ℕ) (from : ℕ) (out : List ℕ) (y : Turn
         printed-one t (took .lines) (λ q. some (used-is ∙ ap length (took .bytes) ∙ q)),
       )
 
-  pub turn-last : room ≤ length out → y .used ≡ 0 → ended (parts 10 (drop (y .place) block)) ≡ []
+  pub turn-last : pageRoom ≤ length out → y .used ≡ 0 → ended (parts 10 (drop (y .place) block)) ≡ []
   turn-last big none =
       let e = turn-ends t (drop from block) from (length out) big (sym used-is ∙ none) in
       no-lines-left (ended (parts 10 (drop (y .place) block)))

@@ -11,6 +11,7 @@ use lib.Seq.{slice, take-at, drop-at, drop-drop, length-slice}
 use borrow.Author.Tests.{le-leb, lt-leb}
 use borrow.Rule.Slice.PartAt.{part-to-end}
 use borrow.Rule.Slice.PartMut.{putMid, post-is}
+use Rattle.limits.specs.Limits.{pageRoom}
 use Rattle.text.specs.Text.{parts}
 use Rattle.rules.specs.Answers as answers
 use Rattle.tables.specs.declared.Tables.{Tables}
@@ -19,7 +20,7 @@ use Rattle.tables.specs.Calls.{told}
 use Rattle.rules.specs.Engine.{beside, front}
 use Rattle.page.specs.Paging.{Written}
 use Rattle.console.specs.Console.{keyed}
-use Rattle.console.specs.Sheet.{bytesFor, room, lent, printedBytes, lineShown}
+use Rattle.console.specs.Sheet.{bytesFor, lent, printedBytes, lineShown}
 use Rattle.console.proofs.OneLine.{shown-long, printed-fits}
 use Rattle.console.proofs.LineEnds.{LineEnd, line-within, line-taken}
 use Rattle.blocks.specs.Blocks.{ended, Turn, turn, turned}
@@ -32,15 +33,15 @@ behind bytes x = record { tables = x .tables; place = x .place; bytes = bytes ++
 abbrev pub over : Tables → ℕ → Turn
 over t at = record { tables = t; place = at; bytes = [] }
 
-pub turn-next : (t : Tables) (l : List ℕ) (ls : List (List ℕ)) (at n : ℕ) → room ≤ n
+pub turn-next : (t : Tables) (l : List ℕ) (ls : List (List ℕ)) (at n : ℕ) → pageRoom ≤ n
     → turn t (l ∷ ls) at n ≡ behind (bytesFor t l) (turn (keyed t l lent .tables) ls (at + length l + 1) (n - length (bytesFor t l)))
 unfolding turn
-turn-next t l ls at n h = rw (le-leb room n h, turn)
+turn-next t l ls at n h = rw (le-leb pageRoom n h, turn)
 
-pub turn-full : (t : Tables) (ls : List (List ℕ)) (at n : ℕ) → n < room → turn t ls at n ≡ over t at
+pub turn-full : (t : Tables) (ls : List (List ℕ)) (at n : ℕ) → n < pageRoom → turn t ls at n ≡ over t at
 unfolding turn
 turn-full t [] at n h = refl
-turn-full t (l ∷ ls) at n h = rw (lt-leb room n h, turn)
+turn-full t (l ∷ ls) at n h = rw (lt-leb pageRoom n h, turn)
 
 pub turn-none : (t : Tables) (ls : List (List ℕ)) (at n : ℕ) → ls ≡ [] → turn t ls at n ≡ over t at
 unfolding turn
@@ -100,7 +101,7 @@ module _ {t₀ t : Tables} {block out₀ out : List ℕ} {at from used : ℕ} (g
       ∙ omega (arith, length-append (g .bytes) (drop (length (g .bytes)) out₀), length-drop (length (g .bytes)) out₀, g .fits, g .many)
 
   -- a line is printed for, into the part of the buffer that is left, which then comes back
-  module _ (e : ℕ) (E : LineEnd block from e) (ends : e < length block) (big : room ≤ length out₀ - used) (r : Outcome) (after : List ℕ)
+  module _ (e : ℕ) (E : LineEnd block from e) (ends : e < length block) (big : pageRoom ≤ length out₀ - used) (r : Outcome) (after : List ℕ)
       (same : length after ≡ length out - used)
       (says : beside after (told r) ≡ lineShown t (take (e - from) (drop from block)) (take (length out - used) (drop used out)))
       (n : ℕ) (counts : n ≡ printedBytes (answers.number (r .answer)) (answers.values (r .answer))) where

@@ -9,8 +9,8 @@ use mathlib.Core.Path.{_≡_, sym, ap, _∙_}
 use mathlib.Core.List.{List, []}
 use lib.ListN.{length, take, drop, drop-of-length-le}
 use lib.Seq.{take-append-seam, length-take-le}
+use Rattle.limits.specs.Limits.{pageRoom}
 use Rattle.tables.specs.declared.Tables.{Tables}
-use Rattle.console.specs.Sheet.{room}
 use Rattle.blocks.specs.Blocks.{Turn, turns, most, Carried, carried, OneBlock}
 use Rattle.blocks.proofs.AllTurns.{all-turns}
 use Rattle.blocks.proofs.Copying.{carried-part, carried-turned}
@@ -30,7 +30,7 @@ carried-holds block p end h = go (decLe p end)
         let e : drop p (take end block) ≡ [] = drop-of-length-le (take end block) {i = p} (omega (arith, l, length-take-le end block h)) in
         ap (λ (c : Carried). take (c .held) (c .block)) (sym (carried-turned block p end (omega (arith, l)))) ∙ sym (ap (take most) e)
 
-pub one-block : (t : Tables) (block : List ℕ) (end n : ℕ) → room ≤ n → end ≤ length block
+pub one-block : (t : Tables) (block : List ℕ) (end n : ℕ) → pageRoom ≤ n → end ≤ length block
     → (x : Turn) → x ≡ turns (length (take end block)) t (take end block) 0 n → OneBlock t (take end block) x (carried block (x .place) end)
 one-block t block end n big h x e = rw e
     (let a = all-turns (length (take end block)) t (take end block) 0 n big (omega arith) in

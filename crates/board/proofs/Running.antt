@@ -9,6 +9,7 @@ use mathlib.Core.List.{List, [], _∷_}
 use mathlib.Core.Logic.{_⊎_, inl, inr}
 use lib.ListN.{length, take, drop}
 use lib.Seq.{slice, take-at}
+use Rattle.limits.specs.Limits.{pageRoom}
 use Rattle.text.specs.Inner.{Wrote}
 use Rattle.text.proofs.Laws.{Left, left-start, left-step, left-end, wrote-front}
 use Rattle.page.proofs.Writing.{left-as, wrote-as}
@@ -21,7 +22,7 @@ use Rattle.tables.specs.Tables.{lay, smallest}
 use Rattle.tables.specs.Calls.{Result, told, made}
 use Rattle.rules.specs.Engine.{beside, front, madeBy}
 use Rattle.page.specs.Paging.{Written}
-use Rattle.console.specs.Sheet.{bytesFor, room, lineShown, printedBytes, linesOf, printed, sheet}
+use Rattle.console.specs.Sheet.{bytesFor, lineShown, printedBytes, linesOf, printed, sheet}
 use Rattle.console.proofs.LineEnds.{LineEnd}
 use Rattle.console.proofs.OneLine.{shown-long, printed-fits}
 use Rattle.board.specs.Board.{figures, figuresLength, answering, longest, filled, ran}
@@ -46,7 +47,7 @@ pub record Shows (t : Tables) (l : List ℕ) (n : ℕ) (t′ : Tables) (space : 
   pub begins : take n space ≡ bytesFor t l
   pub within : n ≤ length space
 
-module _ (t : Tables) (l space : List ℕ) (big : room ≤ length space) where
+module _ (t : Tables) (l space : List ℕ) (big : pageRoom ≤ length space) where
   pub line-printed : (r : Outcome) (n : ℕ) (space′ : List ℕ) → beside space′ (told r) ≡ lineShown t l space
       → n ≡ printedBytes (answers.number (r .answer)) (answers.values (r .answer)) → length space′ ≡ length space
       → Shows t l n (r .tables) space′
@@ -69,7 +70,7 @@ rest full t ls n = cond full [] (filled t ls n)
 -- the next line begins at `from`, on tables t; `used` bytes are put, and `needed` are counted
 pub record Run (s out₀ out : List ℕ) (t : Tables) (from used needed : ℕ) (full : Bool) : Type 0 where
   pub counted : needed + length (printed t (linesOf (drop from s))) ≡ length (sheet s)
-  pub small : needed ≤ room * from
+  pub small : needed ≤ pageRoom * from
   pub fits : used ≤ length out₀
   pub left : Left out₀ 0 (filled smallest (linesOf s) (length out₀)) out used (rest full t (linesOf (drop from s)) (length out₀ - used))
 
@@ -96,7 +97,7 @@ pub record Turn (s out₀ out : List ℕ) (t : Tables) (from used needed : ℕ) 
   pub more : from < length s
   pub ends : LineEnd s from e
   pub shows : Shows t (slice from e s) n t′ space
-  pub long : length space ≡ room
+  pub long : length space ≡ pageRoom
 
 module _ {s out₀ out : List ℕ} {t : Tables} {from used needed : ℕ} {full : Bool} {e n : ℕ} {t′ : Tables} {space : List ℕ}
     (T : Turn s out₀ out t from used needed full e n t′ space) where
@@ -120,7 +121,7 @@ module _ {s out₀ out : List ℕ} {t : Tables} {from used needed : ℕ} {full :
         ap (λ (x : Tables). length (printed x behind)) (T .shows .tables),
       )
 
-  pub needed-small : needed + n ≤ room * (e + 1)
+  pub needed-small : needed + n ≤ pageRoom * (e + 1)
   needed-small = let h = T .more in omega (arith, T .run .small, T .shows .within, T .long, T .ends .line (omega arith) .low)
 
   -- what was left

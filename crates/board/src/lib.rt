@@ -15,8 +15,12 @@ mod telling;
 
 ghost use mathlib.Core.Path.{_≡_};
 ghost use Rattle.board.specs.Board.{ran, boarded, soundly};
+use limits::PAGE_ROOM;
 use rules::Answer;
 use tables::Tables;
+
+// The bytes of a text, at most.
+const LONGEST_TEXT: usize = 281474976710656;
 
 // Runs a whole console text from the smallest tables, as `sheet` does; a line's output is put where it and all before it fit.
 // 0, and as values how many bytes the output has in all and how many were put; or 3, and `out` as it was, where the text has
@@ -26,15 +30,15 @@ pub extern "C" fn board_run(text: &[u8], out: &mut [u8], answer: &mut [u8]) -> u
     ensures { λ r. ⌜ record { number = r; buffer = now (out .exit); answer = now (answer .exit) }
         ≡ ran (now (text .entry)) (now (out .entry)) (now (answer .entry)) ⌝ }
 {
-    if 281474976710656 < text.len() {
+    if LONGEST_TEXT < text.len() {
         return telling::tell(answer, Answer::NotAllowed);
     }
-    if answer.len() < 48 {
+    if answer.len() < telling::FIGURES_LENGTH {
         return 12;
     }
     let first = Tables::fresh(1, 0, 0);
     let mut tables = first.tables;
-    let mut space = [0u8; 8192];
+    let mut space = [0u8; PAGE_ROOM];
     let mut from: usize = 0;
     let mut used: usize = 0;
     let mut needed: u64 = 0;
@@ -89,7 +93,7 @@ pub extern "C" fn board_ask(
         return telling::tell(answer, Answer::NotSound);
     }
     let t = pack::tables_at(tables);
-    if answer.len() < 48 {
+    if answer.len() < telling::FIGURES_LENGTH {
         if t.is_sound() {
             return 12;
         }

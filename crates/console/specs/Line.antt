@@ -7,6 +7,7 @@ use mathlib.Core.Bool.{true, false}
 use mathlib.Core.List.{List, [], _∷_}
 use mathlib.Core.Option.{none, some}
 use lib.ListN.{length}
+use Rattle.limits.specs.Limits.{longestLine}
 use Rattle.lists.specs.Lists.{upTo, alike}
 use Rattle.text.specs.Text.{text, numberOf, parts}
 use Rattle.records.specs.Names.{nameOf}
@@ -103,4 +104,4 @@ forms =
 -- a line of bytes
 unfoldable pub lineOf : List ℕ → Line
 unfolding forms
-lineOf s = elim (upTo 1 72 (length s)) [ true ↦ word forms unknown (parts 44 s) | false ↦ bad ]
+lineOf s = elim (upTo 1 longestLine (length s)) [ true ↦ word forms unknown (parts 44 s) | false ↦ bad ]

@@ -7,6 +7,7 @@ use mathlib.Core.Bool.{true, not}
 use mathlib.Core.List.{List, [], _∷_, map}
 use lib.ListN.{getD}
 use lib.Dec.{eqb}
+use Rattle.limits.specs.Limits.{scheduled, states}
 use Rattle.lists.specs.Lists.{from, every}
 use Rattle.records.specs.declared.Program.{Program}
 use Rattle.records.specs.Records.{Known}
@@ -57,16 +58,16 @@ toldOf w = record { number = w .number; values = w .values; tables = tt; buffer 
 -- a call of the running program on tables t: refused with 2 where the replay has no program scheduled; else it acts for
 -- the program that the replay has first
 pub data ActsFor (t : Tables) (n : State entries) (c : Call) : Type 0 where
-  for-none : ((p : ℕ) → Known p → stateOf (n .book) p ≢ 1) → asked t (running c) ≡ record { number = 2; values = 0 ∷ []; tables = t }
-      → ActsFor t n c
-  for-first : (p : ℕ) → First (n .book) (n .kept .entry) 1 p → asked t (running c) ≡ planned t (call (view lists (plain t)) p c)
+  for-none : ((p : ℕ) → Known p → stateOf (n .book) p ≢ scheduled)
+      → asked t (running c) ≡ record { number = 2; values = 0 ∷ []; tables = t } → ActsFor t n c
+  for-first : (p : ℕ) → First (n .book) (n .kept .entry) scheduled p → asked t (running c) ≡ planned t (call (view lists (plain t)) p c)
       → ActsFor t n c
 
 -- tables t, and the replay n of the history that led to them
 pub record Agrees (t : Tables) (n : State entries) : Type 0 where
   pub book : plain t .book ≡ n .book  -- each program's state and priority, and the rest of the book
   -- exactly the programs in that state, once each, in order
-  pub chains : (s : ℕ) → 1 ≤ s → s < 7 → Fits (n .book) (n .kept .entry) s (getD (plain t .kept) s [])
+  pub chains : (s : ℕ) → 1 ≤ s → s < states → Fits (n .book) (n .kept .entry) s (getD (plain t .kept) s [])
   pub acts : (c : Call) → ActsFor t n c
 
 -- a run of calls from tables t, and its replay from notes n

@@ -11,9 +11,9 @@ use borrow.Author.Tests.{not-true, not-false}
 use lib.ListN.{length, take, drop, length-replicate}
 use lib.Seq.{slice, length-take-le}
 use borrow.Author.Needs.{needs}
+use Rattle.limits.specs.Limits.{pageRoom}
 use Rattle.lists.proofs.Tests.{clash}
 use Rattle.tables.specs.declared.Tables.{Tables}
-use Rattle.console.specs.Sheet.{room}
 use Rattle.console.proofs.LineEnds.{LineEnd, line-end, line-taken}
 use Rattle.board.proofs.Answered.{answering-not}
 use Rattle.board.proofs.Whole.{ran-over, ran-short}
@@ -24,7 +24,7 @@ use Rattle.board.proofs.board_run.Tie as tie
 
 abbrev Inv-loop : tie.InvT-loop
 Inv-loop text out₀ answer tables₀ space₀ from₀ used₀ needed₀ is-full₀ out tables space from used needed is-full =
-    Run text out₀ out tables from used needed is-full × (length space ≡ room)
+    Run text out₀ out tables from used needed is-full × (length space ≡ pageRoom)
 
 abbrev μ-loop : tie.MeasureT-loop
 μ-loop text out₀ answer tables₀ space₀ from₀ used₀ needed₀ is-full₀ out tables space from used needed is-full = length text - from
@@ -50,7 +50,7 @@ loop-holds c =
     let f = c .before in
     let a = f .before .before .before .before .before .before .args in (
       run-start (a .text .now) (a .out .now) (f .fresh .result .tables) (made-smallest (f .fresh .result) (f .fresh .ensures)),
-      length-replicate {A = ℕ} 8192 0,
+      length-replicate {A = ℕ} pageRoom 0,
     )
 
 -- back from where a line's end was found to where its turn began, and to the start
@@ -101,7 +101,7 @@ After c = c .before .before .before .print-line .result .tables
 abbrev Space : tie.After-bytes-printed Inv-loop μ-loop → List ℕ
 Space c = c .before .before .before .print-line .last .1 .1 .0
 
-space-same : (c : tie.After-bytes-printed Inv-loop μ-loop) → length (Space c) ≡ room
+space-same : (c : tie.After-bytes-printed Inv-loop μ-loop) → length (Space c) ≡ pageRoom
 space-same c = omega (arith, Begun c .loop .inv .1)
 
 shows : (c : tie.After-bytes-printed Inv-loop μ-loop)

@@ -40,7 +40,8 @@ approved c = sym (c .before .is-sound .ensures) ∙ not-false (c .before .is-sou
 fits : (c : tie.After-space) → CanPage (c .before .before .before .before .args .tables) (replicate {A = ℕ} pageRoom 0)
 fits c =
     let s = c .before .before .before .before in
-    can-page (s .args .tables) (replicate {A = ℕ} pageRoom 0) (arrays s) (approved (c .before)) (omega (arith, length-replicate {A = ℕ} pageRoom 0))
+    can-page (s .args .tables) (replicate {A = ℕ} pageRoom 0) (arrays s) (approved (c .before))
+    (omega (arith, length-replicate {A = ℕ} pageRoom 0))
 
 within : (c : tie.After-put-page) → c .put-page .result ≤ length (c .put-page .last .0)
 within c = omega (arith, c .put-page .ensures .place, wrote-length (c .put-page .ensures), fits (c .before) .room)

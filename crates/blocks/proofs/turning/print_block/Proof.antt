@@ -6,7 +6,8 @@ use native.Mathlib.Omega.{arith}
 use mathlib.Core.Path.{_≡_, sym, subst}
 use lib.ListN.{length}
 use borrow.Author.Needs.{needs}
-use Rattle.console.specs.Sheet.{room, lineEnd}
+use Rattle.limits.specs.Limits.{pageRoom}
+use Rattle.console.specs.Sheet.{lineEnd}
 use Rattle.console.proofs.LineEnds.{LineEnd, line-end, line-within}
 use Rattle.blocks.proofs.Going.{Going, going-start, going-over, going-length, going-fits, going-line, turn-full, turn-none, no-lines}
 use Rattle.blocks.proofs.turning.print_block.Statement.{statement}
@@ -27,7 +28,7 @@ ends c = subst (LineEnd (S c .args .block .now) (c .loop .from)) (sym (c .loop .
 low : (c : tie.In-loop Inv-loop μ-loop) → c .before .loop .from ≤ c .before .loop .end
 low c = ends (c .before) .line (line-within (ends (c .before)) (c .loop-test .taken)) .low
 
-room-left : (c : tie.Else1 Inv-loop μ-loop) → room ≤ length (S (c .before .before) .args .out .now) - c .before .before .loop .used
+room-left : (c : tie.Else1 Inv-loop μ-loop) → pageRoom ≤ length (S (c .before .before) .args .out .now) - c .before .before .loop .used
 room-left c = omega (arith, going-length (c .before .before .loop .inv .1))
 
 small : (c : tie.After-slice-known Inv-loop μ-loop) → length (c .before .before .args .out .now) < 18446744073709551616

@@ -7,6 +7,7 @@ use mathlib.Core.List.{List}
 use mathlib.Core.Logic.{inl, inr}
 use lib.ListN.{length, length-map}
 use borrow.Author.Needs.{needs}
+use Rattle.limits.specs.Limits.{pageRoom}
 use Rattle.records.proofs.Program as program
 use Rattle.records.proofs.Resource as resource
 use Rattle.rules.specs.declared.Answer.the-variants.{Done}
@@ -20,7 +21,6 @@ use Rattle.rules.specs.Engine.{beside}
 use Rattle.page.proofs.Room.{page-room}
 use Rattle.console.specs.Line.{PAGE, lineOf}
 use Rattle.console.specs.Console.{keyed}
-use Rattle.console.specs.Sheet.{room}
 use Rattle.console.specs.Inner.{obeys}
 use Rattle.console.proofs.AnswerLaws.{done-not}
 use Rattle.console.proofs.KeyLaws.{keyed-obeys, page-said, page-unsaid}
@@ -38,7 +38,7 @@ arrays s = record {
 }
 
 -- no page is longer than what is lent
-fits : (s : tie.Start) → sound (s .args .tables) ≡ true → length (page (plain (s .args .tables))) ≤ room
+fits : (s : tie.Start) → sound (s .args .tables) ≡ true → length (page (plain (s .args .tables))) ≤ pageRoom
 fits s e = let t = s .args .tables in page-room (plain t) (sound-plain t (arrays s) (sound-clauses t e))
 
 abbrev S : tie.After-obey → tie.Start
@@ -47,7 +47,7 @@ S c = c .before .before .before .before .before .before
 abbrev After : tie.After-obey → List ℕ
 After c = c .obey .last .1 .1 .0
 
-big : (c : tie.After-obey) → room ≤ length (S c .args .out .now)
+big : (c : tie.After-obey) → pageRoom ≤ length (S c .args .out .now)
 big c = c .before .before .before .if1 .left
 
 -- what the line comes to

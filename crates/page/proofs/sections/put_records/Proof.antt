@@ -13,7 +13,8 @@ use Rattle.page.proofs.sections.put_records.Statement.{statement}
 use Rattle.page.proofs.sections.put_records.Tie as tie
 
 abbrev Inv-loop : tie.InvT-loop
-Inv-loop buf₀ at programs o₀ i₀ buf o i = (i ≤ mostPrograms) × Todo buf₀ at (bytes (recordLines programs)) buf o (recordsFrom programs (i + 1))
+Inv-loop buf₀ at programs o₀ i₀ buf o i =
+    (i ≤ mostPrograms) × Todo buf₀ at (bytes (recordLines programs)) buf o (recordsFrom programs (i + 1))
 
 abbrev μ-loop : tie.MeasureT-loop
 μ-loop buf₀ at programs o₀ i₀ buf o i = mostPrograms - i
