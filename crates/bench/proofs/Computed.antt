@@ -25,5 +25,9 @@ use Rattle.bench.specs.Cases.{bench}
 
 pub computed : toldAnew bench ≡ bench
 unfolding
-    same digits decimal numberOf parts entry timeOf nameOf all find lowestUnused need either found named inside waits woken frees clears endsIn order dueAt takes gives allocated call asCaller plan act step testNames testZeros testChains testWhys testSystem testUsers testUnlocked testLimits testDues walk read testLinks linksOf testBlank sound served asked madeBy bytes usedIn recordLines chainLines heldLine heldLines numberLine numberLines lines page writtenIn pagedIn execs numbers forms lineOf keyedIn answerLine linesOf printed sheet history.step tell tellAll printAll toldAnew bench
+    same digits decimal numberOf parts entry timeOf nameOf all find lowestUnused need either found named inside waits woken frees clears
+    endsIn order dueAt takes gives allocated call asCaller plan act step testNames testZeros testChains testWhys testSystem testUsers
+    testUnlocked testLimits testDues walk read testLinks linksOf testBlank sound served asked madeBy bytes usedIn recordLines chainLines
+    heldLine heldLines numberLine numberLines lines page writtenIn pagedIn execs numbers forms lineOf keyedIn answerLine linesOf printed
+    sheet history.step tell tellAll printAll toldAnew bench
 computed = refl

@@ -1,5 +1,5 @@
--- What a case of the bench is: tables at the start, and steps with what the outline says of each. A case is told anew by computing every step through the
--- definitions that the calls' contracts cite, soundness, the plain state and its laying out included.
+-- What a case of the bench is: tables at the start, and steps with what the outline says of each. A case is told anew by computing every
+-- step through the definitions that the calls' contracts cite, soundness, the plain state and its laying out included.
 -- Assumes nothing.
 use Prim.Native.Nat.{ℕ}
 use Prim.Native.String.{String}
@@ -42,7 +42,8 @@ tell t (key s a vs ∷ ss) = let r : Written = step linked t (line (text s) []) 
 tell t (ask q a vs ∷ ss) = let r : Written = step linked t (request q) in ask q (r .number) (r .values) ∷ tell (r .tables) ss
 tell t (chain s c ∷ ss) = chain s (getD (plain t .kept) s []) ∷ tell t ss
 tell t (noted p s k d i ∷ ss) =
-    noted p (at (plain t .book) p .state) (sonOf (at (plain t .book) p .why)) (at (plain t .book) p .due) (at (plain t .book) p .interval) ∷ tell t ss
+    noted p (at (plain t .book) p .state) (sonOf (at (plain t .book) p .why)) (at (plain t .book) p .due) (at (plain t .book) p .interval)
+    ∷ tell t ss
 tell t (clock c ∷ ss) = clock (plain t .book .clock) ∷ tell t ss
 tell t (written n a vs buf ∷ ss) =
     let r : Written = step linked t (page (replicate n 0)) in

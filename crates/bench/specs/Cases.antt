@@ -1,4 +1,5 @@
--- The bench sheet and more, as one table (OUTLINE, "Bench sheet", "Errors a good programmer makes here"). Each number and value stands as the outline says it.
+-- The bench sheet and more, as one table (OUTLINE, "Bench sheet", "Errors a good programmer makes here"). Each number
+-- and value stands as the outline says it.
 -- Assumes nothing.
 use Prim.Native.Nat.{ℕ, _+_}
 use Prim.Native.String.{String}
@@ -54,7 +55,8 @@ bench2 = case (ok "FRESH,256,1,0" 0 ∷ ok "LOAD,A,10" 1 ∷ ok "RU,A" 0 ∷ tol
 
 abbrev bench3 : Case
 bench3 = case (
-    ok "FRESH,4,1,1" 0 ∷ ok "LOAD,A,10" 1 ∷ ok "LOAD,B,10" 2 ∷ ok "RU,B" 0 ∷ ok "RU,A" 0 ∷ chain 1 (2 ∷ 1 ∷ []) ∷ ok "PR,B,10" 10 ∷ chain 1 (1 ∷ 2 ∷ []) ∷ [])
+    ok "FRESH,4,1,1" 0 ∷ ok "LOAD,A,10" 1 ∷ ok "LOAD,B,10" 2 ∷ ok "RU,B" 0 ∷ ok "RU,A" 0 ∷ chain 1 (2 ∷ 1 ∷ [])
+    ∷ ok "PR,B,10" 10 ∷ chain 1 (1 ∷ 2 ∷ []) ∷ [])
 
 abbrev bench4 : Case
 bench4 = case (ok "FRESH,4,1,1" 0 ∷ ok "LOAD,A,10" 1 ∷ ok "RU,A" 0 ∷ key "EXEC,9,A" 5 (1 ∷ []) ∷ chain 1 (1 ∷ []) ∷ [])
@@ -78,7 +80,8 @@ bench8 = record {
 
 abbrev bench9 : Case
 bench9 = case (
-    ok "FRESH,4,1,1" 0 ∷ ok "LOAD,A,10" 1 ∷ ok "RU,A" 0 ∷ ok "EXEC,12,A,3,0,7" 42_000 ∷ noted 1 1 0 42_000 0 ∷ ok "EXEC,12,A,3,0,1" 6_000 ∷ noted 1 1 0 6_000 0 ∷ [])
+    ok "FRESH,4,1,1" 0 ∷ ok "LOAD,A,10" 1 ∷ ok "RU,A" 0 ∷ ok "EXEC,12,A,3,0,7" 42_000 ∷ noted 1 1 0 42_000 0 ∷ ok "EXEC,12,A,3,0,1" 6_000
+    ∷ noted 1 1 0 6_000 0 ∷ [])
 
 abbrev bench10 : Case
 bench10 = case (
@@ -87,8 +90,8 @@ bench10 = case (
 -- errors a good programmer makes: a woken program put before its equals
 abbrev behindEquals : Case
 behindEquals = case (
-    ok "FRESH,4,0,0" 0 ∷ ok "LOAD,A,10" 1 ∷ ok "LOAD,B,10" 2 ∷ ok "LOAD,C,10" 3 ∷ ok "RU,A" 0 ∷ ok "EXEC,4,4,0" 0 ∷ ok "SS,A" 0 ∷ ok "RU,B" 0
-    ∷ waits "EXEC,4,1,0" 5 ∷ ok "GO,A" 0 ∷ ok "RU,C" 0 ∷ ok "EXEC,5,ALL" 4 ∷ chain 1 (1 ∷ 3 ∷ 2 ∷ []) ∷ chain 5 [] ∷ [])
+    ok "FRESH,4,0,0" 0 ∷ ok "LOAD,A,10" 1 ∷ ok "LOAD,B,10" 2 ∷ ok "LOAD,C,10" 3 ∷ ok "RU,A" 0 ∷ ok "EXEC,4,4,0" 0 ∷ ok "SS,A" 0
+    ∷ ok "RU,B" 0 ∷ waits "EXEC,4,1,0" 5 ∷ ok "GO,A" 0 ∷ ok "RU,C" 0 ∷ ok "EXEC,5,ALL" 4 ∷ chain 1 (1 ∷ 3 ∷ 2 ∷ []) ∷ chain 5 [] ∷ [])
 
 -- a run found by adding up free tracks that do not touch
 abbrev gap : Case
@@ -99,21 +102,22 @@ gap = case (
 -- a timer of a waiting program left at its old due; a timer that fires once goes
 abbrev movedOn : Case
 movedOn = case (
-    ok "FRESH,2,2,0" 0 ∷ ok "LOAD,A,1" 1 ∷ ok "LOAD,B,5" 2 ∷ ok "RU,A" 0 ∷ ok "EXEC,12,A,1,3,1" 1 ∷ ok "EXEC,12,B,1,0,2" 2 ∷ waits "EXEC,4,1,0" 5
-    ∷ ok "TICK" 0 ∷ noted 1 5 0 4 3 ∷ ok "TICK" 1 ∷ noted 2 1 0 0 0 ∷ ok "TICK" 0 ∷ ok "TICK" 0 ∷ noted 1 5 0 7 3 ∷ [])
+    ok "FRESH,2,2,0" 0 ∷ ok "LOAD,A,1" 1 ∷ ok "LOAD,B,5" 2 ∷ ok "RU,A" 0 ∷ ok "EXEC,12,A,1,3,1" 1 ∷ ok "EXEC,12,B,1,0,2" 2
+    ∷ waits "EXEC,4,1,0" 5 ∷ ok "TICK" 0 ∷ noted 1 5 0 4 3 ∷ ok "TICK" 1 ∷ noted 2 1 0 0 0 ∷ ok "TICK" 0 ∷ ok "TICK" 0
+    ∷ noted 1 5 0 7 3 ∷ [])
 
 -- a removed program's number left in a waiter's why, then met by the next program loaded there
 abbrev removedSon : Case
 removedSon = case (
-    ok "FRESH,1,0,0" 0 ∷ ok "LOAD,A,10" 1 ∷ ok "LOAD,B,10" 2 ∷ ok "RU,A" 0 ∷ waits "EXEC,9,B" 3 ∷ ok "OF,B,8" 0 ∷ noted 1 1 0 0 0 ∷ ok "LOAD,C,10" 2
-    ∷ ok "RU,C" 0 ∷ chain 1 (1 ∷ 2 ∷ []) ∷ ok "OF,C,1" 0 ∷ chain 1 (1 ∷ []) ∷ [])
+    ok "FRESH,1,0,0" 0 ∷ ok "LOAD,A,10" 1 ∷ ok "LOAD,B,10" 2 ∷ ok "RU,A" 0 ∷ waits "EXEC,9,B" 3 ∷ ok "OF,B,8" 0 ∷ noted 1 1 0 0 0
+    ∷ ok "LOAD,C,10" 2 ∷ ok "RU,C" 0 ∷ chain 1 (1 ∷ 2 ∷ []) ∷ ok "OF,C,1" 0 ∷ chain 1 (1 ∷ []) ∷ [])
 
 -- chain 3 is walked while it changes: all three wake, in chain order
 abbrev allWake : Case
 allWake = case (
-    ok "FRESH,1,0,2" 0 ∷ ok "LOAD,H,10" 1 ∷ ok "LOAD,B,10" 2 ∷ ok "LOAD,C,10" 3 ∷ ok "LOAD,D,10" 4 ∷ ok "RU,H" 0 ∷ ok "RN,ALLOC,G,0" 1 ∷ ok "RN,LOCK,1,0" 1
-    ∷ ok "SS,H" 0 ∷ ok "RU,B" 0 ∷ waits "RN,LOCK,1,0" 3 ∷ ok "RU,C" 0 ∷ waits "RN,LOCK,1,0" 3 ∷ ok "RU,D" 0 ∷ waits "RN,LOCK,1,0" 3
-    ∷ chain 3 (2 ∷ 3 ∷ 4 ∷ []) ∷ ok "GO,H" 0 ∷ ok "RN,CLEAR,1" 3 ∷ chain 1 (1 ∷ 2 ∷ 3 ∷ 4 ∷ []) ∷ chain 3 [] ∷ [])
+    ok "FRESH,1,0,2" 0 ∷ ok "LOAD,H,10" 1 ∷ ok "LOAD,B,10" 2 ∷ ok "LOAD,C,10" 3 ∷ ok "LOAD,D,10" 4 ∷ ok "RU,H" 0 ∷ ok "RN,ALLOC,G,0" 1
+    ∷ ok "RN,LOCK,1,0" 1 ∷ ok "SS,H" 0 ∷ ok "RU,B" 0 ∷ waits "RN,LOCK,1,0" 3 ∷ ok "RU,C" 0 ∷ waits "RN,LOCK,1,0" 3 ∷ ok "RU,D" 0
+    ∷ waits "RN,LOCK,1,0" 3 ∷ chain 3 (2 ∷ 3 ∷ 4 ∷ []) ∷ ok "GO,H" 0 ∷ ok "RN,CLEAR,1" 3 ∷ chain 1 (1 ∷ 2 ∷ 3 ∷ 4 ∷ []) ∷ chain 3 [] ∷ [])
 
 -- one walk of chain 3, not one for sons, one for locks and one for numbers
 abbrev oneWalk : Case
@@ -125,31 +129,33 @@ oneWalk = case (
 -- chain 5 wakes before chain 3
 abbrev discFirst : Case
 discFirst = case (
-    ok "FRESH,1,0,0" 0 ∷ ok "LOAD,F,10" 1 ∷ ok "LOAD,H,10" 2 ∷ ok "LOAD,W,10" 3 ∷ ok "RU,F" 0 ∷ waits "EXEC,9,H" 3 ∷ ok "EXEC,4,1,0" 0 ∷ ok "SS,H" 0
-    ∷ ok "RU,W" 0 ∷ waits "EXEC,4,1,0" 5 ∷ ok "OF,H,1" 1 ∷ chain 1 (3 ∷ 1 ∷ []) ∷ [])
+    ok "FRESH,1,0,0" 0 ∷ ok "LOAD,F,10" 1 ∷ ok "LOAD,H,10" 2 ∷ ok "LOAD,W,10" 3 ∷ ok "RU,F" 0 ∷ waits "EXEC,9,H" 3 ∷ ok "EXEC,4,1,0" 0
+    ∷ ok "SS,H" 0 ∷ ok "RU,W" 0 ∷ waits "EXEC,4,1,0" 5 ∷ ok "OF,H,1" 1 ∷ chain 1 (3 ∷ 1 ∷ []) ∷ [])
 
 -- the ended program is not woken by its own tracks
 abbrev notItself : Case
 notItself = case (
-    ok "FRESH,2,0,0" 0 ∷ ok "LOAD,A,10" 1 ∷ ok "RU,A" 0 ∷ ok "EXEC,4,1,0" 0 ∷ waits "EXEC,4,2,0" 5 ∷ ok "OF,A,1" 1 ∷ chain 1 [] ∷ chain 5 [] ∷ noted 1 0 0 0 0 ∷ [])
+    ok "FRESH,2,0,0" 0 ∷ ok "LOAD,A,10" 1 ∷ ok "RU,A" 0 ∷ ok "EXEC,4,1,0" 0 ∷ waits "EXEC,4,2,0" 5 ∷ ok "OF,A,1" 1 ∷ chain 1 [] ∷ chain 5 []
+    ∷ noted 1 0 0 0 0 ∷ [])
 
 -- another's lock on a deallocated number goes
 abbrev lockGoes : Case
 lockGoes = case (
-    ok "FRESH,1,0,1" 0 ∷ ok "LOAD,A,10" 1 ∷ ok "LOAD,B,10" 2 ∷ ok "RU,A" 0 ∷ ok "RN,ALLOC,L,0" 1 ∷ ok "SS,A" 0 ∷ ok "RU,B" 0 ∷ ok "RN,LOCK,1,0" 1
-    ∷ ok "OF,A,1" 0 ∷ told "RN,CLEAR,1" 10 ∷ ok "RN,ALLOC,L,0" 1 ∷ [])
+    ok "FRESH,1,0,1" 0 ∷ ok "LOAD,A,10" 1 ∷ ok "LOAD,B,10" 2 ∷ ok "RU,A" 0 ∷ ok "RN,ALLOC,L,0" 1 ∷ ok "SS,A" 0 ∷ ok "RU,B" 0
+    ∷ ok "RN,LOCK,1,0" 1 ∷ ok "OF,A,1" 0 ∷ told "RN,CLEAR,1" 10 ∷ ok "RN,ALLOC,L,0" 1 ∷ [])
 
 -- a lock on another's number is cleared by its holder's ending, and its waiter wakes
 abbrev lockerEnds : Case
 lockerEnds = case (
-    ok "FRESH,1,0,1" 0 ∷ ok "LOAD,A,10" 1 ∷ ok "LOAD,B,10" 2 ∷ ok "LOAD,C,10" 3 ∷ ok "RU,A" 0 ∷ ok "RN,ALLOC,L,0" 1 ∷ ok "SS,A" 0 ∷ ok "RU,B" 0
-    ∷ ok "RN,LOCK,1,0" 1 ∷ ok "SS,B" 0 ∷ ok "RU,C" 0 ∷ waits "RN,LOCK,1,0" 3 ∷ ok "OF,B,1" 0 ∷ chain 1 (3 ∷ []) ∷ [])
+    ok "FRESH,1,0,1" 0 ∷ ok "LOAD,A,10" 1 ∷ ok "LOAD,B,10" 2 ∷ ok "LOAD,C,10" 3 ∷ ok "RU,A" 0 ∷ ok "RN,ALLOC,L,0" 1 ∷ ok "SS,A" 0
+    ∷ ok "RU,B" 0 ∷ ok "RN,LOCK,1,0" 1 ∷ ok "SS,B" 0 ∷ ok "RU,C" 0 ∷ waits "RN,LOCK,1,0" 3 ∷ ok "OF,B,1" 0 ∷ chain 1 (3 ∷ []) ∷ [])
 
 -- who waits for any number does not wake where a number is only cleared
 abbrev onlyCleared : Case
 onlyCleared = case (
-    ok "FRESH,1,0,1" 0 ∷ ok "LOAD,A,10" 1 ∷ ok "LOAD,B,10" 2 ∷ ok "RU,A" 0 ∷ ok "RN,ALLOC,G,0" 1 ∷ ok "RN,LOCK,1,0" 1 ∷ ok "SS,A" 0 ∷ ok "RU,B" 0
-    ∷ waits "RN,ALLOC,L,0" 3 ∷ ok "GO,A" 0 ∷ ok "RN,CLEAR,1" 0 ∷ chain 3 (2 ∷ []) ∷ ok "RN,LOCK,1,0" 1 ∷ ok "OF,A,1" 0 ∷ chain 3 (2 ∷ []) ∷ [])
+    ok "FRESH,1,0,1" 0 ∷ ok "LOAD,A,10" 1 ∷ ok "LOAD,B,10" 2 ∷ ok "RU,A" 0 ∷ ok "RN,ALLOC,G,0" 1 ∷ ok "RN,LOCK,1,0" 1 ∷ ok "SS,A" 0
+    ∷ ok "RU,B" 0 ∷ waits "RN,ALLOC,L,0" 3 ∷ ok "GO,A" 0 ∷ ok "RN,CLEAR,1" 0 ∷ chain 3 (2 ∷ []) ∷ ok "RN,LOCK,1,0" 1 ∷ ok "OF,A,1" 0
+    ∷ chain 3 (2 ∷ []) ∷ [])
 
 -- EXEC 6 keeps tracks and timer; OF of the dormant program frees them
 abbrev kept : Case
@@ -161,28 +167,31 @@ kept = case (
 abbrev pricedAnew : Case
 pricedAnew = case (
     ok "FRESH,1,1,0" 0 ∷ ok "LOAD,A,10" 1 ∷ ok "LOAD,B,10" 2 ∷ ok "RU,A" 0 ∷ waits "EXEC,4,1,0" 5 ∷ ok "RU,B" 0 ∷ waits "EXEC,4,1,0" 5
-    ∷ chain 5 (1 ∷ 2 ∷ []) ∷ ok "PR,A,10" 10 ∷ chain 5 (2 ∷ 1 ∷ []) ∷ ok "LOAD,C,10" 3 ∷ ok "LOAD,D,10" 4 ∷ ok "RU,C" 0 ∷ ok "SS,C" 0 ∷ ok "RU,D" 0
-    ∷ ok "SS,D" 0 ∷ chain 6 (3 ∷ 4 ∷ []) ∷ ok "PR,C,10" 10 ∷ chain 6 (4 ∷ 3 ∷ []) ∷ [])
+    ∷ chain 5 (1 ∷ 2 ∷ []) ∷ ok "PR,A,10" 10 ∷ chain 5 (2 ∷ 1 ∷ []) ∷ ok "LOAD,C,10" 3 ∷ ok "LOAD,D,10" 4 ∷ ok "RU,C" 0 ∷ ok "SS,C" 0
+    ∷ ok "RU,D" 0 ∷ ok "SS,D" 0 ∷ chain 6 (3 ∷ 4 ∷ []) ∷ ok "PR,C,10" 10 ∷ chain 6 (4 ∷ 3 ∷ []) ∷ [])
 
 -- timers due at one tick: by program number
 abbrev byNumber : Case
 byNumber = case (
-    ok "FRESH,1,0,0" 0 ∷ ok "LOAD,A,10" 1 ∷ ok "LOAD,B,10" 2 ∷ ok "LOAD,C,5" 3 ∷ ok "RU,C" 0 ∷ ok "EXEC,12,B,1,0,2" 2 ∷ ok "EXEC,12,A,1,0,2" 2
-    ∷ ok "TICK" 0 ∷ ok "TICK" 2 ∷ chain 1 (3 ∷ 1 ∷ 2 ∷ []) ∷ [])
+    ok "FRESH,1,0,0" 0 ∷ ok "LOAD,A,10" 1 ∷ ok "LOAD,B,10" 2 ∷ ok "LOAD,C,5" 3 ∷ ok "RU,C" 0 ∷ ok "EXEC,12,B,1,0,2" 2
+    ∷ ok "EXEC,12,A,1,0,2" 2 ∷ ok "TICK" 0 ∷ ok "TICK" 2 ∷ chain 1 (3 ∷ 1 ∷ 2 ∷ []) ∷ [])
 
 -- numbers of ten digits are taken whole; eleven are not understood; sums of large parameters do not wrap
 abbrev largeNumbers : Case
 largeNumbers = case (
-    ok "LOAD,A,10" 1 ∷ ok "RU,A" 0 ∷ told "OF,A,4294967297" 3 ∷ told "EXEC,4294967300" 13 ∷ told "EXEC,4,9999999999,0" 3 ∷ told "EXEC,4,10000000000,0" 13
-    ∷ told "EXEC,4,01,0" 13 ∷ ask (running (EXEC5 18_446_744_073_709_551_615 18_446_744_073_709_551_615)) 3 (0 ∷ []) ∷ [])
+    ok "LOAD,A,10" 1 ∷ ok "RU,A" 0 ∷ told "OF,A,4294967297" 3 ∷ told "EXEC,4294967300" 13 ∷ told "EXEC,4,9999999999,0" 3
+    ∷ told "EXEC,4,10000000000,0" 13 ∷ told "EXEC,4,01,0" 13
+    ∷ ask (running (EXEC5 18_446_744_073_709_551_615 18_446_744_073_709_551_615)) 3 (0 ∷ []) ∷ [])
 
 -- tables whose links go round in a circle: 14 for any request, and the tables stay
 abbrev notSound : Case
-notSound = record { start = circular; steps = told "TICK" 14 ∷ told "FRESH,4,1,1" 14 ∷ told "no such line" 14 ∷ told "PAGE" 14 ∷ clock 0 ∷ [] }
+notSound =
+    record { start = circular; steps = told "TICK" 14 ∷ told "FRESH,4,1,1" 14 ∷ told "no such line" 14 ∷ told "PAGE" 14 ∷ clock 0 ∷ [] }
 
 -- EXEC 11 needs a caller; EXEC 7 is done with value 0
 abbrev needsCaller : Case
-needsCaller = case (told "EXEC,11" 2 ∷ told "EXEC,8" 13 ∷ told "EXEC,4,0,9" 2 ∷ ok "LOAD,A,10" 1 ∷ ok "RU,A" 0 ∷ ok "EXEC,7" 0 ∷ chain 6 (1 ∷ []) ∷ [])
+needsCaller = case
+    (told "EXEC,11" 2 ∷ told "EXEC,8" 13 ∷ told "EXEC,4,0,9" 2 ∷ ok "LOAD,A,10" 1 ∷ ok "RU,A" 0 ∷ ok "EXEC,7" 0 ∷ chain 6 (1 ∷ []) ∷ [])
 
 -- 5 gives the named program's state
 abbrev wrongState : Case
@@ -198,7 +207,8 @@ refusedFresh = case (
 
 -- a program run at equal priority is not made the caller
 abbrev notTheCaller : Case
-notTheCaller = case (ok "LOAD,A,10" 1 ∷ ok "LOAD,B,10" 2 ∷ ok "RU,A" 0 ∷ ok "RU,B" 0 ∷ ok "EXEC,7" 0 ∷ chain 1 (2 ∷ []) ∷ chain 6 (1 ∷ []) ∷ [])
+notTheCaller =
+    case (ok "LOAD,A,10" 1 ∷ ok "LOAD,B,10" 2 ∷ ok "RU,A" 0 ∷ ok "RU,B" 0 ∷ ok "EXEC,7" 0 ∷ chain 1 (2 ∷ []) ∷ chain 6 (1 ∷ []) ∷ [])
 
 -- a woken father of a better priority makes the next call
 abbrev fatherNext : Case
@@ -225,8 +235,8 @@ sheets =
 unfoldable pub bench : Bench
 bench = record {
   cases =
-      bench1 ∷ bench2 ∷ bench3 ∷ bench4 ∷ bench5 ∷ bench6 ∷ bench7 ∷ bench8 ∷ bench9 ∷ bench10 ∷ behindEquals ∷ gap ∷ movedOn ∷ removedSon ∷ allWake
-      ∷ oneWalk ∷ discFirst ∷ notItself ∷ lockGoes ∷ lockerEnds ∷ onlyCleared ∷ kept ∷ pricedAnew ∷ byNumber ∷ largeNumbers ∷ notSound ∷ needsCaller
-      ∷ wrongState ∷ refusedFresh ∷ notTheCaller ∷ fatherNext ∷ [];
+      bench1 ∷ bench2 ∷ bench3 ∷ bench4 ∷ bench5 ∷ bench6 ∷ bench7 ∷ bench8 ∷ bench9 ∷ bench10 ∷ behindEquals ∷ gap ∷ movedOn
+      ∷ removedSon ∷ allWake ∷ oneWalk ∷ discFirst ∷ notItself ∷ lockGoes ∷ lockerEnds ∷ onlyCleared ∷ kept ∷ pricedAnew ∷ byNumber
+      ∷ largeNumbers ∷ notSound ∷ needsCaller ∷ wrongState ∷ refusedFresh ∷ notTheCaller ∷ fatherNext ∷ [];
   sheets = sheets;
 }

@@ -1,5 +1,6 @@
--- Turn after turn over a block prints for every line that ends in it, in order, and comes to the place of the line that does not; and a turn with room before it that prints
--- nothing finds no line that ends. Each turn prints for some of the lines from its place on; with room before it, for one at least where there is one.
+-- Turn after turn over a block prints for every line that ends in it, in order, and comes to the place of the line that does not; and a
+-- turn with room before it that prints nothing finds no line that ends. Each turn prints for some of the lines from its place on; with room
+-- before it, for one at least where there is one.
 -- Assumes nothing.
 use Prim.Native.Nat.{ℕ, zero, suc, _+_, _-_, _≤_, _<_}
 use native.Mathlib.Decide.{decLt}
@@ -11,6 +12,7 @@ use lib.Dec.{eqb}
 use lib.ListN.{length, take, drop, length-append, length-drop}
 use lib.Seq.{slice, drop-drop, length-slice, take-length}
 use borrow.Author.Tests.{eqb-true, eqb-false}
+use Rattle.limits.specs.Limits.{pageRoom}
 use Rattle.text.specs.Text.{onFirst, parts, entry}
 use Rattle.text.specs.Inner.{PartEnd}
 use Rattle.text.proofs.Fields.{until, part-end}
@@ -21,7 +23,7 @@ use Rattle.page.specs.Page.{bytes, lines, page}
 use Rattle.page.specs.Paging.{Written}
 use Rattle.console.specs.Line.{Line, bad, PAGE, asks, lineOf}
 use Rattle.console.specs.Console.{keyed}
-use Rattle.console.specs.Sheet.{bytesFor, room, lent, answerLine, shown, printed}
+use Rattle.console.specs.Sheet.{bytesFor, lent, answerLine, shown, printed}
 use Rattle.blocks.specs.Blocks.{All, ended, unended, tablesAfter, Turn, turn, Turned, turned, turns}
 use Rattle.blocks.proofs.Cuts.{ended-next, unended-next}
 use Rattle.blocks.proofs.Arriving.{printed-append, after-append}
@@ -110,11 +112,12 @@ pub record Took (t : Tables) (s : List ℕ) (at n : ℕ) (x : Turn) : Type 0 whe
   pub rest : unended (parts 10 (drop past s)) ≡ unended (parts 10 s)
   pub bytes : x .bytes ≡ printed t lines
   pub tables : x .tables ≡ tablesAfter t lines
-  pub some : room ≤ n → lines ≡ [] → ended (parts 10 s) ≡ []
+  pub some : pageRoom ≤ n → lines ≡ [] → ended (parts 10 s) ≡ []
 
-took-none : (t : Tables) (s : List ℕ) (at n : ℕ) → (room ≤ n → ended (parts 10 s) ≡ []) → Took t s at n (over t at)
+took-none : (t : Tables) (s : List ℕ) (at n : ℕ) → (pageRoom ≤ n → ended (parts 10 s) ≡ []) → Took t s at n (over t at)
 unfolding printed tablesAfter
-took-none t s at n h = record { lines = []; past = 0; place = omega arith; split = refl; rest = refl; bytes = refl; tables = refl; some = λ b e. h b }
+took-none t s at n h =
+    record { lines = []; past = 0; place = omega arith; split = refl; rest = refl; bytes = refl; tables = refl; some = λ b e. h b }
 
 took-line : (t : Tables) (s : List ℕ) (at n : ℕ) (l : List ℕ) (ls : List (List ℕ)) (x : Turn) (n′ : ℕ) → First s l ls
     → Took (keyed t l lent .tables) (drop (length l + 1) s) (at + length l + 1) n′ x → Took t s at n (behind (bytesFor t l) x)
@@ -140,31 +143,37 @@ unfolding turn
 turn-took [] t s at n e = took-none t s at n (λ b. e)
 turn-took (l ∷ ls) t s at n e =
     let f = first-line s l ls e in
-    go (turn-took ls (keyed t l lent .tables) (drop (length l + 1) s) (at + length l + 1) (n - length (bytesFor t l)) (f .others)) (decLt n room)
+    go (turn-took ls (keyed t l lent .tables) (drop (length l + 1) s) (at + length l + 1) (n - length (bytesFor t l)) (f .others))
+    (decLt n pageRoom)
   where
-    go : Took (keyed t l lent .tables) (drop (length l + 1) s) (at + length l + 1) (n - length (bytesFor t l)) (turn (keyed t l lent .tables) ls (at + length l + 1) (n - length (bytesFor t l)))
-        → Dec (n < room) → Took t s at n (turn t (l ∷ ls) at n)
+    go : Took (keyed t l lent .tables) (drop (length l + 1) s) (at + length l + 1) (n - length (bytesFor t l))
+        (turn (keyed t l lent .tables) ls (at + length l + 1) (n - length (bytesFor t l)))
+        → Dec (n < pageRoom) → Took t s at n (turn t (l ∷ ls) at n)
     go h (yes small) = rw (turn-full t (l ∷ ls) at n small) (took-none t s at n (λ b. absurd (omega arith)))
     go h (no big) = rw (turn-next t l ls at n (omega arith)) (took-line t s at n l ls _ _ (first-line s l ls e) h)
 
 -- a turn that prints nothing
-pub turn-ends : (t : Tables) (s : List ℕ) (at n : ℕ) → room ≤ n → length (turn t (ended (parts 10 s)) at n .bytes) ≡ 0 → ended (parts 10 s) ≡ []
+pub turn-ends : (t : Tables) (s : List ℕ) (at n : ℕ) → pageRoom ≤ n → length (turn t (ended (parts 10 s)) at n .bytes) ≡ 0
+    → ended (parts 10 s) ≡ []
 turn-ends t s at n big e =
     let h = turn-took (ended (parts 10 s)) t s at n refl in
     h .some big (printed-some t (h .lines) (ap length (sym (h .bytes)) ∙ e))
 
 -- from the place that a turn comes to
-took-there : (t : Tables) (block : List ℕ) (at n : ℕ) (x : Turn) (h : Took t (drop at block) at n x) → drop (h .past) (drop at block) ≡ drop (x .place) block
+took-there : (t : Tables) (block : List ℕ) (at n : ℕ) (x : Turn) (h : Took t (drop at block) at n x)
+    → drop (h .past) (drop at block) ≡ drop (x .place) block
 took-there t block at n x h = drop-drop (h .past) at block ∙ ap (λ (k : ℕ). drop k block) (sym (h .place))
 
 took-split : (t : Tables) (block : List ℕ) (at n : ℕ) (x : Turn) (h : Took t (drop at block) at n x)
     → ended (parts 10 (drop at block)) ≡ h .lines ++ ended (parts 10 (drop (x .place) block))
 took-split t block at n x h = h .split ∙ ap (λ (r : List ℕ). h .lines ++ ended (parts 10 r)) (took-there t block at n x h)
 
-none-left : (t : Tables) (block : List ℕ) (at n : ℕ) (x : Turn) (h : Took t (drop at block) at n x) → h .lines ≡ [] → ended (parts 10 (drop at block)) ≡ [] → All t block at x
+none-left : (t : Tables) (block : List ℕ) (at n : ℕ) (x : Turn) (h : Took t (drop at block) at n x) → h .lines ≡ []
+    → ended (parts 10 (drop at block)) ≡ [] → All t block at x
 none-left t block at n x h e q =
     let r : List ℕ = drop (x .place) block in
-    let none : ended (parts 10 r) ≡ [] = ap (λ (ls : List (List ℕ)). ls ++ ended (parts 10 r)) (sym e) ∙ sym (took-split t block at n x h) ∙ q in
+    let none : ended (parts 10 r) ≡ [] =
+    ap (λ (ls : List (List ℕ)). ls ++ ended (parts 10 r)) (sym e) ∙ sym (took-split t block at n x h) ∙ q in
     record {
       bytes = h .bytes ∙ ap (printed t) (e ∙ sym q);
       tables = h .tables ∙ ap (tablesAfter t) (e ∙ sym q);
@@ -181,7 +190,8 @@ some-left t block at n x y h a =
           ap₂ (λ (xs : List ℕ) (ys : List ℕ). xs ++ ys) (h .bytes) (a .bytes ∙ ap (λ (u : Tables). printed u ls) (h .tables))
           ∙ sym (printed-append t (h .lines) ls)
           ∙ ap (printed t) split;
-      tables = a .tables ∙ ap (λ (u : Tables). tablesAfter u ls) (h .tables) ∙ sym (after-append t (h .lines) ls) ∙ ap (tablesAfter t) split;
+      tables = a .tables ∙ ap (λ (u : Tables). tablesAfter u ls) (h .tables) ∙ sym (after-append t (h .lines) ls)
+          ∙ ap (tablesAfter t) split;
       rest = a .rest ∙ ap (λ (s : List ℕ). unended (parts 10 s)) (sym (took-there t block at n x h)) ∙ h .rest;
     }
 
@@ -196,18 +206,24 @@ ended-few (x ∷ xs) = go (eqb x 10) (ended-few xs)
     first (f ∷ []) = refl
     first (f ∷ g ∷ gs) = refl
 
-    go : (b : Bool) → length (ended (parts 10 xs)) ≤ length xs → length (ended (cond b ([] ∷ parts 10 xs) (onFirst x (parts 10 xs)))) ≤ suc (length xs)
+    go : (b : Bool) → length (ended (parts 10 xs)) ≤ length xs
+        → length (ended (cond b ([] ∷ parts 10 xs) (onFirst x (parts 10 xs)))) ≤ suc (length xs)
     go true ih = omega (arith, ap length (ended-next [] xs))
     go false ih = omega (arith, first (parts 10 xs))
 
-turns-all : (k : ℕ) (t : Tables) (block : List ℕ) (at n : ℕ) → room ≤ n → length (ended (parts 10 (drop at block))) ≤ k → All t block at (turns k t block at n)
+turns-all : (k : ℕ) (t : Tables) (block : List ℕ) (at n : ℕ) → pageRoom ≤ n → length (ended (parts 10 (drop at block))) ≤ k
+    → All t block at (turns k t block at n)
 unfolding turns took-none
-turns-all zero t block at n big few = let e = no-lines-left (ended (parts 10 (drop at block))) (omega arith) in none-left t block at n (over t at) (took-none t (drop at block) at n (λ b. e)) refl e
+turns-all zero t block at n big few =
+    let e = no-lines-left (ended (parts 10 (drop at block))) (omega arith) in
+    none-left t block at n (over t at) (took-none t (drop at block) at n (λ b. e)) refl e
 turns-all (suc k) t block at n big few =
     let x : Turn = turn t (ended (parts 10 (drop at block))) at n in
-    go x (turn-took (ended (parts 10 (drop at block))) t (drop at block) at n refl) (λ m. turns-all k (x .tables) block (x .place) n big m) (eqb (length (x .bytes)) 0) refl
+    go x (turn-took (ended (parts 10 (drop at block))) t (drop at block) at n refl) (λ m. turns-all k (x .tables) block (x .place) n big m)
+    (eqb (length (x .bytes)) 0) refl
   where
-    go : (x : Turn) → Took t (drop at block) at n x → (length (ended (parts 10 (drop (x .place) block))) ≤ k → All (x .tables) block (x .place) (turns k (x .tables) block (x .place) n))
+    go : (x : Turn) → Took t (drop at block) at n x →
+        (length (ended (parts 10 (drop (x .place) block))) ≤ k → All (x .tables) block (x .place) (turns k (x .tables) block (x .place) n))
         → (b : Bool) → eqb (length (x .bytes)) 0 ≡ b
         → All t block at
         (elim b [
@@ -232,11 +248,12 @@ turns-all (suc k) t block at n big few =
               printed-one t (h .lines) (λ q. eqb-false (length (x .bytes)) 0 e (ap length (h .bytes) ∙ q)),
             )
 
-pub all-turns : (k : ℕ) (t : Tables) (block : List ℕ) (at n : ℕ) → room ≤ n → length block ≤ k → All t block at (turns k t block at n)
+pub all-turns : (k : ℕ) (t : Tables) (block : List ℕ) (at n : ℕ) → pageRoom ≤ n → length block ≤ k → All t block at (turns k t block at n)
 all-turns k t block at n big few = turns-all k t block at n big (omega (arith, ended-few (drop at block), length-drop at block))
 
 -- what a turn printed fits what was lent
-pub turned-fits : (t : Tables) (block : List ℕ) (at : ℕ) (out : List ℕ) (x : Turned) → x ≡ turned t block at out → length (x .buffer) ≡ length out → x .used ≤ length out
+pub turned-fits : (t : Tables) (block : List ℕ) (at : ℕ) (out : List ℕ) (x : Turned) → x ≡ turned t block at out
+    → length (x .buffer) ≡ length out → x .used ≤ length out
 unfolding turned
 turned-fits t block at out x e same =
     let bytes : List ℕ = turn t (ended (parts 10 (drop at block))) at (length out) .bytes in
@@ -248,7 +265,8 @@ turned-fits t block at out x e same =
       length-drop (length bytes) out,
     )
 
--- the same turn by turn: from place `from` on the lines are to be printed for that are left of the block's, and the tables are those after the others
+-- the same turn by turn: from place `from` on the lines are to be printed for that are left of the block's, and
+-- the tables are those after the others
 pub record Onward (t₀ : Tables) (block : List ℕ) (t : Tables) (from : ℕ) : Type 0 where
   pub lines : List (List ℕ)
   pub split : ended (parts 10 block) ≡ lines ++ ended (parts 10 (drop from block))
@@ -300,7 +318,8 @@ module _ (t : Tables) (block : List ℕ) (from : ℕ) (out : List ℕ) (y : Turn
         ∙ ap (λ (s : List ℕ). unended (parts 10 s)) (sym (took-there t block from (length out) x took))
         ∙ took .rest
         ∙ o .rest;
-    tables = tables-are ∙ took .tables ∙ ap (λ (u : Tables). tablesAfter u (took .lines)) (o .tables) ∙ sym (after-append t₀ (o .lines) (took .lines));
+    tables = tables-are ∙ took .tables ∙ ap (λ (u : Tables). tablesAfter u (took .lines)) (o .tables)
+        ∙ sym (after-append t₀ (o .lines) (took .lines));
   }
 
   -- a turn that prints something leaves fewer lines, and one that prints nothing leaves none
@@ -313,7 +332,8 @@ module _ (t : Tables) (block : List ℕ) (from : ℕ) (out : List ℕ) (y : Turn
         printed-one t (took .lines) (λ q. some (used-is ∙ ap length (took .bytes) ∙ q)),
       )
 
-  pub turn-last : room ≤ length out → y .used ≡ 0 → ended (parts 10 (drop (y .place) block)) ≡ []
+  pub turn-last : pageRoom ≤ length out → y .used ≡ 0 → ended (parts 10 (drop (y .place) block)) ≡ []
   turn-last big none =
       let e = turn-ends t (drop from block) from (length out) big (sym used-is ∙ none) in
-      no-lines-left (ended (parts 10 (drop (y .place) block))) (omega (arith, ap length split-at, ap length e, length-append (took .lines) (ended (parts 10 (drop (y .place) block)))))
+      no-lines-left (ended (parts 10 (drop (y .place) block)))
+      (omega (arith, ap length split-at, ap length e, length-append (took .lines) (ended (parts 10 (drop (y .place) block)))))

@@ -1,5 +1,6 @@
--- However a text is cut into blocks, what is printed is what `sheet` prints for the whole. The lines that end in a block end in the whole too; and of a line that goes
--- on behind the block 73 bytes are enough, since they stand in front of the same bytes, and a line of more than 72 is not understood whatever they are.
+-- However a text is cut into blocks, what is printed is what `sheet` prints for the whole. The lines that end in a block end in the whole
+-- too; and of a line that goes on behind the block 73 bytes are enough, since they stand in front of the same bytes, and a line of more
+-- than 72 is not understood whatever they are.
 -- Assumes nothing.
 use Prim.Native.Nat.{ℕ}
 use mathlib.Core.Path.{_≡_, refl, sym, ap, _∙_}
@@ -27,7 +28,8 @@ unfolding printed tablesAfter
 printed-append t [] ms = refl
 printed-append t (l ∷ ls) ms =
     ap (λ (xs : List ℕ). shown (lineOf l) t (keyed t l lent) ++ xs) (printed-append (keyed t l lent .tables) ls ms)
-    ∙ sym (append-assoc (shown (lineOf l) t (keyed t l lent)) (printed (keyed t l lent .tables) ls) (printed (tablesAfter (keyed t l lent .tables) ls) ms))
+    ∙ sym (append-assoc (shown (lineOf l) t (keyed t l lent)) (printed (keyed t l lent .tables) ls)
+    (printed (tablesAfter (keyed t l lent .tables) ls) ms))
 
 pub after-append : (t : Tables) (ls ms : List (List ℕ)) → tablesAfter t (ls ++ ms) ≡ tablesAfter (tablesAfter t ls) ms
 unfolding tablesAfter
@@ -69,10 +71,12 @@ module _ (t : Tables) (f : List ℕ) where
   cut-first (x ∷ o) [] = first-says t (take most (x ∷ o) ++ f) ((x ∷ o) ++ f) [] (cut-line (x ∷ o) f)
   cut-first (x ∷ o) (g ∷ gs) = first-says t (take most (x ∷ o) ++ f) ((x ∷ o) ++ f) (dropEmpty (g ∷ gs)) (cut-line (x ∷ o) f)
 
-cut-plain : (t : Tables) {o : List ℕ} → Plain o → (y : List ℕ) → printed t (dropEmpty (parts 10 (take most o ++ y))) ≡ printed t (dropEmpty (parts 10 (o ++ y)))
+cut-plain : (t : Tables) {o : List ℕ} → Plain o → (y : List ℕ)
+    → printed t (dropEmpty (parts 10 (take most o ++ y))) ≡ printed t (dropEmpty (parts 10 (o ++ y)))
 cut-plain t {o} p y = go _ _ (parts-cut 10 y)
   where
-    go : (f : List ℕ) (fs : List (List ℕ)) → parts 10 y ≡ f ∷ fs → printed t (dropEmpty (parts 10 (take most o ++ y))) ≡ printed t (dropEmpty (parts 10 (o ++ y)))
+    go : (f : List ℕ) (fs : List (List ℕ)) → parts 10 y ≡ f ∷ fs
+        → printed t (dropEmpty (parts 10 (take most o ++ y))) ≡ printed t (dropEmpty (parts 10 (o ++ y)))
     go f fs e =
         ap (λ (ls : List (List ℕ)). printed t (dropEmpty ls)) (parts-on (plain-take most p) y f fs e)
         ∙ cut-first t f o fs

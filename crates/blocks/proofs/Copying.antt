@@ -1,4 +1,5 @@
--- Bytes further back copied to the front, one by one: where i are copied, from place i on the block is as it was, so the next is read as it was.
+-- Bytes further back copied to the front, one by one: where i are copied, from place i on the block is as
+-- it was, so the next is read as it was.
 -- Assumes nothing.
 use Prim.Native.Nat.{ℕ, _+_, _-_, _≤_, _<_}
 use native.Mathlib.Numerals.{add-one}
@@ -89,12 +90,14 @@ module _ {l₀ l : List ℕ} {from to i : ℕ} (h : Copied l₀ from to i l) whe
       go (no s) = let n : i ≡ most = omega arith in ap (λ (k : ℕ). take k (slice from to l₀)) n
 
   -- so the block is what is carried
-  pub copied-whole : from ≤ to → to ≤ length l₀ → i ≤ most → i ≤ to - from → (i < most → i ≡ to - from) → record { held = i; block = l } ≡ carried l₀ from to
+  pub copied-whole : from ≤ to → to ≤ length l₀ → i ≤ most → i ≤ to - from → (i < most → i ≡ to - from)
+      → record { held = i; block = l } ≡ carried l₀ from to
   copied-whole a e many all few =
       let kept : take i l ≡ take most (slice from to l₀) = copied-most e many few in
       let n : length (take i l) ≡ i = length-take-le i l (omega (arith, h .same)) in
       let held : i ≡ length (take most (slice from to l₀)) = sym n ∙ ap length kept in
       let block : l ≡ front (take most (slice from to l₀)) l₀ =
-      sym (take-append-drop i l) ∙ ap₂ (λ (xs : List ℕ) (ys : List ℕ). xs ++ ys) kept (h .behind) ∙ ap (λ (k : ℕ). take most (slice from to l₀) ++ drop k l₀) held
+      sym (take-append-drop i l) ∙ ap₂ (λ (xs : List ℕ) (ys : List ℕ). xs ++ ys) kept (h .behind)
+      ∙ ap (λ (k : ℕ). take most (slice from to l₀) ++ drop k l₀) held
       in
       (λ i. record { held = held i; block = block i }) ∙ sym (carried-part l₀ from to a e)

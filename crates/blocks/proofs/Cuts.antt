@@ -75,6 +75,7 @@ parts-append (x ∷ xs) y = go (eqb x 10) refl (parts-append xs y)
 
     go : (t : Bool) → eqb x 10 ≡ t → parts 10 (xs ++ y) ≡ ended (parts 10 xs) ++ parts 10 (unended (parts 10 xs) ++ y)
         → cond t ([] ∷ parts 10 (xs ++ y)) (onFirst x (parts 10 (xs ++ y)))
-        ≡ ended (cond t ([] ∷ parts 10 xs) (onFirst x (parts 10 xs))) ++ parts 10 (unended (cond t ([] ∷ parts 10 xs) (onFirst x (parts 10 xs))) ++ y)
+        ≡ ended (cond t ([] ∷ parts 10 xs) (onFirst x (parts 10 xs)))
+        ++ parts 10 (unended (cond t ([] ∷ parts 10 xs) (onFirst x (parts 10 xs))) ++ y)
     go true e ih = rw (ended-next [] xs, unended-next [] xs) (ap (λ (ls : List (List ℕ)). [] ∷ ls) ih)
     go false e ih = ap (onFirst x) ih ∙ first (parts 10 xs) e

@@ -1,4 +1,5 @@
--- A turn, line by line: what is left of it while lines are printed for. Where a line with room before it comes first, it is printed for and the turn goes on behind it.
+-- A turn, line by line: what is left of it while lines are printed for. Where a line with room before it comes first, it is
+-- printed for and the turn goes on behind it.
 -- Assumes nothing.
 use Prim.Native.Nat.{ℕ, _+_, _-_, _≤_, _<_}
 use native.Mathlib.Decide.{decLt}
@@ -10,6 +11,7 @@ use lib.Seq.{slice, take-at, drop-at, drop-drop, length-slice}
 use borrow.Author.Tests.{le-leb, lt-leb}
 use borrow.Rule.Slice.PartAt.{part-to-end}
 use borrow.Rule.Slice.PartMut.{putMid, post-is}
+use Rattle.limits.specs.Limits.{pageRoom}
 use Rattle.text.specs.Text.{parts}
 use Rattle.rules.specs.Answers as answers
 use Rattle.tables.specs.declared.Tables.{Tables}
@@ -18,7 +20,7 @@ use Rattle.tables.specs.Calls.{told}
 use Rattle.rules.specs.Engine.{beside, front}
 use Rattle.page.specs.Paging.{Written}
 use Rattle.console.specs.Console.{keyed}
-use Rattle.console.specs.Sheet.{bytesFor, room, lent, printedBytes, lineShown}
+use Rattle.console.specs.Sheet.{bytesFor, lent, printedBytes, lineShown}
 use Rattle.console.proofs.OneLine.{shown-long, printed-fits}
 use Rattle.console.proofs.LineEnds.{LineEnd, line-within, line-taken}
 use Rattle.blocks.specs.Blocks.{ended, Turn, turn, turned}
@@ -31,15 +33,15 @@ behind bytes x = record { tables = x .tables; place = x .place; bytes = bytes ++
 abbrev pub over : Tables → ℕ → Turn
 over t at = record { tables = t; place = at; bytes = [] }
 
-pub turn-next : (t : Tables) (l : List ℕ) (ls : List (List ℕ)) (at n : ℕ) → room ≤ n
+pub turn-next : (t : Tables) (l : List ℕ) (ls : List (List ℕ)) (at n : ℕ) → pageRoom ≤ n
     → turn t (l ∷ ls) at n ≡ behind (bytesFor t l) (turn (keyed t l lent .tables) ls (at + length l + 1) (n - length (bytesFor t l)))
 unfolding turn
-turn-next t l ls at n h = rw (le-leb room n h, turn)
+turn-next t l ls at n h = rw (le-leb pageRoom n h, turn)
 
-pub turn-full : (t : Tables) (ls : List (List ℕ)) (at n : ℕ) → n < room → turn t ls at n ≡ over t at
+pub turn-full : (t : Tables) (ls : List (List ℕ)) (at n : ℕ) → n < pageRoom → turn t ls at n ≡ over t at
 unfolding turn
 turn-full t [] at n h = refl
-turn-full t (l ∷ ls) at n h = rw (lt-leb room n h, turn)
+turn-full t (l ∷ ls) at n h = rw (lt-leb pageRoom n h, turn)
 
 pub turn-none : (t : Tables) (ls : List (List ℕ)) (at n : ℕ) → ls ≡ [] → turn t ls at n ≡ over t at
 unfolding turn
@@ -65,7 +67,8 @@ pub record Going (t₀ : Tables) (block : List ℕ) (at : ℕ) (out₀ out : Lis
   pub many : used ≡ length bytes
   pub fits : used ≤ length out₀
   pub buffer : out ≡ front bytes out₀
-  pub left : turn t₀ (ended (parts 10 (drop at block))) at (length out₀) ≡ behind bytes (turn t (ended (parts 10 (drop from block))) from (length out₀ - used))
+  pub left : turn t₀ (ended (parts 10 (drop at block))) at (length out₀)
+      ≡ behind bytes (turn t (ended (parts 10 (drop from block))) from (length out₀ - used))
 
 pub going-start : (t : Tables) (block : List ℕ) (at : ℕ) (out : List ℕ) → Going t block at out out t at 0
 going-start t block at out =
@@ -90,13 +93,15 @@ module _ {t₀ t : Tables} {block out₀ out : List ℕ} {at from used : ℕ} (g
 
   going-behind : drop used out ≡ drop used out₀
   going-behind =
-      ap (drop used) (g .buffer) ∙ drop-at (g .bytes) (drop (length (g .bytes)) out₀) used (sym (g .many)) ∙ ap (λ (k : ℕ). drop k out₀) (sym (g .many))
+      ap (drop used) (g .buffer) ∙ drop-at (g .bytes) (drop (length (g .bytes)) out₀) used (sym (g .many))
+      ∙ ap (λ (k : ℕ). drop k out₀) (sym (g .many))
 
   pub going-length : length out ≡ length out₀
-  going-length = ap length (g .buffer) ∙ omega (arith, length-append (g .bytes) (drop (length (g .bytes)) out₀), length-drop (length (g .bytes)) out₀, g .fits, g .many)
+  going-length = ap length (g .buffer)
+      ∙ omega (arith, length-append (g .bytes) (drop (length (g .bytes)) out₀), length-drop (length (g .bytes)) out₀, g .fits, g .many)
 
   -- a line is printed for, into the part of the buffer that is left, which then comes back
-  module _ (e : ℕ) (E : LineEnd block from e) (ends : e < length block) (big : room ≤ length out₀ - used) (r : Outcome) (after : List ℕ)
+  module _ (e : ℕ) (E : LineEnd block from e) (ends : e < length block) (big : pageRoom ≤ length out₀ - used) (r : Outcome) (after : List ℕ)
       (same : length after ≡ length out - used)
       (says : beside after (told r) ≡ lineShown t (take (e - from) (drop from block)) (take (length out - used) (drop used out)))
       (n : ℕ) (counts : n ≡ printedBytes (answers.number (r .answer)) (answers.values (r .answer))) where
@@ -115,7 +120,8 @@ module _ {t₀ t : Tables} {block out₀ out : List ℕ} {at from used : ℕ} (g
     said : beside after (told r) ≡ lineShown t line (drop used out)
     said = says ∙ ap₂ (λ (l : List ℕ) (o : List ℕ). lineShown t l o) (line-taken block from e low) (part-to-end out used)
 
-    printing : beside after (told r) ≡ record { number = 0; values = length put ∷ []; tables = keyed t line lent .tables; buffer = front put (drop used out) }
+    printing : beside after (told r)
+        ≡ record { number = 0; values = length put ∷ []; tables = keyed t line lent .tables; buffer = front put (drop used out) }
     printing = said ∙ shown-long t line (drop used out) (omega (arith, behind-length))
 
     many : n ≡ length put
@@ -129,14 +135,16 @@ module _ {t₀ t : Tables} {block out₀ out : List ℕ} {at from used : ℕ} (g
 
     back : putMid used (length out - used) out after ≡ take used out ++ after
     back =
-        ap (λ (xs : List ℕ). take used out ++ (after ++ xs)) (post-is used (length out) out (omega (arith, g .fits, going-length)) ∙ drop-of-length-le out {i = length out} (omega arith))
+        ap (λ (xs : List ℕ). take used out ++ (after ++ xs))
+        (post-is used (length out) out (omega (arith, g .fits, going-length)) ∙ drop-of-length-le out {i = length out} (omega arith))
         ∙ ap (λ (xs : List ℕ). take used out ++ xs) (append-nil after)
 
     buffer : putMid used (length out - used) out after ≡ front (g .bytes ++ put) out₀
     buffer =
         back
         ∙ ap (λ (xs : List ℕ). xs ++ after) going-front
-        ∙ ap (λ (xs : List ℕ). g .bytes ++ xs) (ap (λ (w : Written). w .buffer) printing ∙ ap (λ (xs : List ℕ). put ++ drop (length put) xs) going-behind)
+        ∙ ap (λ (xs : List ℕ). g .bytes ++ xs)
+        (ap (λ (w : Written). w .buffer) printing ∙ ap (λ (xs : List ℕ). put ++ drop (length put) xs) going-behind)
         ∙ ap (λ (xs : List ℕ). g .bytes ++ (put ++ xs)) (drop-drop (length put) used out₀ ∙ ap (λ (k : ℕ). drop k out₀) all)
         ∙ sym (append-assoc (g .bytes) put (drop (length (g .bytes ++ put)) out₀))
 

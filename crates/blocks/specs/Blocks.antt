@@ -1,4 +1,5 @@
--- A text that comes in blocks. The lines that end in a block are printed for, and what stands behind the last of them is held until the next block comes (OUTLINE, "The page and the console line").
+-- A text that comes in blocks. The lines that end in a block are printed for, and what stands behind the last of them is held until the
+-- next block comes (OUTLINE, "The page and the console line").
 -- Assumes nothing.
 use Prim.Native.Nat.{ℕ, zero, suc, _+_, _-_}
 use mathlib.Core.Path.{_≡_}
@@ -7,11 +8,12 @@ use mathlib.Core.List.{List, [], _∷_, _++_}
 use lib.ListN.{length, take, drop}
 use lib.Seq.{slice}
 use lib.Dec.{leb, eqb}
+use Rattle.limits.specs.Limits.{longestLine, pageRoom}
 use Rattle.text.specs.Text.{parts}
 use Rattle.tables.specs.declared.Tables.{Tables}
 use Rattle.rules.specs.Engine.{front}
 use Rattle.console.specs.Console.{keyed}
-use Rattle.console.specs.Sheet.{room, lent, bytesFor, printed, dropEmpty}
+use Rattle.console.specs.Sheet.{lent, bytesFor, printed, dropEmpty}
 
 -- of the parts of a block, those that byte 10 ended; and the last, which it did not
 abbrev pub ended : List (List ℕ) → List (List ℕ)
@@ -29,7 +31,8 @@ unfoldable pub tablesAfter : Tables → List (List ℕ) → Tables
 tablesAfter t [] = t
 tablesAfter t (l ∷ ls) = tablesAfter (keyed t l lent .tables) ls
 
--- One turn, from place `at` of a block on, with n bytes left of the lent buffer: line after line is printed for while `room` bytes are left.
+-- One turn, from place `at` of a block on, with n bytes left of the lent buffer: line after line is
+-- printed for while `pageRoom` bytes are left.
 -- What comes of it: the tables, the place of the next line, and the bytes printed.
 pub record Turn : Type 0 where
   pub tables : Tables
@@ -41,7 +44,7 @@ turn t [] at n = record { tables = t; place = at; bytes = [] }
 turn t (l ∷ ls) at n =
     let put : List ℕ = bytesFor t l in
     let next : Turn = turn (keyed t l lent .tables) ls (at + length l + 1) (n - length put) in
-    elim (leb room n) [
+    elim (leb pageRoom n) [
       | true ↦ record { tables = next .tables; place = next .place; bytes = put ++ next .bytes }
       | false ↦ record { tables = t; place = at; bytes = [] }
     ]
@@ -58,11 +61,13 @@ turned t block at out =
     let x : Turn = turn t (ended (parts 10 (drop at block))) at (length out) in
     record { tables = x .tables; place = x .place; used = length (x .bytes); buffer = front (x .bytes) out }
 
--- what is held of a line that goes on behind the block: 73 bytes are enough, since a line of more than 72 is not understood whatever they are
+-- what is held of a line that goes on behind the block: a byte more than a line may have is enough, since a longer line is not understood
+-- whatever its bytes are
 abbrev pub most : ℕ
-most = 73
+most = longestLine + 1
 
--- The bytes of a block from one place to another go to its front, `most` of them at most; the rest is untouched. Places that are no part of the block move nothing.
+-- The bytes of a block from one place to another go to its front, `most` of them at most; the rest is untouched. Places that
+-- are no part of the block move nothing.
 pub record Carried : Type 0 where
   pub held : ℕ
   pub block : List ℕ
@@ -75,7 +80,8 @@ carried s from to =
       | false ↦ record { held = 0; block = s }
     ]
 
--- What is printed for a text that comes in blocks, from tables t on, `held` being what is held of an unfinished line. At the end of the text a line without byte 10 counts.
+-- What is printed for a text that comes in blocks, from tables t on, `held` being what is held of an unfinished line. At the end of
+-- the text a line without byte 10 counts.
 unfoldable pub arriving : Tables → List ℕ → List (List ℕ) → List ℕ
 arriving t held [] = printed t (dropEmpty (held ∷ []))
 arriving t held (b ∷ bs) =
@@ -99,7 +105,8 @@ pub record All (t : Tables) (block : List ℕ) (at : ℕ) (x : Turn) : Type 0 wh
   pub tables : x .tables ≡ tablesAfter t (ended (parts 10 (drop at block)))
   pub rest : drop (x .place) block ≡ unended (parts 10 (drop at block))
 
--- What the turns over a block s, and the carrying behind them, come to: what `arriving` prints for it, and the tables and the held bytes that it goes on with.
+-- What the turns over a block s, and the carrying behind them, come to: what `arriving` prints for it, and the tables
+-- and the held bytes that it goes on with.
 pub record OneBlock (t : Tables) (s : List ℕ) (x : Turn) (c : Carried) : Type 0 where
   pub bytes : x .bytes ≡ printed t (ended (parts 10 s))
   pub tables : x .tables ≡ tablesAfter t (ended (parts 10 s))

@@ -2,18 +2,20 @@
 ghost use mathlib.Core.Path.{_≡_};
 ghost use Rattle.blocks.specs.Blocks.{turned};
 use super::Turn;
+use limits::PAGE_ROOM;
 use tables::Tables;
 
 // Prints for line after line, from place `at` on, while 8,192 bytes are left of the lent buffer.
 pub fn print_block(tables: Tables, block: &[u8], at: usize, out: &mut [u8]) -> Turn
-    ensures { λ r. ⌜ record { tables = r .tables; place = r .place; used = r .used; buffer = now (out .exit) } ≡ turned tables (now (block .entry)) at (now (out .entry)) ⌝ }
+    ensures { λ r. ⌜ record { tables = r .tables; place = r .place; used = r .used; buffer = now (out .exit) }
+        ≡ turned tables (now (block .entry)) at (now (out .entry)) ⌝ }
 {
     let mut t = tables;
     let mut from = at;
     let mut used: usize = 0;
     let mut end = console::line_end(block, from);
     while end < block.len() {
-        if out.len() - used < 8192 {
+        if out.len() - used < PAGE_ROOM {
             return Turn {
                 tables: t,
                 place: from,

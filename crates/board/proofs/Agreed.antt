@@ -1,4 +1,5 @@
--- Laws of the calls on tables in bytes, by the paths of the code: bytes in packed form and others, room for the answer, and buffers that hold exactly what was written to them.
+-- Laws of the calls on tables in bytes, by the paths of the code: bytes in packed form and others, room for the answer, and buffers that
+-- hold exactly what was written to them.
 -- Assumes nothing.
 use Prim.Native.Nat.{ℕ, _<_, _≤_}
 use mathlib.Core.Path.{_≡_, sym, ap, _∙_}
@@ -42,7 +43,8 @@ module _ (s line page buf : List ℕ) where
   abbrev pub taken : Bool → Boarded
   taken b = elim b [ true ↦ done (keyed (unpacked s) line page) | false ↦ notBoarded (cond (sound (unpacked s)) 12 14) s page buf ]
 
-  pub by-form : (b : Bool) → isPacked s ≡ b → boarded s line page buf ≡ elim b [ true ↦ taken (leb figuresLength (length buf)) | false ↦ notBoarded 14 s page buf ]
+  pub by-form : (b : Bool) → isPacked s ≡ b
+      → boarded s line page buf ≡ elim b [ true ↦ taken (leb figuresLength (length buf)) | false ↦ notBoarded 14 s page buf ]
   unfolding boarded
   by-form b e = ap (λ (x : Bool). elim x [ true ↦ taken (leb figuresLength (length buf)) | false ↦ notBoarded 14 s page buf ]) e
 
@@ -61,8 +63,10 @@ module _ (s line page buf : List ℕ) where
         ∙ ap (λ (n : ℕ). notBoarded n s page buf) (ap (λ (x : Bool). cond x 12 14) (sym k ∙ ap sound u))
         ∙ sym (by-room false (lt-leb figuresLength (length buf) h))
 
-    -- what the code has in hand: the tables, the outcome of the line beside the page's buffer after it, the tables put back, and the answer told
-    pub boarded-done : (t : Tables) (r : Outcome) (s′ page′ buf′ : List ℕ) (n m : ℕ) → figuresLength ≤ length buf → t ≡ unpacked s → beside page′ (told r) ≡ keyed t line page
+    -- what the code has in hand: the tables, the outcome of the line beside the page's buffer after it, the
+    -- tables put back, and the answer told
+    pub boarded-done : (t : Tables) (r : Outcome) (s′ page′ buf′ : List ℕ) (n m : ℕ) → figuresLength ≤ length buf → t ≡ unpacked s
+        → beside page′ (told r) ≡ keyed t line page
         → length (packed (r .tables)) ≡ packedLength → Wrote s 0 (packed (r .tables)) s′ n
         → m ≡ answers.number (r .answer) → buf′ ≡ answering (answers.number (r .answer)) (answers.values (r .answer)) buf
         → record { number = m; tables = s′; page = page′; answer = buf′ } ≡ boarded s line page buf

@@ -15,7 +15,8 @@ use Rattle.text.proofs.Laws.{parts-start, parts-step, parts-end, wrote-then, wr
 use Rattle.rules.specs.Engine.{front}
 use Rattle.page.proofs.Writing.{wrote-as}
 use Rattle.rules.specs.declared.Answer.{Answer}
-use Rattle.rules.specs.declared.Answer.the-variants.{Done, Told, Waits, NoCaller, NotAllowed, NoProgram, WrongState, NameInUse, AllUsed, NoRoom, NotHolder, NotAllocated, AtCeiling, TooShort, NotUnderstood, NotSound}
+use Rattle.rules.specs.declared.Answer.the-variants.{Done, Told, Waits, NoCaller, NotAllowed, NoProgram, WrongState, NameInUse, AllUsed}
+use Rattle.rules.specs.declared.Answer.the-variants.{NoRoom, NotHolder, NotAllocated, AtCeiling, TooShort, NotUnderstood, NotSound}
 use Rattle.rules.specs.Answers.{number, values}
 use Rattle.rules.proofs.Answer.{the-type}
 use Rattle.board.specs.Packed.{inBytes}
@@ -25,7 +26,8 @@ use Rattle.board.specs.Board.{figures, figuresLength, answering}
 abbrev pub five : Answer → List ℕ
 five a = take 5 (values a ++ replicate {A = ℕ} 5 0)
 
--- the places among all of the answers that hold nothing, and of those that are no time: the first have the value 0, the others one value, and four 0 behind it
+-- the places among all of the answers that hold nothing, and of those that are no time: the first have the value 0, the
+-- others one value, and four 0 behind it
 abbrev bare : List ℕ
 bare = 3 ∷ 4 ∷ 5 ∷ 7 ∷ 8 ∷ 9 ∷ 10 ∷ 11 ∷ 12 ∷ 14 ∷ 15 ∷ []
 
@@ -33,7 +35,8 @@ abbrev timeless : List ℕ
 timeless = 0 ∷ 2 ∷ 3 ∷ 4 ∷ 5 ∷ 6 ∷ 7 ∷ 8 ∷ 9 ∷ 10 ∷ 11 ∷ 12 ∷ 13 ∷ 14 ∷ 15 ∷ []
 
 said : (a : Answer)
-    → (OneOf bare (tagOf the-type a) → 0 ≡ getD (values a) 0 0) × (OneOf timeless (tagOf the-type a) → five a ≡ getD (values a) 0 0 ∷ 0 ∷ 0 ∷ 0 ∷ 0 ∷ [])
+    → (OneOf bare (tagOf the-type a) → 0 ≡ getD (values a) 0 0)
+    × (OneOf timeless (tagOf the-type a) → five a ≡ getD (values a) 0 0 ∷ 0 ∷ 0 ∷ 0 ∷ 0 ∷ [])
 said (Done v) = (λ h. absurd (miss bare 0 tt h), λ h. refl)
 said (Told t) = (λ h. absurd (miss bare 1 tt h), λ h. absurd (miss timeless 1 tt h))
 said (Waits s) = (λ h. absurd (miss bare 2 tt h), λ h. refl)
@@ -58,17 +61,21 @@ pub five-one : (a : Answer) → OneOf timeless (tagOf the-type a) → five a ≡
 five-one a = (said a) .1
 
 -- five writes, and those behind that of the answer's number
-pub five-wrote : {l₀ l₁ l₂ l₃ l₄ l₅ : List ℕ} {at₀ at₁ at₂ at₃ at₄ at₅ : ℕ} (a b c d e : ℕ) → Wrote l₀ at₀ (inBytes 8 a) l₁ at₁ → Wrote l₁ at₁ (inBytes 8 b) l₂ at₂
+pub five-wrote : {l₀ l₁ l₂ l₃ l₄ l₅ : List ℕ} {at₀ at₁ at₂ at₃ at₄ at₅ : ℕ} (a b c d e : ℕ) → Wrote l₀ at₀ (inBytes 8 a) l₁ at₁
+    → Wrote l₁ at₁ (inBytes 8 b) l₂ at₂
     → Wrote l₂ at₂ (inBytes 8 c) l₃ at₃ → Wrote l₃ at₃ (inBytes 8 d) l₄ at₄ → Wrote l₄ at₄ (inBytes 8 e) l₅ at₅
     → Wrote l₀ at₀ (join (map (inBytes 8) (a ∷ b ∷ c ∷ d ∷ e ∷ []))) l₅ at₅
 five-wrote a b c d e v w x y z =
-    parts-end (parts-step (parts-step (parts-step (parts-step (parts-step (parts-start (map (inBytes 8) (a ∷ b ∷ c ∷ d ∷ e ∷ []))) v) w) x) y) z)
+    parts-end
+    (parts-step (parts-step (parts-step (parts-step (parts-step (parts-start (map (inBytes 8) (a ∷ b ∷ c ∷ d ∷ e ∷ []))) v) w) x) y) z)
 
 pub figures-wrote : {l₀ l₁ l₂ : List ℕ} {at₀ at₁ at₂ : ℕ} (a : Answer) (n : ℕ) (vs : List ℕ) → n ≡ number a → vs ≡ five a
-    → Wrote l₀ at₀ (inBytes 8 n) l₁ at₁ → Wrote l₁ at₁ (join (map (inBytes 8) vs)) l₂ at₂ → Wrote l₀ at₀ (figures (number a) (values a)) l₂ at₂
+    → Wrote l₀ at₀ (inBytes 8 n) l₁ at₁ → Wrote l₁ at₁ (join (map (inBytes 8) vs)) l₂ at₂
+    → Wrote l₀ at₀ (figures (number a) (values a)) l₂ at₂
 unfolding figures
 figures-wrote a n vs e f v w =
-    wrote-as (ap₂ (λ (k : ℕ) (xs : List ℕ). join (map (inBytes 8) (k ∷ xs))) (sym e) (sym f)) (wrote-then (inBytes 8 n) (join (map (inBytes 8) vs)) v w)
+    wrote-as (ap₂ (λ (k : ℕ) (xs : List ℕ). join (map (inBytes 8) (k ∷ xs))) (sym e) (sym f))
+    (wrote-then (inBytes 8 n) (join (map (inBytes 8) vs)) v w)
 
 -- the number 0, and two values
 pub counts-wrote : {l₀ l₁ l₂ : List ℕ} {at₀ at₁ at₂ : ℕ} (a b : ℕ) → Wrote l₀ at₀ (inBytes 8 0) l₁ at₁
@@ -101,4 +108,5 @@ module _ (a : ℕ) (vs buf : List ℕ) where
 
   pub answering-put : {buf′ : List ℕ} {n : ℕ} → figuresLength ≤ length buf → Wrote buf 0 (figures a vs) buf′ n → buf′ ≡ answering a vs buf
   answering-put h w =
-      wrote-front w (omega (arith, figures-length a vs)) ∙ sym (ap (λ (b : Bool). cond b (front (figures a vs) buf) buf) (le-leb figuresLength (length buf) h))
+      wrote-front w (omega (arith, figures-length a vs))
+      ∙ sym (ap (λ (b : Bool). cond b (front (figures a vs) buf) buf) (le-leb figuresLength (length buf) h))

@@ -7,7 +7,8 @@ use Rattle.board.specs.Board.{Ran, ran, Boarded, boarded, soundly}
 pub run-determined : (text out answer : List ℕ) (x y : Ran) → x ≡ ran text out answer → y ≡ ran text out answer → x ≡ y
 run-determined text out answer x y e f = e ∙ sym f
 
-pub ask-determined : (tables line page answer : List ℕ) (x y : Boarded) → x ≡ boarded tables line page answer → y ≡ boarded tables line page answer → x ≡ y
+pub ask-determined : (tables line page answer : List ℕ) (x y : Boarded) → x ≡ boarded tables line page answer
+    → y ≡ boarded tables line page answer → x ≡ y
 ask-determined tables line page answer x y e f = e ∙ sym f
 
 pub sound-determined : (tables : List ℕ) (x y : ℕ) → x ≡ soundly tables → y ≡ soundly tables → x ≡ y

@@ -21,7 +21,8 @@ pub figure-two : (s : List ℕ) (i : ℕ) → i + 2 ≤ length s → getD s i 0 
 figure-two s i h = rw (add-one i) (omega (arith, figure-step 1 s i (omega arith), figure-step 0 s (suc i) (omega arith)))
 
 -- the lowest two bytes, and the others, which stand from j on
-figure-pair : (k : ℕ) (s : List ℕ) (i j : ℕ) → j ≡ i + 2 → j ≤ length s → figureAt (suc (suc k)) s i ≡ figureAt 2 s i + 65536 * figureAt k s j
+figure-pair : (k : ℕ) (s : List ℕ) (i j : ℕ) → j ≡ i + 2 → j ≤ length s
+    → figureAt (suc (suc k)) s i ≡ figureAt 2 s i + 65536 * figureAt k s j
 figure-pair k s i j e h =
     let f : j ≡ suc (suc i) = omega arith in
     rw f (omega (
@@ -53,7 +54,8 @@ bytes-pair k n =
     ap₂ (λ x y. x ∷ y) a (ap₂ (λ x y. x ∷ y) b (ap (inBytes k) c))
 
 bytes-eight : (n : ℕ)
-    → inBytes 2 (n % 65536) ++ (inBytes 2 (n / 65536 % 65536) ++ (inBytes 2 (n / 4294967296 % 65536) ++ inBytes 2 (n / 281474976710656))) ≡ inBytes 8 n
+    → inBytes 2 (n % 65536) ++ (inBytes 2 (n / 65536 % 65536) ++ (inBytes 2 (n / 4294967296 % 65536) ++ inBytes 2 (n / 281474976710656)))
+    ≡ inBytes 8 n
 bytes-eight n =
     let c : n / 4294967296 ≡ n / 65536 / 65536 = omega arith in
     let d : n / 281474976710656 ≡ n / 65536 / 65536 / 65536 = omega arith in
@@ -62,13 +64,16 @@ bytes-eight n =
     ∙ ap (λ (l : List ℕ). inBytes 2 (n % 65536) ++ l) (bytes-pair 4 (n / 65536))
     ∙ bytes-pair 6 n
 
-pub wrote-pair : {l₀ l₁ l₂ : List ℕ} {at₀ at₁ at₂ : ℕ} (n : ℕ) → n < 65536 → Wrote l₀ at₀ (n % 256 ∷ []) l₁ at₁ → Wrote l₁ at₁ (n / 256 ∷ []) l₂ at₂ → Wrote l₀ at₀ (inBytes 2 n) l₂ at₂
+pub wrote-pair : {l₀ l₁ l₂ : List ℕ} {at₀ at₁ at₂ : ℕ} (n : ℕ) → n < 65536 → Wrote l₀ at₀ (n % 256 ∷ []) l₁ at₁
+    → Wrote l₁ at₁ (n / 256 ∷ []) l₂ at₂ → Wrote l₀ at₀ (inBytes 2 n) l₂ at₂
 wrote-pair {l₀} {l₁} {l₂} {at₀} {at₁} {at₂} n h a b =
     let e : n / 256 ≡ n / 256 % 256 = omega arith in
     subst (λ (k : ℕ). Wrote l₀ at₀ (n % 256 ∷ k ∷ []) l₂ at₂) e (wrote-then (n % 256 ∷ []) (n / 256 ∷ []) a b)
 
-pub wrote-eight : {l₀ l₁ l₂ l₃ l₄ : List ℕ} {at₀ at₁ at₂ at₃ at₄ : ℕ} (n : ℕ) → Wrote l₀ at₀ (inBytes 2 (n % 65536)) l₁ at₁ → Wrote l₁ at₁ (inBytes 2 (n / 65536 % 65536)) l₂ at₂
-    → Wrote l₂ at₂ (inBytes 2 (n / 4294967296 % 65536)) l₃ at₃ → Wrote l₃ at₃ (inBytes 2 (n / 281474976710656)) l₄ at₄ → Wrote l₀ at₀ (inBytes 8 n) l₄ at₄
+pub wrote-eight : {l₀ l₁ l₂ l₃ l₄ : List ℕ} {at₀ at₁ at₂ at₃ at₄ : ℕ} (n : ℕ) → Wrote l₀ at₀ (inBytes 2 (n % 65536)) l₁ at₁
+    → Wrote l₁ at₁ (inBytes 2 (n / 65536 % 65536)) l₂ at₂
+    → Wrote l₂ at₂ (inBytes 2 (n / 4294967296 % 65536)) l₃ at₃ → Wrote l₃ at₃ (inBytes 2 (n / 281474976710656)) l₄ at₄
+    → Wrote l₀ at₀ (inBytes 8 n) l₄ at₄
 wrote-eight {l₀} {l₁} {l₂} {l₃} {l₄} {at₀} {at₁} {at₂} {at₃} {at₄} n a b c d =
     let x = inBytes 2 (n / 4294967296 % 65536) in
     let y = inBytes 2 (n / 281474976710656) in

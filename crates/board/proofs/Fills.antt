@@ -20,7 +20,8 @@ module _ {A : Type 0} (n : ℕ) (part : ℕ → List A) where
   pub filled-start : (xs : List A) → length xs ≡ n → part 0 ≡ [] → Filled n part 0 xs
   filled-start xs l e = record { most = omega arith; long = l; done = sym e }
 
-  filled-turn : {i : ℕ} {xs : List A} (v : A) → i < n → part (suc i) ≡ part i ++ (v ∷ []) → Filled n part i xs → Filled n part (i + 1) (set xs i v)
+  filled-turn : {i : ℕ} {xs : List A} (v : A) → i < n → part (suc i) ≡ part i ++ (v ∷ []) → Filled n part i xs
+      → Filled n part (i + 1) (set xs i v)
   filled-turn {i} {xs} v h e F = rw (add-one i) (record {
     most = omega arith;
     long = length-set xs i v ∙ F .long;
@@ -42,7 +43,8 @@ one-more f p (suc k) =
     ap (λ l. f p ∷ l)
     (one-more f (suc p) k ∙ ap (λ (i : ℕ). map f (from (suc p) k) ++ (f i ∷ [])) (suc-add p k ∙ sym (add-suc p k)))
 
-pub listed-turn : {A : Type 0} (n : ℕ) (f : ℕ → A) {i : ℕ} {xs : List A} (v : A) → i < n → v ≡ f i → Filled n (listed f) i xs → Filled n (listed f) (i + 1) (set xs i v)
+pub listed-turn : {A : Type 0} (n : ℕ) (f : ℕ → A) {i : ℕ} {xs : List A} (v : A) → i < n → v ≡ f i → Filled n (listed f) i xs
+    → Filled n (listed f) (i + 1) (set xs i v)
 listed-turn n f {i} v h e F =
     filled-turn n (listed f) v h
     (one-more f 0 i ∙ ap (λ (k : ℕ). listed f i ++ (f k ∷ [])) (zero-add i) ∙ ap (λ w. listed f i ++ (w ∷ [])) (sym e)) F

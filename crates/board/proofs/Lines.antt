@@ -33,7 +33,8 @@ more-lines l s = line-stays l _ _ (parts 10 s) (parts-cut 10 s)
 last-line : (l : List ℕ) (x : ℕ) (xs : List ℕ) → l ≡ x ∷ xs → dropEmpty (l ∷ []) ≡ l ∷ []
 last-line l x xs e = ap (λ (r : List ℕ). dropEmpty (r ∷ [])) e ∙ ap (λ (r : List ℕ). r ∷ []) (sym e)
 
-pub lines-next : (s : List ℕ) (from e : ℕ) → from < length s → LineEnd s from e → linesOf (drop from s) ≡ slice from e s ∷ linesOf (drop (e + 1) s)
+pub lines-next : (s : List ℕ) (from e : ℕ) → from < length s → LineEnd s from e
+    → linesOf (drop from s) ≡ slice from e s ∷ linesOf (drop (e + 1) s)
 unfolding linesOf
 lines-next s from e h E = go (decLt e (length s))
   where

@@ -18,7 +18,8 @@ use Rattle.records.specs.declared.Why.the-variants.{Nothing, Tracks, Son, Lock,
 use Rattle.tracks.specs.Tracks.{places, tableAt}
 use Rattle.tables.specs.declared.Tables.{Tables}
 use Rattle.tables.specs.Tables.{Arrays}
-use Rattle.board.specs.Packed.{inBytes, ofBytes, figureAt, kindOf, countOf, whyOf, packProgram, programAt, packResource, resourceAt, packed, unpacked, programsPlace, resourcesPlace}
+use Rattle.board.specs.Packed.{inBytes, ofBytes, figureAt, kindOf, countOf, whyOf, packProgram, programAt, packResource, resourceAt}
+use Rattle.board.specs.Packed.{packed, unpacked, programsPlace, resourcesPlace}
 use Rattle.board.proofs.Pieces.{program-length, resources-length}
 
 -- 256 ^ k, by steps that `omega` reads
@@ -91,14 +92,17 @@ module _ (s : List ℕ) (o : ℕ) where
       ap (λ (k : ℕ). drop k s) h ∙ sym (drop-drop (length x) o s) ∙ ap (drop (length x)) e ∙ drop-at x rest (length x) refl
 
 -- the items of an array, each w bytes wide, from place `at p` on
-module _ {A : Type 0} (P : A → Type 0) (pack : A → List ℕ) (w : ℕ) (wideEach : (x : A) → P x → length (pack x) ≡ w) (s : List ℕ) (at : ℕ → ℕ) (next : (i : ℕ) → at (suc i) ≡ at i + w)
+module _ {A : Type 0} (P : A → Type 0) (pack : A → List ℕ) (w : ℕ) (wideEach : (x : A) → P x → length (pack x) ≡ w) (s : List ℕ)
+    (at : ℕ → ℕ) (next : (i : ℕ) → at (suc i) ≡ at i + w)
     (read : ℕ → A) (back : (x : A) (o : ℕ) (rest : List ℕ) → P x → drop o s ≡ pack x ++ rest → read o ≡ x) where
-  items-back : (xs : List A) (p : ℕ) (rest : List ℕ) → Each P xs → drop (at p) s ≡ join (map pack xs) ++ rest → map (λ i. read (at i)) (from p (length xs)) ≡ xs
+  items-back : (xs : List A) (p : ℕ) (rest : List ℕ) → Each P xs → drop (at p) s ≡ join (map pack xs) ++ rest
+      → map (λ i. read (at i)) (from p (length xs)) ≡ xs
   items-back [] p rest h e = refl
   items-back (x ∷ xs) p rest h e =
       let f : drop (at p) s ≡ pack x ++ (join (map pack xs) ++ rest) = e ∙ append-assoc (pack x) (join (map pack xs)) rest in
       ap₂ (λ y ys. y ∷ ys) (back x (at p) (join (map pack xs) ++ rest) (h .0) f)
-      (items-back xs (suc p) rest (h .1) (behind s (at p) (at (suc p)) (pack x) (next p ∙ ap (λ (k : ℕ). at p + k) (sym (wideEach x (h .0)))) f))
+      (items-back xs (suc p) rest (h .1)
+      (behind s (at p) (at (suc p)) (pack x) (next p ∙ ap (λ (k : ℕ). at p + k) (sym (wideEach x (h .0)))) f))
 
 resource-back : (s : List ℕ) (x : Resource) (o : ℕ) (rest : List ℕ) → Unit {0} → drop o s ≡ packResource x ++ rest → resourceAt s o ≡ x
 resource-back s x o rest h e = λ i. record {
@@ -112,7 +116,8 @@ anyone (x ∷ xs) = (tt, anyone xs)
 
 program-parts : (r : Program) (rest : List ℕ)
     → packProgram r ++ rest
-    ≡ (hit (r .used) ∷ []) ++ (r .name ++ (inBytes 2 (r .priority) ++ (r .state ∷ kindOf (r .why) ∷ (inBytes 2 (countOf (r .why)) ++ (inBytes 8 (r .due) ++ (inBytes 8 (r .interval) ++ rest))))))
+    ≡ (hit (r .used) ∷ []) ++ (r .name ++ (inBytes 2 (r .priority)
+    ++ (r .state ∷ kindOf (r .why) ∷ (inBytes 2 (countOf (r .why)) ++ (inBytes 8 (r .due) ++ (inBytes 8 (r .interval) ++ rest))))))
 unfolding packProgram
 program-parts r rest = simp append-assoc
 
@@ -136,15 +141,18 @@ program-back s r o rest F whole =
       name = list-at s (o + 1) 5 (r .name) c (F .name) p₁ i;
       priority = number-at s (o + 6) 2 (r .priority) (r .state ∷ kindOf (r .why) ∷ e) (F .priority) p₆ i;
       state = byte-at s (o + 8) p₈ i;
-      why = (ap₂ whyOf (byte-at s (o + 9) p₉) (number-at s (o + 10) 2 (countOf (r .why)) f (count-fits (r .why) (F .why)) p₁₀) ∙ why-back (r .why) (F .why)) i;
+      why = (ap₂ whyOf (byte-at s (o + 9) p₉) (number-at s (o + 10) 2 (countOf (r .why)) f (count-fits (r .why) (F .why)) p₁₀)
+          ∙ why-back (r .why) (F .why)) i;
       due = number-at s (o + 12) 8 (r .due) g (F .due) p₁₂ i;
       interval = number-at s (o + 20) 8 (r .interval) rest (F .interval) p₂₀ i;
     }
 
 tables-parts : (t : Tables)
     → packed t
-    ≡ inBytes 8 (t .ledger .clock .ticks) ++ (inBytes 2 (t .ledger .tracks .count) ++ (inBytes 2 (t .ledger .tracks .system) ++ ((t .ledger .numbers .count ∷ [])
-    ++ (places (t .ledger .tracks) ++ (join (map packResource (t .ledger .numbers .resources)) ++ (t .links ++ join (map packProgram (t .ledger .programs))))))))
+    ≡ inBytes 8 (t .ledger .clock .ticks)
+    ++ (inBytes 2 (t .ledger .tracks .count) ++ (inBytes 2 (t .ledger .tracks .system) ++ ((t .ledger .numbers .count ∷ [])
+    ++ (places (t .ledger .tracks)
+    ++ (join (map packResource (t .ledger .numbers .resources)) ++ (t .links ++ join (map packProgram (t .ledger .programs))))))))
 unfolding packed
 tables-parts t = simp append-assoc
 
@@ -172,17 +180,20 @@ lossless t A F =
       ledger = record {
         programs =
             (ap (λ (k : ℕ). map (λ i. programAt s (programsPlace + 28 * i)) (from 0 k)) (sym (A .programs))
-            ∙ items-back FitProgram packProgram 28 (λ r f. program-length r (f .name)) s (λ i. programsPlace + 28 * i) (λ i. omega arith) (programAt s) (program-back s) ps 0 [] (F .programs) (p₃₄₁ ∙ sym (append-nil (join (map packProgram ps)))))
+            ∙ items-back FitProgram packProgram 28 (λ r f. program-length r (f .name)) s (λ i. programsPlace + 28 * i) (λ i. omega arith)
+            (programAt s) (program-back s) ps 0 [] (F .programs) (p₃₄₁ ∙ sym (append-nil (join (map packProgram ps)))))
             i;
         clock = record { ticks = number-at s 0 8 (t .ledger .clock .ticks) x (F .clock) p₀ i };
         tracks =
-            tableAt (number-at s 8 2 (t .ledger .tracks .count) y (F .tracks) p₈ i) (number-at s 10 2 (t .ledger .tracks .system) n (F .system) p₁₀ i)
+            tableAt (number-at s 8 2 (t .ledger .tracks .count) y (F .tracks) p₈ i)
+            (number-at s 10 2 (t .ledger .tracks .system) n (F .system) p₁₀ i)
             (list-at s 13 256 (places (t .ledger .tracks)) r (A .holders) p₁₃ i);
         numbers = record {
           count = byte-at s 12 p₁₂ i;
           resources =
               (ap (λ (k : ℕ). map (λ i. resourceAt s (resourcesPlace + 2 * i)) (from 0 k)) (sym (A .resources))
-              ∙ items-back (λ x. Unit {0}) packResource 2 (λ x f. refl) s (λ i. resourcesPlace + 2 * i) (λ i. omega arith) (resourceAt s) (resource-back s) rs 0 l (anyone rs) p₂₆₉)
+              ∙ items-back (λ x. Unit {0}) packResource 2 (λ x f. refl) s (λ i. resourcesPlace + 2 * i) (λ i. omega arith) (resourceAt s)
+              (resource-back s) rs 0 l (anyone rs) p₂₆₉)
               i;
         };
       };

@@ -1,5 +1,6 @@
--- Packed form: bytes are in it exactly where they are some tables packed, whose arrays are as long and whose numbers as small as their types say. The tables that bytes say are such tables;
--- and such tables are not lost by packing (`lossless`), so that packing what their bytes say gives the bytes.
+-- Packed form: bytes are in it exactly where they are some tables packed, whose arrays are as long and whose numbers as small as
+-- their types say. The tables that bytes say are such tables; and such tables are not lost by packing (`lossless`), so that packing
+-- what their bytes say gives the bytes.
 -- Assumes nothing.
 use Prim.Native.Nat.{ℕ, zero, suc, _+_, _*_, _%_, _<_, _≤_}
 use native.Mathlib.Omega.{arith}
@@ -34,15 +35,25 @@ Named r = length (r .name) ≡ 5
 
 names-length : (xs : List Program) → Each Named xs → length (join (map packProgram xs)) ≡ 28 * length xs
 names-length [] h = refl
-names-length (x ∷ xs) h = omega (arith, length-append (packProgram x) (join (map packProgram xs)), program-length x (h .0), names-length xs (h .1))
+names-length (x ∷ xs) h =
+    omega (arith, length-append (packProgram x) (join (map packProgram xs)), program-length x (h .0), names-length xs (h .1))
 
 pub packed-length : (t : Tables) → Arrays t → Each Named (t .ledger .programs) → length (packed t) ≡ packedLength
 unfolding packed
 packed-length t A h =
-    simp length-append (omega (arith, A .programs, A .holders, A .links, A .resources, resources-length (t .ledger .numbers .resources), names-length (t .ledger .programs) h))
+    simp length-append (omega (
+      arith,
+      A .programs,
+      A .holders,
+      A .links,
+      A .resources,
+      resources-length (t .ledger .numbers .resources),
+      names-length (t .ledger .programs) h,
+    ))
 
 -- the names of an array of records are as long as their type says
-pub named-each : (xs : List Program) (us : List Val) → shadow (each (the-field .row .Denot) (the-field .row .own) (map (the-field .into) xs) us) → Each Named xs
+pub named-each : (xs : List Program) (us : List Val)
+    → shadow (each (the-field .row .Denot) (the-field .row .own) (map (the-field .into) xs) us) → Each Named xs
 named-each [] us g = tt
 named-each (x ∷ xs) [] g = absurd g
 named-each (x ∷ xs) (u ∷ us) g = (named (x ∷ []) (u ∷ []) 0 x (g .0, tt) (omega arith), named-each xs us (g .1))
@@ -54,7 +65,8 @@ filled-whole {l} {x} w e =
     wrote-front w (omega arith) ∙ ap (λ (r : List ℕ). x ++ r) (drop-of-length-le l h) ∙ append-nil x
 
 -- k bytes from place o on, put where as many stood
-pub part-whole : (o k : ℕ) (s : List ℕ) {l l′ : List ℕ} {n : ℕ} → o + k ≤ length s → length l ≡ k → Wrote l 0 (take k (drop o s)) l′ n → l′ ≡ take k (drop o s)
+pub part-whole : (o k : ℕ) (s : List ℕ) {l l′ : List ℕ} {n : ℕ} → o + k ≤ length s → length l ≡ k → Wrote l 0 (take k (drop o s)) l′ n
+    → l′ ≡ take k (drop o s)
 part-whole o k s h e w = filled-whole w (length-take-le k (drop o s) (omega (arith, length-drop o s)) ∙ sym e)
 
 -- THE TABLES THAT BYTES SAY
@@ -68,11 +80,13 @@ module _ (s : List ℕ) (long : length s ≡ packedLength) where
 
   pub unpacked-arrays : Arrays (unpacked s)
   unfolding unpacked
-  unpacked-arrays = record { programs = refl; links = part-length 301 40 (omega arith); holders = part-length 13 256 (omega arith); resources = refl }
+  unpacked-arrays =
+      record { programs = refl; links = part-length 301 40 (omega arith); holders = part-length 13 256 (omega arith); resources = refl }
 
   unpacked-names : Each Named (unpacked s .ledger .programs)
   unfolding unpacked programAt
-  unpacked-names = each-from Named (λ i. programAt s (programsPlace + 28 * i)) 0 32 (λ i h. part-length (programsPlace + 28 * i + 1) 5 (omega arith))
+  unpacked-names =
+      each-from Named (λ i. programAt s (programsPlace + 28 * i)) 0 32 (λ i h. part-length (programsPlace + 28 * i + 1) 5 (omega arith))
 
   pub unpacked-length : length (packed (unpacked s)) ≡ packedLength
   unpacked-length = packed-length (unpacked s) unpacked-arrays unpacked-names
@@ -130,12 +144,14 @@ module _ (s : List ℕ) where
   packed-other n = sym (by-length false (ne-eqb (length s) packedLength n))
 
   -- what the code has in hand: the tables that the bytes say, packed where as many bytes stood
-  pub packed-is : (t : Tables) (l form : List ℕ) (n : ℕ) → length s ≡ packedLength → length l ≡ packedLength → t ≡ unpacked s → Wrote l 0 (packed t) form n
+  pub packed-is : (t : Tables) (l form : List ℕ) (n : ℕ) → length s ≡ packedLength → length l ≡ packedLength → t ≡ unpacked s
+      → Wrote l 0 (packed t) form n
       → alike (slice 0 1237 form) s ≡ isPacked s
   packed-is t l form n long k u w =
       let whole : form ≡ packed t = filled-whole w (ap (λ (x : Tables). length (packed x)) u ∙ unpacked-length s long ∙ sym k) in
       let all : length form ≤ 1237 = omega (arith, ap length whole, ap (λ (x : Tables). length (packed x)) u, unpacked-length s long) in
-      ap (λ (x : List ℕ). alike x s) (take-all 1237 form all ∙ whole ∙ ap packed u) ∙ sym (by-length true (eq-eqb (length s) packedLength long))
+      ap (λ (x : List ℕ). alike x s) (take-all 1237 form all ∙ whole ∙ ap packed u)
+      ∙ sym (by-length true (eq-eqb (length s) packedLength long))
 
   pub is-length : isPacked s ≡ true → length s ≡ packedLength
   unfolding isPacked
@@ -160,12 +176,19 @@ pub form-packed : (s : List ℕ) → Form s → isPacked s ≡ true
 unfolding isPacked
 form-packed s F =
     let t = F .tables in
-    let long : length s ≡ packedLength = ap length (F .is) ∙ packed-length t (F .arrays) (fit-named (t .ledger .programs) (F .fit .programs)) in
-    let same : packed (unpacked s) ≡ s = ap (λ (x : List ℕ). packed (unpacked x)) (F .is) ∙ ap packed (lossless t (F .arrays) (F .fit)) ∙ sym (F .is) in
+    let long : length s ≡ packedLength =
+    ap length (F .is) ∙ packed-length t (F .arrays) (fit-named (t .ledger .programs) (F .fit .programs)) in
+    let same : packed (unpacked s) ≡ s = ap (λ (x : List ℕ). packed (unpacked x)) (F .is) ∙ ap packed (lossless t (F .arrays) (F .fit))
+    ∙ sym (F .is) in
     and (eq-eqb (length s) packedLength long) (alike-is (packed (unpacked s)) s same)
 
 pub packed-form : (s : List ℕ) → Bytes s → (isPacked s ≡ true) ↔ Form s
 packed-form s b = (
-  λ e. record { tables = unpacked s; arrays = unpacked-arrays s (is-length s e); fit = unpacked-fits s b (is-length s e); is = sym (packed-back s e) },
+  λ e. record {
+    tables = unpacked s;
+    arrays = unpacked-arrays s (is-length s e);
+    fit = unpacked-fits s b (is-length s e);
+    is = sym (packed-back s e);
+  },
   form-packed s,
 )

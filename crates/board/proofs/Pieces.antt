@@ -47,7 +47,8 @@ module _ {A : Type 0} (pack : A → List ℕ) (w : ℕ) (xs : List A) where
   items-end h I = left-end (I .left) (ap (λ (r : List A). join (map pack r)) (drop-of-length-le xs h))
 
 -- the name of each record of an array is as long as its type says
-pub named : (xs : List Program) (us : List Val) (i : ℕ) (d : Program) → shadow (each Program (row the-type .own) xs us) → i < length xs → length ((getD xs i d) .name) ≡ 5
+pub named : (xs : List Program) (us : List Val) (i : ℕ) (d : Program) → shadow (each Program (row the-type .own) xs us) → i < length xs
+    → length ((getD xs i d) .name) ≡ 5
 named [] us i d g h = absurd (omega arith)
 named (x ∷ xs) [] i d g h = absurd g
 named (x ∷ xs) (u ∷ us) zero d g h = sym (length-map (x .name) (u8-field .into)) ∙ g .0 .1 .1 .1 .0 .1 .0 .1
@@ -63,24 +64,30 @@ program-length r h = simp length-append (omega arith)
 
 pub program-wrote : {l₀ l₁ l₂ l₃ l₄ l₅ l₆ l₇ l₈ : List ℕ} {at₀ at₁ at₂ at₃ at₄ at₅ at₆ at₇ at₈ : ℕ} (r : Program) (u k n : ℕ)
     → u ≡ hit (r .used) → k ≡ kindOf (r .why) → n ≡ countOf (r .why)
-    → Wrote l₀ at₀ (u ∷ []) l₁ at₁ → Wrote l₁ at₁ (r .name) l₂ at₂ → Wrote l₂ at₂ (inBytes 2 (r .priority)) l₃ at₃ → Wrote l₃ at₃ (r .state ∷ []) l₄ at₄
-    → Wrote l₄ at₄ (k ∷ []) l₅ at₅ → Wrote l₅ at₅ (inBytes 2 n) l₆ at₆ → Wrote l₆ at₆ (inBytes 8 (r .due)) l₇ at₇ → Wrote l₇ at₇ (inBytes 8 (r .interval)) l₈ at₈
+    → Wrote l₀ at₀ (u ∷ []) l₁ at₁ → Wrote l₁ at₁ (r .name) l₂ at₂ → Wrote l₂ at₂ (inBytes 2 (r .priority)) l₃ at₃
+    → Wrote l₃ at₃ (r .state ∷ []) l₄ at₄
+    → Wrote l₄ at₄ (k ∷ []) l₅ at₅ → Wrote l₅ at₅ (inBytes 2 n) l₆ at₆ → Wrote l₆ at₆ (inBytes 8 (r .due)) l₇ at₇
+    → Wrote l₇ at₇ (inBytes 8 (r .interval)) l₈ at₈
     → Wrote l₀ at₀ (packProgram r) l₈ at₈
 unfolding packProgram
 program-wrote r u k n eu ek en a b c d e f g h =
     wrote-as (rw (eu, ek, en) (simp (append-assoc, append-nil))) (parts-end
     (parts-step (parts-step (parts-step (parts-step (parts-step (parts-step (parts-step (parts-step (parts-start (
-    (u ∷ []) ∷ r .name ∷ inBytes 2 (r .priority) ∷ (r .state ∷ []) ∷ (k ∷ []) ∷ inBytes 2 n ∷ inBytes 8 (r .due) ∷ inBytes 8 (r .interval) ∷ []
+    (u ∷ []) ∷ r .name ∷ inBytes 2 (r .priority) ∷ (r .state ∷ []) ∷ (k ∷ []) ∷ inBytes 2 n ∷ inBytes 8 (r .due)
+    ∷ inBytes 8 (r .interval) ∷ []
     )) a) b) c) d) e) f) g) h))
 
 pub tables-wrote : {l₀ l₁ l₂ l₃ l₄ l₅ l₆ l₇ l₈ : List ℕ} {at₀ at₁ at₂ at₃ at₄ at₅ at₆ at₇ at₈ : ℕ} (t : Tables)
-    → Wrote l₀ at₀ (inBytes 8 (t .ledger .clock .ticks)) l₁ at₁ → Wrote l₁ at₁ (inBytes 2 (t .ledger .tracks .count)) l₂ at₂ → Wrote l₂ at₂ (inBytes 2 (t .ledger .tracks .system)) l₃ at₃
-    → Wrote l₃ at₃ (t .ledger .numbers .count ∷ []) l₄ at₄ → Wrote l₄ at₄ (places (t .ledger .tracks)) l₅ at₅ → Wrote l₅ at₅ (join (map packResource (t .ledger .numbers .resources))) l₆ at₆
+    → Wrote l₀ at₀ (inBytes 8 (t .ledger .clock .ticks)) l₁ at₁ → Wrote l₁ at₁ (inBytes 2 (t .ledger .tracks .count)) l₂ at₂
+    → Wrote l₂ at₂ (inBytes 2 (t .ledger .tracks .system)) l₃ at₃
+    → Wrote l₃ at₃ (t .ledger .numbers .count ∷ []) l₄ at₄ → Wrote l₄ at₄ (places (t .ledger .tracks)) l₅ at₅
+    → Wrote l₅ at₅ (join (map packResource (t .ledger .numbers .resources))) l₆ at₆
     → Wrote l₆ at₆ (t .links) l₇ at₇ → Wrote l₇ at₇ (join (map packProgram (t .ledger .programs))) l₈ at₈ → Wrote l₀ at₀ (packed t) l₈ at₈
 unfolding packed
 tables-wrote t a b c d e f g h =
     wrote-as (simp (append-assoc, append-nil)) (parts-end
     (parts-step (parts-step (parts-step (parts-step (parts-step (parts-step (parts-step (parts-step (parts-start (
-    inBytes 8 (t .ledger .clock .ticks) ∷ inBytes 2 (t .ledger .tracks .count) ∷ inBytes 2 (t .ledger .tracks .system) ∷ (t .ledger .numbers .count ∷ [])
-    ∷ places (t .ledger .tracks) ∷ join (map packResource (t .ledger .numbers .resources)) ∷ t .links ∷ join (map packProgram (t .ledger .programs)) ∷ []
+    inBytes 8 (t .ledger .clock .ticks) ∷ inBytes 2 (t .ledger .tracks .count) ∷ inBytes 2 (t .ledger .tracks .system)
+    ∷ (t .ledger .numbers .count ∷ []) ∷ places (t .ledger .tracks) ∷ join (map packResource (t .ledger .numbers .resources)) ∷ t .links
+    ∷ join (map packProgram (t .ledger .programs)) ∷ []
     )) a) b) c) d) e) f) g) h))

@@ -1,5 +1,6 @@
--- What is refused, with 2 or more, leaves what was lent but for the bytes of the answer. A line on tables in bytes changes neither these nor the page's buffer: bytes in packed form are what packing the tables that they
--- say gives, and others are never packed anew. A text that is not run leaves the buffer for its output. Assumes nothing.
+-- What is refused, with 2 or more, leaves what was lent but for the bytes of the answer. A line on tables in bytes changes neither these
+-- nor the page's buffer: bytes in packed form are what packing the tables that they say gives, and others are never packed anew. A text
+-- that is not run leaves the buffer for its output. Assumes nothing.
 use Prim.Native.Nat.{ℕ, _≤_}
 use native.Mathlib.Omega.{arith}
 use mathlib.Core.Path.{_≡_, refl, ap, subst, sym, _∙_}

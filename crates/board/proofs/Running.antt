@@ -9,6 +9,7 @@ use mathlib.Core.List.{List, [], _∷_}
 use mathlib.Core.Logic.{_⊎_, inl, inr}
 use lib.ListN.{length, take, drop}
 use lib.Seq.{slice, take-at}
+use Rattle.limits.specs.Limits.{pageRoom}
 use Rattle.text.specs.Inner.{Wrote}
 use Rattle.text.proofs.Laws.{Left, left-start, left-step, left-end, wrote-front}
 use Rattle.page.proofs.Writing.{left-as, wrote-as}
@@ -21,7 +22,7 @@ use Rattle.tables.specs.Tables.{lay, smallest}
 use Rattle.tables.specs.Calls.{Result, told, made}
 use Rattle.rules.specs.Engine.{beside, front, madeBy}
 use Rattle.page.specs.Paging.{Written}
-use Rattle.console.specs.Sheet.{bytesFor, room, lineShown, printedBytes, linesOf, printed, sheet}
+use Rattle.console.specs.Sheet.{bytesFor, lineShown, printedBytes, linesOf, printed, sheet}
 use Rattle.console.proofs.LineEnds.{LineEnd}
 use Rattle.console.proofs.OneLine.{shown-long, printed-fits}
 use Rattle.board.specs.Board.{figures, figuresLength, answering, longest, filled, ran}
@@ -34,7 +35,8 @@ pub made-smallest : (r : Outcome) → told r ≡ made 1 0 0 → r .tables ≡ sm
 unfolding madeBy
 made-smallest r e = ap (λ (x : Result). x .tables) e ∙ go (sizes 1 0 0)
   where
-    go : (b : Bool) → (cond {A = Result} b (record { number = 0; values = 0 ∷ []; tables = lay (fresh lists 1 0 0) }) (record { number = 3; values = 0 ∷ []; tables = smallest })) .tables ≡ smallest
+    go : (b : Bool) → (cond {A = Result} b (record { number = 0; values = 0 ∷ []; tables = lay (fresh lists 1 0 0) })
+        (record { number = 3; values = 0 ∷ []; tables = smallest })) .tables ≡ smallest
     go true = refl
     go false = refl
 
@@ -45,9 +47,10 @@ pub record Shows (t : Tables) (l : List ℕ) (n : ℕ) (t′ : Tables) (space : 
   pub begins : take n space ≡ bytesFor t l
   pub within : n ≤ length space
 
-module _ (t : Tables) (l space : List ℕ) (big : room ≤ length space) where
+module _ (t : Tables) (l space : List ℕ) (big : pageRoom ≤ length space) where
   pub line-printed : (r : Outcome) (n : ℕ) (space′ : List ℕ) → beside space′ (told r) ≡ lineShown t l space
-      → n ≡ printedBytes (answers.number (r .answer)) (answers.values (r .answer)) → length space′ ≡ length space → Shows t l n (r .tables) space′
+      → n ≡ printedBytes (answers.number (r .answer)) (answers.values (r .answer)) → length space′ ≡ length space
+      → Shows t l n (r .tables) space′
   line-printed r n space′ e m k =
       let w = e ∙ shown-long t l space big in
       let long : n ≡ length (bytesFor t l) = m ∙ ap (λ (x : Written). printedBytes (x .number) (x .values)) w in
@@ -67,11 +70,12 @@ rest full t ls n = cond full [] (filled t ls n)
 -- the next line begins at `from`, on tables t; `used` bytes are put, and `needed` are counted
 pub record Run (s out₀ out : List ℕ) (t : Tables) (from used needed : ℕ) (full : Bool) : Type 0 where
   pub counted : needed + length (printed t (linesOf (drop from s))) ≡ length (sheet s)
-  pub small : needed ≤ room * from
+  pub small : needed ≤ pageRoom * from
   pub fits : used ≤ length out₀
   pub left : Left out₀ 0 (filled smallest (linesOf s) (length out₀)) out used (rest full t (linesOf (drop from s)) (length out₀ - used))
 
-pub run-as : {s out₀ out out′ : List ℕ} {t : Tables} {from used used′ needed : ℕ} {full : Bool} → out ≡ out′ → used ≡ used′ → Run s out₀ out′ t from used′ needed full
+pub run-as : {s out₀ out out′ : List ℕ} {t : Tables} {from used used′ needed : ℕ} {full : Bool} → out ≡ out′ → used ≡ used′
+    → Run s out₀ out′ t from used′ needed full
     → Run s out₀ out t from used needed full
 run-as e f R = rw (e, f) R
 
@@ -87,14 +91,16 @@ run-start s out t e =
     })
 
 -- a turn of the loop: what was known, and the line that begins at `from`, ends at e, and shows as n bytes
-pub record Turn (s out₀ out : List ℕ) (t : Tables) (from used needed : ℕ) (full : Bool) (e n : ℕ) (t′ : Tables) (space : List ℕ) : Type 0 where
+pub record Turn (s out₀ out : List ℕ) (t : Tables) (from used needed : ℕ) (full : Bool) (e n : ℕ) (t′ : Tables)
+    (space : List ℕ) : Type 0 where
   pub run : Run s out₀ out t from used needed full
   pub more : from < length s
   pub ends : LineEnd s from e
   pub shows : Shows t (slice from e s) n t′ space
-  pub long : length space ≡ room
+  pub long : length space ≡ pageRoom
 
-module _ {s out₀ out : List ℕ} {t : Tables} {from used needed : ℕ} {full : Bool} {e n : ℕ} {t′ : Tables} {space : List ℕ} (T : Turn s out₀ out t from used needed full e n t′ space) where
+module _ {s out₀ out : List ℕ} {t : Tables} {from used needed : ℕ} {full : Bool} {e n : ℕ} {t′ : Tables} {space : List ℕ}
+    (T : Turn s out₀ out t from used needed full e n t′ space) where
   abbrev line : List ℕ
   line = slice from e s
 
@@ -115,7 +121,7 @@ module _ {s out₀ out : List ℕ} {t : Tables} {from used needed : ℕ} {full :
         ap (λ (x : Tables). length (printed x behind)) (T .shows .tables),
       )
 
-  pub needed-small : needed + n ≤ room * (e + 1)
+  pub needed-small : needed + n ≤ pageRoom * (e + 1)
   needed-small = let h = T .more in omega (arith, T .run .small, T .shows .within, T .long, T .ends .line (omega arith) .low)
 
   -- what was left
@@ -143,7 +149,8 @@ module _ {s out₀ out : List ℕ} {t : Tables} {from used needed : ℕ} {full :
     pub put-room : used + length (take n space) ≤ length out
     put-room = omega (arith, ap length (T .shows .begins), T .shows .long, T .run .left .same, T .run .fits)
 
-    pub run-put : (full′ : Bool) → full′ ≡ false → (out′ : List ℕ) (used′ : ℕ) → Wrote out used (take n space) out′ used′ → Run s out₀ out′ t′ (e + 1) used′ (needed + n) full′
+    pub run-put : (full′ : Bool) → full′ ≡ false → (out′ : List ℕ) (used′ : ℕ) → Wrote out used (take n space) out′ used′
+        → Run s out₀ out′ t′ (e + 1) used′ (needed + n) full′
     run-put full′ is out′ used′ w =
         let bytes = bytesFor t line in
         let m = length out₀ - used in
@@ -159,7 +166,8 @@ module _ {s out₀ out : List ℕ} {t : Tables} {from used needed : ℕ} {full :
         })
 
 -- the text is at its end: the count is that of all its output, and what is put is what fits
-module _ (s out₀ buf out : List ℕ) (t : Tables) (from used needed : ℕ) (full : Bool) (R : Run s out₀ out t from used needed full) (end : length s ≤ from) where
+module _ (s out₀ buf out : List ℕ) (t : Tables) (from used needed : ℕ) (full : Bool) (R : Run s out₀ out t from used needed full)
+    (end : length s ≤ from) where
   abbrev all : List ℕ
   all = filled smallest (linesOf s) (length out₀)
 
@@ -173,7 +181,8 @@ module _ (s out₀ buf out : List ℕ) (t : Tables) (from used needed : ℕ) (fu
       nothing true = refl
       nothing false = filled-none t (length out₀ - used)
 
-  pub run-end : (buf′ : List ℕ) (n : ℕ) → length s ≤ longest → figuresLength ≤ length buf → Wrote buf 0 (figures 0 (needed ∷ used ∷ [])) buf′ n
+  pub run-end : (buf′ : List ℕ) (n : ℕ) → length s ≤ longest → figuresLength ≤ length buf
+      → Wrote buf 0 (figures 0 (needed ∷ used ∷ [])) buf′ n
       → record { number = 0; buffer = out; answer = buf′ } ≡ ran s out₀ buf
   run-end buf′ n small enough w =
       let put = wrote-front all-put (filled-most smallest (linesOf s) (length out₀)) in

@@ -24,7 +24,8 @@ pub printed-first : (t : Tables) (l : List ℕ) (ls : List (List ℕ)) → print
 unfolding printed
 printed-first t l ls = refl
 
-pub printed-length : (t : Tables) (l : List ℕ) (ls : List (List ℕ)) → length (printed t (l ∷ ls)) ≡ length (bytesFor t l) + length (printed (after t l) ls)
+pub printed-length : (t : Tables) (l : List ℕ) (ls : List (List ℕ))
+    → length (printed t (l ∷ ls)) ≡ length (bytesFor t l) + length (printed (after t l) ls)
 printed-length t l ls = ap length (printed-first t l ls) ∙ length-append (bytesFor t l) (printed (after t l) ls)
 
 pub printed-none : (t : Tables) → length (printed t []) ≡ 0
@@ -54,7 +55,8 @@ pub filled-most : (t : Tables) (ls : List (List ℕ)) (n : ℕ) → length (fill
 filled-most t [] n = rw (filled-none t n) (omega arith)
 filled-most t (l ∷ ls) n = go (leb (length (bytesFor t l)) n) refl (filled-most (after t l) ls (n - length (bytesFor t l)))
   where
-    go : (b : Bool) → leb (length (bytesFor t l)) n ≡ b → length (filled (after t l) ls (n - length (bytesFor t l))) ≤ n - length (bytesFor t l) → length (filled t (l ∷ ls) n) ≤ n
+    go : (b : Bool) → leb (length (bytesFor t l)) n ≡ b
+        → length (filled (after t l) ls (n - length (bytesFor t l))) ≤ n - length (bytesFor t l) → length (filled t (l ∷ ls) n) ≤ n
     go true e ih =
         omega (
           arith,
@@ -85,7 +87,8 @@ module _ (s out buf : List ℕ) where
   abbrev pub by-answer : Bool → Ran
   by-answer b = elim b [ true ↦ runs put | false ↦ notRun 12 out buf ]
 
-  pub by-size : (b : Bool) → leb (length s) longest ≡ b → ran s out buf ≡ elim b [ true ↦ by-answer (leb figuresLength (length buf)) | false ↦ notRun 3 out buf ]
+  pub by-size : (b : Bool) → leb (length s) longest ≡ b
+      → ran s out buf ≡ elim b [ true ↦ by-answer (leb figuresLength (length buf)) | false ↦ notRun 3 out buf ]
   unfolding ran
   by-size b e = ap (λ (x : Bool). elim x [ true ↦ by-answer (leb figuresLength (length buf)) | false ↦ notRun 3 out buf ]) e
 

@@ -34,8 +34,8 @@ figuresLength = 48
 abbrev pub answering : ℕ → List ℕ → List ℕ → List ℕ
 answering a vs buf = cond (leb figuresLength (length buf)) (front (figures a vs) buf) buf
 
--- A text run from the smallest tables. 0, how many bytes its output has in all, and how many of them were put; 3 where the text has more than 2 ^ 48 bytes; 12 where too few bytes
--- are lent for the answer. A refusal leaves the buffer as it was.
+-- A text run from the smallest tables. 0, how many bytes its output has in all, and how many of them were put; 3 where the text has more
+-- than 2 ^ 48 bytes; 12 where too few bytes are lent for the answer. A refusal leaves the buffer as it was.
 pub record Ran : Type 0 where
   pub number : ℕ
   pub buffer : List ℕ
@@ -62,8 +62,8 @@ ran s out buf =
 unfoldable pub isPacked : List ℕ → Bool
 isPacked s = eqb (length s) packedLength && alike (packed (unpacked s)) s
 
--- A line keyed in on tables in bytes: the answer's number, the tables after it, the lent buffer, and the answer. 14, first, where the bytes are no tables or these are not sound; 12 where
--- too few bytes are lent for the answer.
+-- A line keyed in on tables in bytes: the answer's number, the tables after it, the lent buffer, and the answer. 14, first, where the bytes
+-- are no tables or these are not sound; 12 where too few bytes are lent for the answer.
 pub record Boarded : Type 0 where
   pub number : ℕ
   pub tables : List ℕ
@@ -83,7 +83,8 @@ boarded s line page buf =
     let w : Written = keyed (unpacked s) line page in
     elim (isPacked s) [
       | true ↦ elim (leb figuresLength (length buf)) [
-        | true ↦ record { number = w .number; tables = packed (w .tables); page = w .buffer; answer = answering (w .number) (w .values) buf }
+        | true ↦
+            record { number = w .number; tables = packed (w .tables); page = w .buffer; answer = answering (w .number) (w .values) buf }
         | false ↦ notBoarded (cond (sound (unpacked s)) 12 14) s page buf
       ]
       | false ↦ notBoarded 14 s page buf

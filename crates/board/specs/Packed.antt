@@ -5,6 +5,7 @@ use mathlib.Core.Bool.{cond}
 use mathlib.Core.List.{List, [], _∷_, _++_, map}
 use lib.ListN.{getD, take, drop}
 use lib.Dec.{ltb, eqb}
+use Rattle.limits.specs.Limits.{mostPrograms, mostTracks, mostNumbers}
 use Rattle.lists.specs.Lists.{hit, from, join}
 use Rattle.records.specs.declared.Program.{Program}
 use Rattle.records.specs.declared.Resource.{Resource}
@@ -89,7 +90,8 @@ packedLength = 1237
 -- clock, tracks, system's tracks, numbers; holders; resources; links; records
 unfoldable pub packed : Tables → List ℕ
 packed t =
-    inBytes 8 (t .ledger .clock .ticks) ++ inBytes 2 (t .ledger .tracks .count) ++ inBytes 2 (t .ledger .tracks .system) ++ (t .ledger .numbers .count ∷ [])
+    inBytes 8 (t .ledger .clock .ticks) ++ inBytes 2 (t .ledger .tracks .count) ++ inBytes 2 (t .ledger .tracks .system)
+    ++ (t .ledger .numbers .count ∷ [])
     ++ places (t .ledger .tracks) ++ join (map packResource (t .ledger .numbers .resources)) ++ t .links
     ++ join (map packProgram (t .ledger .programs))
 
@@ -97,10 +99,10 @@ unfoldable pub unpacked : List ℕ → Tables
 unfolding programAt
 unpacked s = record {
   ledger = record {
-    programs = map (λ i. programAt s (programsPlace + 28 * i)) (from 0 32);
+    programs = map (λ i. programAt s (programsPlace + 28 * i)) (from 0 mostPrograms);
     clock = record { ticks = figureAt 8 s 0 };
-    tracks = tableAt (figureAt 2 s 8) (figureAt 2 s 10) (take 256 (drop holdersPlace s));
-    numbers = record { count = getD s 12 0; resources = map (λ i. resourceAt s (resourcesPlace + 2 * i)) (from 0 16) };
+    tracks = tableAt (figureAt 2 s 8) (figureAt 2 s 10) (take mostTracks (drop holdersPlace s));
+    numbers = record { count = getD s 12 0; resources = map (λ i. resourceAt s (resourcesPlace + 2 * i)) (from 0 mostNumbers) };
   };
   links = take 40 (drop linksPlace s);
 }

@@ -1,39 +1,44 @@
-// The executive for callers in other languages: three functions on bytes. They trust nobody: whatever bytes they are handed, of whatever lengths, the
-// contracts say what comes back. In C, where a slice is a pointer and its length in bytes:
+// The executive for callers in other languages: three functions on bytes. They trust nobody: whatever bytes they are handed, of whatever
+// lengths, the contracts say what comes back. In C, where a slice is a pointer and its length in bytes:
 //
 //     uint64_t board_run(const uint8_t *text, size_t, uint8_t *out, size_t, uint8_t *answer, size_t);
 //     uint64_t board_ask(uint8_t *tables, size_t, const uint8_t *line, size_t, uint8_t *page, size_t, uint8_t *answer, size_t);
 //     uint64_t board_sound(const uint8_t *tables, size_t);
 //
-// What no contract can say, the caller sees to: each pointer is valid for its length, for writing too where it is not const; bytes that are lent for
-// writing overlap no others that are handed in; and nothing else writes to any of them before the call returns.
+// What no contract can say, the caller sees to: each pointer is valid for its length, for writing too where it is not const; bytes that are
+// lent for writing overlap no others that are handed in; and nothing else writes to any of them before the call returns.
 //
-// board_run and board_ask hand back the answer's number. The answer itself goes to the front of `answer`, in 48 bytes: its number and five values of
-// 8 bytes each, the lowest first. Fewer than 48 bytes are answered 12: nothing is done, and no byte is written.
+// board_run and board_ask hand back the answer's number. The answer itself goes to the front of `answer`, in 48 bytes: its number and five
+// values of 8 bytes each, the lowest first. Fewer than 48 bytes are answered 12: nothing is done, and no byte is written.
 mod pack;
 mod telling;
 
 ghost use mathlib.Core.Path.{_≡_};
 ghost use Rattle.board.specs.Board.{ran, boarded, soundly};
+use limits::PAGE_ROOM;
 use rules::Answer;
 use tables::Tables;
 
-// Runs a whole console text from the smallest tables, as `sheet` does; a line's output is put where it and all before it fit. 0, and as values how many
-// bytes the output has in all and how many were put; or 3, and `out` as it was, where the text has more than 2^48 bytes. 3 goes before 12.
+// The bytes of a text, at most.
+const LONGEST_TEXT: usize = 281474976710656;
+
+// Runs a whole console text from the smallest tables, as `sheet` does; a line's output is put where it and all before it fit.
+// 0, and as values how many bytes the output has in all and how many were put; or 3, and `out` as it was, where the text has
+// more than 2^48 bytes. 3 goes before 12.
 #[no_mangle]
 pub extern "C" fn board_run(text: &[u8], out: &mut [u8], answer: &mut [u8]) -> u64
     ensures { λ r. ⌜ record { number = r; buffer = now (out .exit); answer = now (answer .exit) }
         ≡ ran (now (text .entry)) (now (out .entry)) (now (answer .entry)) ⌝ }
 {
-    if 281474976710656 < text.len() {
+    if LONGEST_TEXT < text.len() {
         return telling::tell(answer, Answer::NotAllowed);
     }
-    if answer.len() < 48 {
+    if answer.len() < telling::FIGURES_LENGTH {
         return 12;
     }
     let first = Tables::fresh(1, 0, 0);
     let mut tables = first.tables;
-    let mut space = [0u8; 8192];
+    let mut space = [0u8; PAGE_ROOM];
     let mut from: usize = 0;
     let mut used: usize = 0;
     let mut needed: u64 = 0;
@@ -72,8 +77,8 @@ pub extern "C" fn board_sound(tables: &[u8]) -> u64
     0
 }
 
-// One console line on tables in packed form, which are replaced by those after it. The line's own answer; or 14, and every byte of tables and page as it was, where the bytes
-// are no tables in packed form or these are not sound. 14 goes before 12.
+// One console line on tables in packed form, which are replaced by those after it. The line's own answer; or 14, and every byte of tables
+// and page as it was, where the bytes are no tables in packed form or these are not sound. 14 goes before 12.
 #[no_mangle]
 pub extern "C" fn board_ask(
     tables: &mut [u8],
@@ -88,7 +93,7 @@ pub extern "C" fn board_ask(
         return telling::tell(answer, Answer::NotSound);
     }
     let t = pack::tables_at(tables);
-    if answer.len() < 48 {
+    if answer.len() < telling::FIGURES_LENGTH {
         if t.is_sound() {
             return 12;
         }

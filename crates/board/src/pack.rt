@@ -3,19 +3,35 @@ ghost use mathlib.Core.Path.{_≡_};
 ghost use Prim.Native.Nat.{_+_, _*_, _≤_};
 ghost use mathlib.Core.List.{map};
 ghost use lib.ListN.{length, take, drop};
+ghost use Rattle.limits.specs.Limits.{mostPrograms, mostTracks, mostNumbers};
 ghost use Rattle.lists.specs.Lists.{from, join};
 ghost use Rattle.text.specs.Inner.{Wrote};
 ghost use Rattle.tracks.specs.Tracks.{tableAt};
-ghost use Rattle.board.specs.Packed.{inBytes, figureAt, kindOf, countOf, whyOf, packProgram, programAt, packResource, resourceAt, packed, unpacked, programsPlace, resourcesPlace, packedLength};
+ghost use Rattle.board.specs.Packed.{inBytes, figureAt, kindOf, countOf, whyOf, packProgram, programAt, packResource, resourceAt};
+ghost use Rattle.board.specs.Packed.{packed, unpacked, holdersPlace, resourcesPlace, linksPlace, programsPlace, packedLength};
 ghost use Rattle.board.specs.Board.{isPacked};
 use clock::Clock;
 use ledger::Ledger;
+use limits::MOST_NUMBERS;
+use limits::MOST_PROGRAMS;
+use limits::MOST_TRACKS;
 use records::Numbers;
 use records::Program;
 use records::Resource;
 use records::Why;
 use tables::Tables;
 use tracks::Tracks;
+
+// Where each part of the tables stands, and how many bytes there are.
+const HOLDERS_PLACE: usize = 13;
+
+const RESOURCES_PLACE: usize = 269;
+
+const LINKS_PLACE: usize = 301;
+
+const PROGRAMS_PLACE: usize = 341;
+
+const PACKED_LENGTH: usize = 1237;
 
 // The number in two bytes at a place, the lowest first.
 fn pair_at(s: &[u8], at: usize) -> u16
@@ -73,53 +89,50 @@ fn program_at(s: &[u8], at: usize) -> Program
     }
 }
 
-fn programs_at(s: &[u8]) -> [Program; 32]
+fn programs_at(s: &[u8]) -> [Program; MOST_PROGRAMS]
     requires { ⌜ packedLength ≤ length (now s) ⌝ }
-    ensures { λ r. ⌜ r ≡ map (λ i. programAt (now (s .entry)) (programsPlace + 28 * i)) (from 0 32) ⌝ }
+    ensures { λ r. ⌜ r ≡ map (λ i. programAt (now (s .entry)) (programsPlace + 28 * i)) (from 0 mostPrograms) ⌝ }
 {
     let unused = records::unused_record();
-    let mut programs = [unused; 32];
-    let mut i: usize = 0;
-    while i < 32 {
-        programs[i] = program_at(s, 341 + 28 * i);
-        i += 1;
+    let mut programs = [unused; MOST_PROGRAMS];
+    for i in 0..MOST_PROGRAMS {
+        programs[i] = program_at(s, PROGRAMS_PLACE + 28 * i);
     }
     programs
 }
 
-fn resources_at(s: &[u8]) -> [Resource; 16]
+fn resources_at(s: &[u8]) -> [Resource; MOST_NUMBERS]
     requires { ⌜ packedLength ≤ length (now s) ⌝ }
-    ensures { λ r. ⌜ r ≡ map (λ i. resourceAt (now (s .entry)) (resourcesPlace + 2 * i)) (from 0 16) ⌝ }
+    ensures { λ r. ⌜ r ≡ map (λ i. resourceAt (now (s .entry)) (resourcesPlace + 2 * i)) (from 0 mostNumbers) ⌝ }
 {
     let free = Resource::free();
-    let mut resources = [free; 16];
-    let mut i: usize = 0;
-    while i < 16 {
-        let at = 269 + 2 * i;
+    let mut resources = [free; MOST_NUMBERS];
+    for i in 0..MOST_NUMBERS {
+        let at = RESOURCES_PLACE + 2 * i;
         resources[i] = Resource {
             owner: s[at],
             lock: s[at + 1],
         };
-        i += 1;
     }
     resources
 }
 
 fn tracks_at(s: &[u8]) -> Tracks
     requires { ⌜ packedLength ≤ length (now s) ⌝ }
-    ensures { λ r. ⌜ r ≡ tableAt (figureAt 2 (now (s .entry)) 8) (figureAt 2 (now (s .entry)) 10) (take 256 (drop 13 (now (s .entry)))) ⌝ }
+    ensures { λ r. ⌜ r ≡ tableAt (figureAt 2 (now (s .entry)) 8) (figureAt 2 (now (s .entry)) 10)
+        (take mostTracks (drop holdersPlace (now (s .entry)))) ⌝ }
 {
-    let mut holders = [0u8; 256];
-    text::put_bytes(&mut holders, 0, &s[13..269]);
+    let mut holders = [0u8; MOST_TRACKS];
+    text::put_bytes(&mut holders, 0, &s[HOLDERS_PLACE..RESOURCES_PLACE]);
     Tracks::from_places(pair_at(s, 8), pair_at(s, 10), holders)
 }
 
 fn links_at(s: &[u8]) -> [u8; 40]
     requires { ⌜ packedLength ≤ length (now s) ⌝ }
-    ensures { λ r. ⌜ r ≡ take 40 (drop 301 (now (s .entry))) ⌝ }
+    ensures { λ r. ⌜ r ≡ take 40 (drop linksPlace (now (s .entry))) ⌝ }
 {
     let mut links = [0u8; 40];
-    text::put_bytes(&mut links, 0, &s[301..341]);
+    text::put_bytes(&mut links, 0, &s[LINKS_PLACE..PROGRAMS_PLACE]);
     links
 }
 
@@ -209,31 +222,27 @@ fn put_program(buf: &mut [u8], at: usize, r: Program) -> usize
     put_long(buf, g, r.interval)
 }
 
-fn put_programs(buf: &mut [u8], at: usize, programs: [Program; 32]) -> usize
+fn put_programs(buf: &mut [u8], at: usize, programs: [Program; MOST_PROGRAMS]) -> usize
     requires { ⌜ at + 896 ≤ length (now buf) ⌝ }
     ensures { λ n. ⌜ Wrote (now (buf .entry)) at (join (map packProgram programs)) (now (buf .exit)) n ⌝ }
 {
     let mut o = at;
-    let mut i: usize = 0;
-    while i < 32 {
+    for i in 0..MOST_PROGRAMS {
         let r = programs[i];
         o = put_program(buf, o, r);
-        i += 1;
     }
     o
 }
 
-fn put_resources(buf: &mut [u8], at: usize, resources: [Resource; 16]) -> usize
+fn put_resources(buf: &mut [u8], at: usize, resources: [Resource; MOST_NUMBERS]) -> usize
     requires { ⌜ at + 32 ≤ length (now buf) ⌝ }
     ensures { λ n. ⌜ Wrote (now (buf .entry)) at (join (map packResource resources)) (now (buf .exit)) n ⌝ }
 {
     let mut o = at;
-    let mut i: usize = 0;
-    while i < 16 {
+    for i in 0..MOST_NUMBERS {
         let x = resources[i];
         let a = text::put_byte(buf, o, x.owner);
         o = text::put_byte(buf, a, x.lock);
-        i += 1;
     }
     o
 }
@@ -265,11 +274,11 @@ pub(crate) fn put_tables(buf: &mut [u8], tables: Tables) -> usize
 pub(crate) fn is_packed(s: &[u8]) -> bool
     ensures { λ r. ⌜ r ≡ isPacked (now (s .entry)) ⌝ }
 {
-    if s.len() != 1237 {
+    if s.len() != PACKED_LENGTH {
         return false;
     }
     let tables = tables_at(s);
-    let mut form = [0u8; 1237];
+    let mut form = [0u8; PACKED_LENGTH];
     put_tables(&mut form, tables);
-    text::is_word(&form, 0, 1237, s)
+    text::is_word(&form, 0, PACKED_LENGTH, s)
 }

@@ -11,6 +11,9 @@ ghost use Rattle.board.specs.Board.{figures, figuresLength, answering};
 use super::pack;
 use rules::Answer;
 
+// The bytes of an answer.
+pub(crate) const FIGURES_LENGTH: usize = 48;
+
 // The value of an answer, the day of one that is a time.
 fn first_value(answer: Answer) -> u64
     ensures { λ r. ⌜ r ≡ getD (values answer) 0 0 ⌝ }
@@ -63,7 +66,7 @@ pub(crate) fn tell(buf: &mut [u8], answer: Answer) -> u64
     ensures { λ r. ⌜ now (buf .exit) ≡ answering (number answer) (values answer) (now (buf .entry)) ⌝ }
 {
     let number = console::number_of(answer);
-    if buf.len() < 48 {
+    if buf.len() < FIGURES_LENGTH {
         return number;
     }
     put_figures(buf, answer);

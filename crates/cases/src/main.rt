@@ -1,9 +1,10 @@
-// Runs that no console script reaches: a clock near the day's end and near its ceiling, tables that are not sound, a buffer that is too short. Each is
-// made by setting a field of the tables, and then keyed in like any other.
+// Runs that no console script reaches: a clock near the day's end and near its ceiling, tables that are not sound, a buffer that is too
+// short. Each is made by setting a field of the tables, and then keyed in like any other.
 ghost use Prim.Native.Nat.{_≤_};
 ghost use lib.ListN.{length};
 use clock::Clock;
 use libc::STDOUT_FILENO;
+use limits::PAGE_ROOM;
 use rules::Answer;
 use tables::Tables;
 
@@ -16,7 +17,7 @@ fn write_front(buf: &[u8], n: usize)
 
 // Prints a line and what it comes to.
 fn show(tables: Tables, line: &[u8]) -> Tables {
-    let mut out = [0u8; 8192];
+    let mut out = [0u8; PAGE_ROOM];
     io::write_all(STDOUT_FILENO, b"> ");
     io::write_all(STDOUT_FILENO, line);
     io::write_all(STDOUT_FILENO, b"\n");

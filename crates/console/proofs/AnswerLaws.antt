@@ -17,7 +17,8 @@ use Rattle.text.proofs.Laws.{wrote-then, decimal-most}
 use Rattle.clock.specs.declared.Time.{Time}
 use Rattle.clock.specs.Clock.{partsOf}
 use Rattle.rules.specs.declared.Answer.{Answer}
-use Rattle.rules.specs.declared.Answer.the-variants.{Done, Told, Waits, NoCaller, NotAllowed, NoProgram, WrongState, NameInUse, AllUsed, NoRoom, NotHolder, NotAllocated, AtCeiling, TooShort, NotUnderstood, NotSound}
+use Rattle.rules.specs.declared.Answer.the-variants.{Done, Told, Waits, NoCaller, NotAllowed, NoProgram, WrongState, NameInUse, AllUsed}
+use Rattle.rules.specs.declared.Answer.the-variants.{NoRoom, NotHolder, NotAllocated, AtCeiling, TooShort, NotUnderstood, NotSound}
 use Rattle.rules.specs.Answers.{number, values}
 use Rattle.rules.proofs.Answer.{the-type}
 use Rattle.rules.proofs.shared.OneAnswer.{one-answer}
@@ -29,7 +30,8 @@ dot-length x y = omega (arith, length-append x (46 ∷ y))
 
 -- a time
 pub time-length : (t : Time) → length (between 46 (map decimal (partsOf t)))
-    ≡ length (decimal (t .day)) + length (decimal (t .hour)) + length (decimal (t .minute)) + length (decimal (t .second)) + length (decimal (t .hundredth)) + 4
+    ≡ length (decimal (t .day)) + length (decimal (t .hour)) + length (decimal (t .minute)) + length (decimal (t .second))
+    + length (decimal (t .hundredth)) + 4
 time-length t = simp dot-length (omega arith)
 
 -- an answer tells a time, or has one value
@@ -58,17 +60,21 @@ timeless = 0 ∷ 2 ∷ 3 ∷ 4 ∷ 5 ∷ 6 ∷ 7 ∷ 8 ∷ 9 ∷ 10 ∷ 11 ∷ 1
 
 pub no-time : (a : Answer) → OneOf timeless (tagOf the-type a) → valuesLine a ≡ decimal (single (values a))
 no-time a h =
-    elim (one-value a) [ inl e ↦ e | inr p ↦ absurd (miss timeless 1 tt (subst (λ (x : Answer). OneOf timeless (tagOf the-type x)) (p .1) h)) ]
+    elim (one-value a)
+    [ inl e ↦ e | inr p ↦ absurd (miss timeless 1 tt (subst (λ (x : Answer). OneOf timeless (tagOf the-type x)) (p .1) h)) ]
 
 -- the line for an answer, whose number is n
-pub answer-wrote : {l₀ l₁ l₂ l₃ l₄ l₅ : List ℕ} {at₀ at₁ at₂ at₃ at₄ at₅ n : ℕ} (a : Answer) → n ≡ number a → Wrote l₀ at₀ (text "answer=") l₁ at₁
-    → Wrote l₁ at₁ (decimal n) l₂ at₂ → Wrote l₂ at₂ (text ",value=") l₃ at₃ → Wrote l₃ at₃ (valuesLine a) l₄ at₄ → Wrote l₄ at₄ (10 ∷ []) l₅ at₅
+pub answer-wrote : {l₀ l₁ l₂ l₃ l₄ l₅ : List ℕ} {at₀ at₁ at₂ at₃ at₄ at₅ n : ℕ} (a : Answer) → n ≡ number a
+    → Wrote l₀ at₀ (text "answer=") l₁ at₁
+    → Wrote l₁ at₁ (decimal n) l₂ at₂ → Wrote l₂ at₂ (text ",value=") l₃ at₃ → Wrote l₃ at₃ (valuesLine a) l₄ at₄
+    → Wrote l₄ at₄ (10 ∷ []) l₅ at₅
     → Wrote l₀ at₀ (answerBytes a) l₅ at₅
 unfolding answerBytes
 answer-wrote a is p n q v e =
     let begun : List ℕ = text "answer=" ++ decimal (number a) in
     wrote-then (begun ++ text ",value=" ++ valuesLine a) (10 ∷ [])
-    (wrote-then (begun ++ text ",value=") (valuesLine a) (wrote-then begun (text ",value=") (wrote-then (text "answer=") (decimal (number a)) p (rw is at n)) q) v)
+    (wrote-then (begun ++ text ",value=") (valuesLine a)
+    (wrote-then begun (text ",value=") (wrote-then (text "answer=") (decimal (number a)) p (rw is at n)) q) v)
     e
 
 pub answer-length : (a : Answer) (n : ℕ) → n ≡ number a → length (answerBytes a) ≡ length (decimal n) + length (valuesLine a) + 15
@@ -84,7 +90,15 @@ values-room a =
       | inr p ↦
           let t = p .0 in
           let e = ap (λ (x : Answer). length (valuesLine x)) (p .1) in
-          omega (arith, time-length t, decimal-most (t .day), decimal-most (t .hour), decimal-most (t .minute), decimal-most (t .second), decimal-most (t .hundredth))
+          omega (
+            arith,
+            time-length t,
+            decimal-most (t .day),
+            decimal-most (t .hour),
+            decimal-most (t .minute),
+            decimal-most (t .second),
+            decimal-most (t .hundredth),
+          )
     ]
 
 pub answer-room : (a : Answer) → length (answerBytes a) ≤ 139

@@ -50,7 +50,8 @@ pub obeys-bad : (t : Tables) (buf : List ℕ) → obeys t buf bad ≡ beside buf
 unfolding obeys
 obeys-bad t buf = go (sound t)
   where
-    go : (b : Bool) → doing b t buf bad ≡ beside buf (elim b [ true ↦ record { number = 13; values = 0 ∷ []; tables = t } | false ↦ notSound t ])
+    go : (b : Bool)
+        → doing b t buf bad ≡ beside buf (elim b [ true ↦ record { number = 13; values = 0 ∷ []; tables = t } | false ↦ notSound t ])
     go true = refl
     go false = refl
 

@@ -35,12 +35,14 @@ blanks-left (suc n) (suc m) = let e : n - m ≡ suc n - suc m = omega arith in b
 stored : (f : List ℕ) → length f ≤ 5 → sets (replicate 5 32) 0 f ≡ padded f
 stored f h =
     let e : 0 + length f ≡ length f = omega arith in
-    sets-eq f (replicate 5 32) 0 (omega arith) ∙ ap (λ (n : ℕ). f ++ drop n (replicate 5 32)) e ∙ ap (λ (l : List ℕ). f ++ l) (blanks-left 5 (length f))
+    sets-eq f (replicate 5 32) 0 (omega arith) ∙ ap (λ (n : ℕ). f ++ drop n (replicate 5 32)) e
+    ∙ ap (λ (l : List ℕ). f ++ l) (blanks-left 5 (length f))
 
 -- what is no name
 legal-length : (l : List ℕ) → (length l ≡ 5 → ⊥) → legal l ≡ false
 legal-length [] n = refl
-legal-length (c ∷ cs) n = ap (λ (b : Bool). letter c && rest cs && b) (ne-eqb (length cs) 4 (λ e. n (omega arith))) ∙ go (letter c) (rest cs)
+legal-length (c ∷ cs) n = ap (λ (b : Bool). letter c && rest cs && b) (ne-eqb (length cs) 4 (λ e. n (omega arith)))
+    ∙ go (letter c) (rest cs)
   where
     go : (a b : Bool) → (a && b && false) ≡ false
     go true true = refl
@@ -52,7 +54,8 @@ unfolding nameOf
 name-by f a b h k = ap₂ (λ (x y : Bool). cond (x && y) (some (padded f)) none) h k
 
 pub name-long : (f : List ℕ) → 5 < length f → nameOf f ≡ none
-name-long f h = name-by f false (plain f) (legal-length (padded f) (λ e. omega (arith, length-append f (replicate (5 - length f) 32), length-replicate {A = ℕ} (5 - length f) 32))) refl
+name-long f h = name-by f false (plain f) (legal-length (padded f)
+    (λ e. omega (arith, length-append f (replicate (5 - length f) 32), length-replicate {A = ℕ} (5 - length f) 32))) refl
 
 -- the loop that stores: what is left of the field, stored over the name, gives what the whole field does over blanks
 pub record Filling (s : List ℕ) (at end : ℕ) (name : List ℕ) (i : ℕ) : Type 0 where
@@ -77,13 +80,15 @@ module _ {s : List ℕ} {at end : ℕ} {name : List ℕ} {i : ℕ} (h : Filling 
       record {
         low = omega arith;
         high = omega arith;
-        whole = ap (λ (k : ℕ). sets (set name (i - at) (getD s i 0)) k (slice (i + 1) end s)) e ∙ ap (sets name (i - at)) (sym (slice-next s i end m fits)) ∙ h .whole;
+        whole = ap (λ (k : ℕ). sets (set name (i - at) (getD s i 0)) k (slice (i + 1) end s)) e
+            ∙ ap (sets name (i - at)) (sym (slice-next s i end m fits)) ∙ h .whole;
         plainly = plain-next false m (ne-eqb (getD s i 0) 32 n);
         long = length-set name (i - at) (getD s i 0) ∙ h .long;
       }
 
   pub filling-blank : i < end → getD s i 0 ≡ 32 → nameOf (slice at end s) ≡ none
-  filling-blank m e = name-by (slice at end s) (legal (padded (slice at end s))) false refl (plain-next true m (eq-eqb (getD s i 0) 32 e)) ∙ go (legal (padded (slice at end s)))
+  filling-blank m e = name-by (slice at end s) (legal (padded (slice at end s))) false refl (plain-next true m (eq-eqb (getD s i 0) 32 e))
+      ∙ go (legal (padded (slice at end s)))
     where
       go : (a : Bool) → cond (a && false) (some (padded (slice at end s))) none ≡ none
       go true = refl
@@ -99,7 +104,8 @@ module _ {s : List ℕ} {at end : ℕ} {name : List ℕ} {i : ℕ} (h : Filling 
     pub filled-not : legal name ≡ false → nameOf (slice at end s) ≡ none
     filled-not e = name-by (slice at end s) false (plain (slice at end s)) (ap legal (sym filled) ∙ e) refl
 
-    pub filled-is : legal name ≡ true → nameOf (slice at end s) ≡ some (getD name 0 0 ∷ getD name 1 0 ∷ getD name 2 0 ∷ getD name 3 0 ∷ getD name 4 0 ∷ [])
+    pub filled-is : legal name ≡ true
+        → nameOf (slice at end s) ≡ some (getD name 0 0 ∷ getD name 1 0 ∷ getD name 2 0 ∷ getD name 3 0 ∷ getD name 4 0 ∷ [])
     filled-is e =
         name-by (slice at end s) true true (ap legal (sym filled) ∙ e) (h .plainly ∙ ap plain (slice-none s i end (omega arith)))
         ∙ ap some (sym filled ∙ five name (h .long))

@@ -1,5 +1,5 @@
--- What a line prints. A lent buffer of at least 8,192 bytes holds every page, so what a line answers does not hang on which is lent; and the page, or else the
--- answer's line, is what stands at its front.
+-- What a line prints. A lent buffer of at least 8,192 bytes holds every page, so what a line answers does not hang on which is lent; and
+-- the page, or else the answer's line, is what stands at its front.
 -- Assumes nothing.
 use Prim.Native.Nat.{ℕ, _≤_, _<_}
 use native.Mathlib.Omega.{arith}
@@ -9,6 +9,7 @@ use mathlib.Core.Bool.{Bool, true, false}
 use mathlib.Core.List.{List, [], _∷_}
 use lib.ListN.{length, drop, length-replicate, length-append, length-drop}
 use borrow.Author.Tests.{le-leb, lt-leb}
+use Rattle.limits.specs.Limits.{pageRoom}
 use Rattle.lists.proofs.Tests.{clash}
 use Rattle.text.specs.Inner.{Wrote}
 use Rattle.text.proofs.Laws.{wrote-front}
@@ -24,7 +25,7 @@ use Rattle.rules.specs.Engine.{beside, front, notSound, pagedIn, writtenIn}
 use Rattle.page.specs.Paging.{Written, paged}
 use Rattle.console.specs.Line.{Line, bad, PAGE, asks, lineOf}
 use Rattle.console.specs.Console.{keyed, keyedIn}
-use Rattle.console.specs.Sheet.{room, lent, answerLine, shown, printedBytes, lineShown}
+use Rattle.console.specs.Sheet.{lent, answerLine, shown, printedBytes, lineShown}
 use Rattle.console.specs.Inner.{valuesLine, answerBytes}
 use Rattle.rules.proofs.shared.OneAnswer.{one-answer}
 use Rattle.console.proofs.AnswerLaws.{answer-room}
@@ -72,7 +73,8 @@ line-alike : {v w : Written} → Alike v w → answerLine v ≡ answerLine w
 unfolding answerLine
 line-alike {v} h = λ i. answerLine (record { number = h .number i; values = h .values i; tables = v .tables; buffer = v .buffer })
 
-pub keyed-alike : (t : Tables) (l a b : List ℕ) → (sound t ≡ true → length (page (plain t)) ≤ length a) → (sound t ≡ true → length (page (plain t)) ≤ length b)
+pub keyed-alike : (t : Tables) (l a b : List ℕ) → (sound t ≡ true → length (page (plain t)) ≤ length a)
+    → (sound t ≡ true → length (page (plain t)) ≤ length b)
     → Alike (keyed t l a) (keyed t l b)
 unfolding keyedIn
 keyed-alike t l a b ha hb = go (sound t) refl (lineOf l)
@@ -88,14 +90,16 @@ abbrev pub printing : List ℕ → Tables → List ℕ → Written
 printing bytes t out = record { number = 0; values = length bytes ∷ []; tables = t; buffer = front bytes out }
 
 -- too few bytes are lent
-pub shown-short : (t : Tables) (l out : List ℕ) → length out < room → lineShown t l out ≡ record { number = 12; values = room ∷ []; tables = t; buffer = out }
+pub shown-short : (t : Tables) (l out : List ℕ) → length out < pageRoom
+    → lineShown t l out ≡ record { number = 12; values = pageRoom ∷ []; tables = t; buffer = out }
 unfolding lineShown
-shown-short t l out h = rw (lt-leb room (length out) h, lineShown)
+shown-short t l out h = rw (lt-leb pageRoom (length out) h, lineShown)
 
 -- enough are lent
-pub shown-long : (t : Tables) (l out : List ℕ) → room ≤ length out → lineShown t l out ≡ printing (shown (lineOf l) t (keyed t l lent)) (keyed t l lent .tables) out
+pub shown-long : (t : Tables) (l out : List ℕ) → pageRoom ≤ length out
+    → lineShown t l out ≡ printing (shown (lineOf l) t (keyed t l lent)) (keyed t l lent .tables) out
 unfolding lineShown
-shown-long t l out big = rw (le-leb room (length out) big, lineShown)
+shown-long t l out big = rw (le-leb pageRoom (length out) big, lineShown)
 
 -- a buffer that keeps its length has room for what was printed
 front-fits : (bytes out : List ℕ) → length (front bytes out) ≡ length out → length bytes ≤ length out
@@ -103,21 +107,26 @@ front-fits bytes out e = omega (arith, length-append bytes (drop (length bytes) 
 
 pub printed-fits : (t : Tables) (l out after : List ℕ) (r : Outcome) → beside after (told r) ≡ lineShown t l out → length after ≡ length out
     → printedBytes (answers.number (r .answer)) (answers.values (r .answer)) ≤ length out
-printed-fits t l out after r e same = go (decLt (length out) room)
+printed-fits t l out after r e same = go (decLt (length out) pageRoom)
   where
-    many : (w : Written) → lineShown t l out ≡ w → printedBytes (answers.number (r .answer)) (answers.values (r .answer)) ≡ printedBytes (w .number) (w .values)
+    many : (w : Written) → lineShown t l out ≡ w
+        → printedBytes (answers.number (r .answer)) (answers.values (r .answer)) ≡ printedBytes (w .number) (w .values)
     many w f = ap (λ (v : Written). printedBytes (v .number) (v .values)) (e ∙ f)
 
-    go : Dec (length out < room) → printedBytes (answers.number (r .answer)) (answers.values (r .answer)) ≤ length out
+    go : Dec (length out < pageRoom) → printedBytes (answers.number (r .answer)) (answers.values (r .answer)) ≤ length out
     go (yes h) = omega (arith, many _ (shown-short t l out h))
     go (no h) =
-        let big : room ≤ length out = omega arith in
+        let big : pageRoom ≤ length out = omega arith in
         let f = shown-long t l out big in
-        omega (arith, many _ f, front-fits (shown (lineOf l) t (keyed t l lent)) out (ap length (sym (ap (λ (v : Written). v .buffer) (e ∙ f))) ∙ same))
+        omega (
+          arith,
+          many _ f,
+          front-fits (shown (lineOf l) t (keyed t l lent)) out (ap length (sym (ap (λ (v : Written). v .buffer) (e ∙ f))) ∙ same),
+        )
 
-module _ (t : Tables) (l out : List ℕ) (big : room ≤ length out) (fits : sound t ≡ true → length (page (plain t)) ≤ room) where
+module _ (t : Tables) (l out : List ℕ) (big : pageRoom ≤ length out) (fits : sound t ≡ true → length (page (plain t)) ≤ pageRoom) where
   pub keyed-lent : Alike (keyed t l out) (keyed t l lent)
-  keyed-lent = keyed-alike t l out lent (λ e. omega (arith, fits e)) (λ e. omega (arith, fits e, length-replicate {A = ℕ} room 0))
+  keyed-lent = keyed-alike t l out lent (λ e. omega (arith, fits e)) (λ e. omega (arith, fits e, length-replicate {A = ℕ} pageRoom 0))
 
   shown-as : (bytes : List ℕ) → shown (lineOf l) t (keyed t l lent) ≡ bytes → lineShown t l out ≡ printing bytes (keyed t l out .tables) out
   shown-as bytes e = shown-long t l out big ∙ (λ i. printing (e i) (sym (keyed-lent .tables) i) out)
@@ -125,7 +134,7 @@ module _ (t : Tables) (l out : List ℕ) (big : room ≤ length out) (fits : sou
   -- PAGE on sound tables
   pub shown-page : sound t ≡ true → lineOf l ≡ PAGE → lineShown t l out ≡ printing (page (plain t)) t out
   shown-page e p =
-      let k = keyed-page t l e p lent (omega (arith, fits e, length-replicate {A = ℕ} room 0)) in
+      let k = keyed-page t l e p lent (omega (arith, fits e, length-replicate {A = ℕ} pageRoom 0)) in
       shown-long t l out big ∙ (λ i. printing (shown (p i) t (k i)) (k i .tables) out)
 
   -- any other line, and PAGE on others
@@ -150,7 +159,8 @@ module _ (t : Tables) (l out : List ℕ) (big : room ≤ length out) (fits : sou
 
     -- PAGE done
     module _ (n : ℕ) (p : lineOf l ≡ PAGE) (d : r .answer ≡ Done n) where
-      done-keyed : beside after (told r) ≡ record { number = 0; values = length (page (plain t)) ∷ []; tables = t; buffer = front (page (plain t)) out }
+      done-keyed : beside after (told r)
+          ≡ record { number = 0; values = length (page (plain t)) ∷ []; tables = t; buffer = front (page (plain t)) out }
       done-keyed = let e = done-sound n d in same ∙ keyed-page t l e p out (omega (arith, fits e))
 
       pub printed-page : beside after (told r) ≡ lineShown t l out
@@ -164,7 +174,8 @@ module _ (t : Tables) (l out : List ℕ) (big : room ≤ length out) (fits : sou
           go : (s : Bool) → sound t ≡ s → s ≡ false
           go true e =
               let k = same ∙ keyed-page t l e p out (omega (arith, fits e)) in
-              absurd (other p (length (page (plain t))) (one-answer (r .answer) (Done (length (page (plain t)))) (ap (λ (w : Written). w .number) k) (ap (λ (w : Written). w .values) k)))
+              absurd (other p (length (page (plain t))) (one-answer (r .answer) (Done (length (page (plain t))))
+              (ap (λ (w : Written). w .number) k) (ap (λ (w : Written). w .values) k)))
           go false e = refl
 
       pub printed-kept : after ≡ out

@@ -1,5 +1,7 @@
--- On any tables, what a request, PAGE or a line hands back has a number of the outline's list, and where that is a refusal, the tables and the lent buffer are those that were given.
--- A plan that is refused holds no events, and where nothing happens the tables come back themselves; 12, 13 and 14 are told where the tables are handed back.
+-- On any tables, what a request, PAGE or a line hands back has a number of the outline's list, and where that is a refusal, the tables and
+-- the lent buffer are those that were given.
+-- A plan that is refused holds no events, and where nothing happens the tables come back themselves; 12, 13 and 14 are
+-- told where the tables are handed back.
 -- Assumes nothing.
 use Prim.Native.Nat.{ℕ, _≤_}
 use native.Mathlib.Omega.{arith}

@@ -11,6 +11,7 @@ use lib.Dec.{eqb, ltb, leb}
 use lib.ListN.{length, getD, take, drop, drop-of-length-le, List·getD-eq-default}
 use lib.Seq.{slice, drop-cons}
 use borrow.Author.Tests.{ltb-true, leb-true, eq-eqb, ne-eqb}
+use Rattle.limits.specs.Limits.{longestLine}
 use Rattle.lists.specs.Lists.{upTo, alike}
 use Rattle.lists.proofs.Tests.{both, upTo-is}
 use Rattle.text.specs.Text.{text, parts}
@@ -19,7 +20,8 @@ use Rattle.text.proofs.Fields.{drop-take}
 use Rattle.text.proofs.Read.{upTo-over}
 use Rattle.console.specs.declared.words.Word.{Word}
 use Rattle.console.specs.Line.{Line, bad, Form, Entry, lookUp, execs, numbers, forms, lineOf}
-use Rattle.console.specs.Inner.{fieldsFrom, noWord, lead, rows, rowAt, requests, taking, ended, entries, keys, behind, seek, starts, startAt, Row}
+use Rattle.console.specs.Inner.{fieldsFrom, noWord, lead, rows, rowAt, requests, taking, ended, entries}
+use Rattle.console.specs.Inner.{keys, behind, seek, starts, startAt, Row}
 use Rattle.console.proofs.FieldLaws.{fields-past, fields-cut, fields-all}
 
 -- of the entries, those behind the word `last`
@@ -147,20 +149,20 @@ module _ {last : ℕ} (known : last < noWord) (s : List ℕ) (at : ℕ) where
     word-next h = there ∙ getD-within lines j (ended last (fieldsFrom s at)) bad h
 
 -- the whole line
-line-is : (s : List ℕ) (b : Bool) → upTo 1 72 (length s) ≡ b → lineOf s ≡ elim b [ true ↦ behind 0 (fieldsFrom s 0) | false ↦ bad ]
+line-is : (s : List ℕ) (b : Bool) → upTo 1 longestLine (length s) ≡ b → lineOf s ≡ elim b [ true ↦ behind 0 (fieldsFrom s 0) | false ↦ bad ]
 unfolding lineOf entries behind
 line-is s b h =
-    ap (λ (fs : List (List ℕ)). elim (upTo 1 72 (length s)) [ true ↦ behind 0 fs | false ↦ bad ]) (sym (fields-all s))
+    ap (λ (fs : List (List ℕ)). elim (upTo 1 longestLine (length s)) [ true ↦ behind 0 fs | false ↦ bad ]) (sym (fields-all s))
     ∙ ap (λ (t : Bool). elim t [ true ↦ behind 0 (fieldsFrom s 0) | false ↦ bad ]) h
 
-pub line-long : (s : List ℕ) → 72 < length s → lineOf s ≡ bad
-line-long s h = line-is s false (upTo-over 1 72 (length s) h)
+pub line-long : (s : List ℕ) → longestLine < length s → lineOf s ≡ bad
+line-long s h = line-is s false (upTo-over 1 longestLine (length s) h)
 
 -- one of no bytes has no word
-pub line-fits : (s : List ℕ) → length s ≤ 72 → lineOf s ≡ behind 0 (fieldsFrom s 0)
+pub line-fits : (s : List ℕ) → length s ≤ longestLine → lineOf s ≡ behind 0 (fieldsFrom s 0)
 unfolding lineOf parts fieldsFrom execs numbers forms entries behind
 line-fits [] h = refl
-line-fits (x ∷ s) h = line-is (x ∷ s) true (upTo-is 1 72 (length (x ∷ s)) (omega arith) h)
+line-fits (x ∷ s) h = line-is (x ∷ s) true (upTo-is 1 longestLine (length (x ∷ s)) (omega arith) h)
 
 -- what word i says where no word comes, by its row
 pub ended-as : (i : ℕ) {w : Word} {named : Bool} → w ≡ rowAt i → w .1 ≡ named → (fs : List (List ℕ))
@@ -171,14 +173,16 @@ ended-as i {w} e h fs = ap (λ (x : Word). taking (x .1) (x .2) i fs) (sym e) �
 -- The search among the words: what is left of them, from word i on, is searched in the same way.
 pub record Seeking (last : ℕ) (f : List ℕ) (i : ℕ) : Type 0 where
   pub same : seek last f rows keys ≡ i + seek last f (drop i rows) (drop i keys)
+  pub within : i ≤ noWord
 
 pub seeking-start : {last : ℕ} {f : List ℕ} → Seeking last f 0
-seeking-start = record { same = omega arith }
+seeking-start = record { same = omega arith; within = omega arith }
 
 module _ {last : ℕ} {f : List ℕ} {i : ℕ} (h : Seeking last f i) where
-  pub seeking-end : noWord ≤ i → i ≡ seek last f rows keys
+  pub seeking-end : noWord ≤ i → noWord ≡ seek last f rows keys
   unfolding rows
-  seeking-end l = omega (arith, h .same, ap (λ (rs : List Word). seek last f rs (drop i keys)) (drop-of-length-le rows {i = i} l))
+  seeking-end l =
+      omega (arith, h .same, h .within, ap (λ (rs : List Word). seek last f rs (drop i keys)) (drop-of-length-le rows {i = i} l))
 
   module _ (l : i < noWord) where
     abbrev rest : ℕ
@@ -193,7 +197,7 @@ module _ {last : ℕ} {f : List ℕ} {i : ℕ} (h : Seeking last f i) where
     pub seeking-other : rowAt i .0 ≢ last → Seeking last f (i + 1)
     seeking-other n =
         let e = seeking-cut ∙ ap (λ (t : Bool). cond (t && alike f (getD keys i [])) 0 (suc rest)) (ne-eqb (rowAt i .0) last n) in
-        record { same = omega (arith, h .same, e) }
+        record { same = omega (arith, h .same, e); within = omega arith }
 
     -- a word behind the last: it stands in the row, and is the field or not
     module _ (here : rowAt i .0 ≡ last) {words : List ℕ} (R : Row words) {b : Bool}
@@ -215,4 +219,5 @@ module _ {last : ℕ} {f : List ℕ} {i : ℕ} (h : Seeking last f i) where
       seeking-hit e = omega (arith, h .same, seeking-test ∙ ap (λ (t : Bool). cond t 0 (suc rest)) e)
 
       pub seeking-next : b ≡ false → Seeking last f (i + 1)
-      seeking-next e = record { same = omega (arith, h .same, seeking-test ∙ ap (λ (t : Bool). cond t 0 (suc rest)) e) }
+      seeking-next e =
+          record { same = omega (arith, h .same, seeking-test ∙ ap (λ (t : Bool). cond t 0 (suc rest)) e); within = omega arith }

@@ -1,4 +1,5 @@
--- What a line does: 14 before 13 before the rest; a refused FRESH keeps the tables given to the line; only PAGE writes to the lent buffer (OUTLINE, "Answer numbers" and "The page and the console line").
+-- What a line does: 14 before 13 before the rest; a refused FRESH keeps the tables given to the line; only PAGE writes to the lent buffer
+-- (OUTLINE, "Answer numbers" and "The page and the console line").
 -- Assumes nothing.
 use Prim.Native.Nat.{ℕ}
 use mathlib.Core.Bool.{true, false}

@@ -15,7 +15,8 @@ use Rattle.rules.specs.Answers as answers
 use Rattle.rules.specs.Engine.{beside, notSound}
 use Rattle.rules.specs.declared.Answer.{Answer}
 use Rattle.rules.specs.declared.Order.the-variants.{Ru, Ss, Go, Pr, Of}
-use Rattle.rules.specs.declared.Call.the-variants.{Exec4, Exec15, Exec5, Exec16, Exec5All, Exec6, Exec7, Exec11, Exec9, Exec10, Exec12, Alloc, Lock, Clear, Free}
+use Rattle.rules.specs.declared.Call.the-variants.{Exec4, Exec15, Exec5, Exec16, Exec5All, Exec6, Exec7, Exec11, Exec9}
+use Rattle.rules.specs.declared.Call.the-variants.{Exec10, Exec12, Alloc, Lock, Clear, Free}
 use Rattle.rules.specs.declared.Request.the-variants.{Fresh, Load, Operator, Tick, Running}
 use Rattle.tables.specs.declared.Tables.{Tables}
 use Rattle.tables.specs.Sound.{sound}
@@ -29,7 +30,8 @@ use Rattle.console.specs.declared.fields.Numbers.the-variants as numbers
 use Rattle.console.specs.declared.fields.NameField.{NameField}
 use Rattle.console.specs.declared.fields.NameField.the-variants as nameField
 use Rattle.console.specs.declared.words.Word.{Word}
-use Rattle.console.specs.Line.{Line, bad, PAGE, asks, Form, over, number, name, Entry, word, unknown, _↝_, calls, execs, numbers, forms}
+use Rattle.console.specs.Line.{Line, bad, PAGE, asks, Form, over, number, name, Entry, word}
+use Rattle.console.specs.Line.{unknown, _↝_, calls, execs, numbers, forms}
 use Rattle.console.specs.Console.{obeyed}
 
 -- what the code's commands say, in the grammar's terms
@@ -139,7 +141,8 @@ seek last f (r ∷ rs) (w ∷ ws) = cond (eqb (r .0) last && alike f w) 0 (suc (
 
 -- where each word begins in a row of all of them, with commas between; and that it does
 unfoldable pub starts : List ℕ
-starts = 0 ∷ 1 ∷ 7 ∷ 12 ∷ 15 ∷ 18 ∷ 21 ∷ 24 ∷ 27 ∷ 32 ∷ 37 ∷ 40 ∷ 45 ∷ 47 ∷ 50 ∷ 52 ∷ 55 ∷ 57 ∷ 59 ∷ 62 ∷ 64 ∷ 67 ∷ 70 ∷ 76 ∷ 81 ∷ 87 ∷ 92 ∷ 94 ∷ 96 ∷ 100 ∷ []
+starts = 0 ∷ 1 ∷ 7 ∷ 12 ∷ 15 ∷ 18 ∷ 21 ∷ 24 ∷ 27 ∷ 32 ∷ 37 ∷ 40 ∷ 45 ∷ 47 ∷ 50 ∷ 52 ∷ 55 ∷ 57 ∷ 59 ∷ 62 ∷ 64 ∷ 67 ∷ 70 ∷ 76 ∷ 81 ∷ 87 ∷ 92
+    ∷ 94 ∷ 96 ∷ 100 ∷ []
 
 abbrev pub startAt : ℕ → ℕ
 startAt i = getD starts i 0

@@ -1,4 +1,5 @@
--- The console line: 1 to 72 bytes, words joined by commas (OUTLINE, "The page and the console line"). A wrong word, field count or field form is not understood.
+-- The console line: 1 to 72 bytes, words joined by commas (OUTLINE, "The page and the console line"). A wrong word, field
+-- count or field form is not understood.
 -- Assumes nothing.
 use Prim.Native.Nat.{ℕ}
 use Prim.Native.String.{String}
@@ -6,10 +7,12 @@ use mathlib.Core.Bool.{true, false}
 use mathlib.Core.List.{List, [], _∷_}
 use mathlib.Core.Option.{none, some}
 use lib.ListN.{length}
+use Rattle.limits.specs.Limits.{longestLine}
 use Rattle.lists.specs.Lists.{upTo, alike}
 use Rattle.text.specs.Text.{text, numberOf, parts}
 use Rattle.records.specs.Names.{nameOf}
-use Rattle.rules.specs.Requests.{RU, SS, GO, PR, OF, Call, EXEC4, EXEC15, EXEC5, EXEC16, EXEC5ALL, EXEC6, EXEC7, EXEC11, EXEC9, EXEC10, EXEC12, ALLOC, LOCK, CLEAR, FREE, Request, FRESH, LOAD, operator, TICK, running}
+use Rattle.rules.specs.Requests.{RU, SS, GO, PR, OF, Call, EXEC4, EXEC15, EXEC5, EXEC16, EXEC5ALL, EXEC6, EXEC7, EXEC11, EXEC9, EXEC10}
+use Rattle.rules.specs.Requests.{EXEC12, ALLOC, LOCK, CLEAR, FREE, Request, FRESH, LOAD, operator, TICK, running}
 
 -- what a line says
 pub data Line : Type 0 where
@@ -101,4 +104,4 @@ forms =
 -- a line of bytes
 unfoldable pub lineOf : List ℕ → Line
 unfolding forms
-lineOf s = elim (upTo 1 72 (length s)) [ true ↦ word forms unknown (parts 44 s) | false ↦ bad ]
+lineOf s = elim (upTo 1 longestLine (length s)) [ true ↦ word forms unknown (parts 44 s) | false ↦ bad ]

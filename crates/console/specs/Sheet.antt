@@ -5,6 +5,7 @@ use mathlib.Core.Bool.{true, false, cond, _&&_}
 use mathlib.Core.List.{List, [], _∷_, _++_, map}
 use lib.ListN.{length, getD, drop, replicate}
 use lib.Dec.{leb, eqb}
+use Rattle.limits.specs.Limits.{pageRoom}
 use Rattle.text.specs.Text.{text, decimal, between, parts}
 use Rattle.tables.specs.declared.Tables.{Tables}
 use Rattle.tables.specs.Tables.{plain, smallest}
@@ -15,11 +16,8 @@ use Rattle.console.specs.Line.{Line, bad, PAGE, asks, lineOf}
 use Rattle.console.specs.Console.{keyed}
 
 -- a buffer that no page is longer than
-abbrev pub room : ℕ
-room = 8192
-
 abbrev pub lent : List ℕ
-lent = replicate room 0
+lent = replicate pageRoom 0
 
 -- `answer=a,value=v`, the parts of a time joined by dots
 unfoldable pub answerLine : Written → List ℕ
@@ -35,12 +33,14 @@ shown (asks q) t r = answerLine r
 abbrev pub bytesFor : Tables → List ℕ → List ℕ
 bytesFor t l = shown (lineOf l) t (keyed t l lent)
 
--- What a line prints, at the front of a lent buffer: 0, and how many bytes; or 12, and the bytes needed, where fewer than 8,192 are lent: then nothing is done.
+-- What a line prints, at the front of a lent buffer: 0, and how many bytes; or 12, and the bytes needed, where fewer than
+-- 8,192 are lent: then nothing is done.
 unfoldable pub lineShown : Tables → List ℕ → List ℕ → Written
 lineShown t l out =
-    elim (leb room (length out)) [
-      | true ↦ record { number = 0; values = length (bytesFor t l) ∷ []; tables = keyed t l lent .tables; buffer = front (bytesFor t l) out }
-      | false ↦ record { number = 12; values = room ∷ []; tables = t; buffer = out }
+    elim (leb pageRoom (length out)) [
+      | true ↦
+          record { number = 0; values = length (bytesFor t l) ∷ []; tables = keyed t l lent .tables; buffer = front (bytesFor t l) out }
+      | false ↦ record { number = 12; values = pageRoom ∷ []; tables = t; buffer = out }
     ]
 
 -- how many bytes those are, by the answer's number and values

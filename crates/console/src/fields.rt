@@ -1,6 +1,7 @@
 // The fields of a line. A place is where a field begins; past the line's end there is none.
 ghost use Prim.Native.Nat.{_≤_};
 ghost use lib.ListN.{length};
+ghost use Rattle.limits.specs.Limits.{longestLine};
 ghost use Rattle.console.specs.Inner.{NumbersRead, NameRead};
 use text::Number;
 
@@ -18,7 +19,7 @@ pub(crate) enum NameField {
 
 // k numbers, and no field behind them.
 pub(crate) fn read_numbers(s: &[u8], at: usize, k: usize) -> Numbers
-    requires { ⌜ length (now s) ≤ 72 ⌝ }
+    requires { ⌜ length (now s) ≤ longestLine ⌝ }
     ensures { λ r. ⌜ NumbersRead (now (s .entry)) at k r ⌝ }
 {
     if s.len() < at {
@@ -41,7 +42,7 @@ pub(crate) fn read_numbers(s: &[u8], at: usize, k: usize) -> Numbers
 }
 
 pub(crate) fn name_field(s: &[u8], at: usize) -> NameField
-    requires { ⌜ length (now s) ≤ 72 ⌝ }
+    requires { ⌜ length (now s) ≤ longestLine ⌝ }
     ensures { λ r. ⌜ NameRead (now (s .entry)) at r ⌝ }
 {
     if s.len() < at {
@@ -51,15 +52,13 @@ pub(crate) fn name_field(s: &[u8], at: usize) -> NameField
     if 5 < end - at {
         return NameField::Not;
     }
-    let mut name = [32u8; 5];
-    let mut i = at;
-    while i < end {
+    let mut name = [b' '; 5];
+    for i in at..end {
         let c = s[i];
-        if c == 32 {
+        if c == b' ' {
             return NameField::Not;
         }
         name[i - at] = c;
-        i += 1;
     }
     if !records::is_legal(name) {
         return NameField::Not;

@@ -9,6 +9,7 @@ use super::Command;
 use super::Said;
 use super::answers;
 use super::parse;
+use limits::PAGE_ROOM;
 use rules::Answer;
 use tables::Outcome;
 use tables::Tables;
@@ -60,13 +61,14 @@ fn is_page(said: Said) -> bool
     }
 }
 
-// What a line prints, at the front of a lent buffer of at least 8,192 bytes: the line for its answer, or for PAGE the page; and how many bytes that is.
+// What a line prints, at the front of a lent buffer of at least 8,192 bytes: the line for its answer, or for PAGE
+// the page; and how many bytes that is.
 pub fn print_line(tables: Tables, line: &[u8], out: &mut [u8]) -> Outcome
     ensures { λ r. ⌜ beside (now (out .exit)) (told r) ≡ lineShown tables (now (line .entry)) (now (out .entry)) ⌝ }
 {
-    if out.len() < 8192 {
+    if out.len() < PAGE_ROOM {
         return Outcome {
-            answer: Answer::TooShort(8192),
+            answer: Answer::TooShort(PAGE_ROOM as u64),
             tables: tables,
         };
     }

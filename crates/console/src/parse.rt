@@ -2,6 +2,7 @@
 ghost use mathlib.Core.Path.{_≡_};
 ghost use Prim.Native.Nat.{_≤_, _<_};
 ghost use lib.ListN.{length};
+ghost use Rattle.limits.specs.Limits.{longestLine};
 ghost use Rattle.console.specs.Line.{bad, lineOf};
 ghost use Rattle.console.specs.Inner.{noWord, fieldsFrom, counted, request, ended, says};
 use super::Command;
@@ -10,19 +11,20 @@ use super::fields;
 use super::fields::NameField;
 use super::fields::Numbers;
 use super::words;
+use limits::LONGEST_LINE;
 
 fn not_said() -> Command
     ensures { λ r. ⌜ says r ≡ bad ⌝ }
 {
     Command {
-        name: [32; 5],
+        name: [b' '; 5],
         said: Said::Bad,
     }
 }
 
 // Behind word `last` and a name the line ends with k numbers.
 fn with_numbers(s: &[u8], at: usize, last: usize, name: [u8; 5], k: usize) -> Command
-    requires { ⌜ length (now s) ≤ 72 ⌝ }
+    requires { ⌜ length (now s) ≤ longestLine ⌝ }
     requires { ⌜ last < noWord ⌝ }
     ensures { λ r. ⌜ says r ≡ counted k (request last name) (fieldsFrom (now (s .entry)) at) ⌝ }
 {
@@ -37,7 +39,7 @@ fn with_numbers(s: &[u8], at: usize, last: usize, name: [u8; 5], k: usize) -> Co
 
 // Behind word `last` there is no other.
 fn end_of(s: &[u8], at: usize, last: usize) -> Command
-    requires { ⌜ length (now s) ≤ 72 ⌝ }
+    requires { ⌜ length (now s) ≤ longestLine ⌝ }
     requires { ⌜ last < noWord ⌝ }
     ensures { λ r. ⌜ says r ≡ ended last (fieldsFrom (now (s .entry)) at) ⌝ }
 {
@@ -48,14 +50,14 @@ fn end_of(s: &[u8], at: usize, last: usize) -> Command
         };
         return with_numbers(s, next, last, [a, b, c, d, e], word.2 as usize);
     }
-    with_numbers(s, at, last, [32; 5], word.2 as usize)
+    with_numbers(s, at, last, [b' '; 5], word.2 as usize)
 }
 
 // What a line of any bytes says: word after word is taken, as long as there is one behind the last.
 pub(crate) fn command_of(s: &[u8]) -> Command
     ensures { λ r. ⌜ says r ≡ lineOf (now (s .entry)) ⌝ }
 {
-    if 72 < s.len() {
+    if LONGEST_LINE < s.len() {
         return not_said();
     }
     let all =

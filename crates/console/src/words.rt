@@ -136,11 +136,9 @@ pub(crate) fn which(s: &[u8], at: usize, end: usize, last: usize, words: &[u8]) 
 {
     let rows = WORDS;
     let starts = STARTS;
-    let mut i = 0;
-    while i < NO_WORD {
+    for i in 0..NO_WORD {
         let word = rows[i];
         if word.0 as usize != last {
-            i += 1;
             continue;
         }
         let from = starts[i];
@@ -148,7 +146,6 @@ pub(crate) fn which(s: &[u8], at: usize, end: usize, last: usize, words: &[u8]) 
         if text::is_word(s, at, end, &words[from..to]) {
             return i;
         }
-        i += 1;
     }
-    i
+    NO_WORD
 }

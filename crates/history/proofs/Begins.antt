@@ -1,5 +1,5 @@
--- FRESH takes no tables, and when refused yields the smallest; in a run those that there were go on. So in a run every request, FRESH too, is what the tables are asked,
--- and what the replay is asked.
+-- FRESH takes no tables, and when refused yields the smallest; in a run those that there were go on. So in a run every request, FRESH too,
+-- is what the tables are asked, and what the replay is asked.
 -- Assumes nothing.
 use Prim.Native.Nat.{ℕ}
 use mathlib.Core.Path.{_≡_, refl, sym, _∙_}
@@ -23,7 +23,8 @@ use Rattle.history.proofs.Steps.{asked-planned}
 -- FRESH, where `new` makes fresh tables and b tells whether the sizes are allowed
 abbrev Begins : {F : Type 0} → F → (ℕ → ℕ → ℕ → F) → ℕ → ℕ → ℕ → Bool → Reply F
 Begins {F} t new T S R b =
-    let r : Reply F = cond b (record { number = 0; values = 0 ∷ []; tables = new T S R }) (record { number = 3; values = 0 ∷ []; tables = new 1 0 0 }) in
+    let r : Reply F =
+    cond b (record { number = 0; values = 0 ∷ []; tables = new T S R }) (record { number = 3; values = 0 ∷ []; tables = new 1 0 0 }) in
     record { number = r .number; values = r .values; tables = cond (eqb (r .number) 0) (r .tables) t }
 
 abbrev renewal : ℕ → ℕ → ℕ → Bool → Plan
@@ -36,7 +37,11 @@ linked-begins t T S R false = refl
 
 replay-begins : (n : State entries) (T S R : ℕ) (b : Bool)
     → Begins n (fresh entries) T S R b
-    ≡ record { number = numberOf (renewal T S R b); values = valuesOf (renewal T S R b); tables = play entries (eventsOf (view entries n) (renewal T S R b)) n }
+    ≡ record {
+      number = numberOf (renewal T S R b);
+      values = valuesOf (renewal T S R b);
+      tables = play entries (eventsOf (view entries n) (renewal T S R b)) n;
+    }
 unfolding need step
 replay-begins n T S R true = refl
 replay-begins n T S R false = refl

@@ -1,5 +1,7 @@
--- Demand 1 of the tables themselves: on any tables, of every call of a run, the number is of the outline's list, and where it is a refusal, the tables and the lent buffer are as they were.
--- A plan that is refused holds no events, and where nothing happens the tables come back themselves; 12, 13 and 14 are told where the tables are handed back.
+-- Demand 1 of the tables themselves: on any tables, of every call of a run, the number is of the outline's list, and where it is a refusal,
+-- the tables and the lent buffer are as they were.
+-- A plan that is refused holds no events, and where nothing happens the tables come back themselves; 12, 13 and 14 are
+-- told where the tables are handed back.
 -- Assumes nothing.
 use Prim.Native.Nat.{ℕ}
 use native.Mathlib.Omega.{arith}

@@ -1,5 +1,6 @@
--- Demand 3 of the tables themselves: from any sound tables, and from fresh ones, after any run of calls the chains are what the replay says, which keeps none, and
--- every call is told what the replay tells. Sound tables and the notes of their replay stay so under every call; all else is read off one such pair.
+-- Demand 3 of the tables themselves: from any sound tables, and from fresh ones, after any run of calls the chains are what the replay
+-- says, which keeps none, and every call is told what the replay tells. Sound tables and the notes of their replay stay so under every
+-- call; all else is read off one such pair.
 -- Assumes nothing.
 use Prim.Native.Nat.{ℕ, zero, suc, _+_, _<_}
 use native.Mathlib.Omega.{arith}
@@ -103,12 +104,15 @@ module _ (t : Tables) (n : State entries) (K : Kept t n) where
       let e : asked t q ≡ planned t (asks lists (plain t) q) = asked-planned t (K .test) q in
       rw e
       (record {
-        told = ap (λ (x : Plan). record { number = numberOf x; values = valuesOf x; tables = tt; buffer = buf }) (asks-alike (plain t) n (K .alike) q);
+        told = ap (λ (x : Plan). record { number = numberOf x; values = valuesOf x; tables = tt; buffer = buf })
+            (asks-alike (plain t) n (K .alike) q);
         answers = not-14 (numberOf (asks lists (plain t) q)) (λ i. omega (arith, answered lists (plain t) q .highest));
-        kept = kept-laid-out (eventsOf (view lists (plain t)) (asks lists (plain t) q)) (sound-after (plain t) (K .plainly) q) (after entries n q) (after-alike (plain t) n (K .alike) q);
+        kept = kept-laid-out (eventsOf (view lists (plain t)) (asks lists (plain t) q)) (sound-after (plain t) (K .plainly) q)
+            (after entries n q) (after-alike (plain t) n (K .alike) q);
       })
     where
-      kept-laid-out : (es : List Event) → Sound (play lists es (plain t)) → (m : State entries) → Alike (play lists es (plain t)) m → Kept (laid t es) m
+      kept-laid-out : (es : List Event) → Sound (play lists es (plain t)) → (m : State entries) → Alike (play lists es (plain t)) m
+          → Kept (laid t es) m
       kept-laid-out [] S m k = record { test = K .test; plainly = K .plainly; laid = K .laid; alike = k }
       kept-laid-out (e ∷ es) S m k = kept-lay (play lists (e ∷ es) (plain t)) S m k
 
@@ -124,9 +128,17 @@ module _ (t : Tables) (n : State entries) (K : Kept t n) where
       go : (b : Bool) → leb (length (page (plain t))) (length buf) ≡ b → leb (length (page (sortedOut n))) (length buf) ≡ b
           → Alongside (written t buf) (writtenIn replaying n buf)
       go true e f = rw (e, f, writtenIn)
-          (record { told = λ i. record { number = 0; values = length (same-page i) ∷ []; tables = tt; buffer = front (same-page i) buf }; answers = refl; kept = K })
+          (record {
+            told = λ i. record { number = 0; values = length (same-page i) ∷ []; tables = tt; buffer = front (same-page i) buf };
+            answers = refl;
+            kept = K;
+          })
       go false e f = rw (e, f, writtenIn)
-          (record { told = λ i. record { number = 12; values = length (same-page i) ∷ []; tables = tt; buffer = buf }; answers = refl; kept = K })
+          (record {
+            told = λ i. record { number = 12; values = length (same-page i) ∷ []; tables = tt; buffer = buf };
+            answers = refl;
+            kept = K;
+          })
 
   along-paged : (buf : List ℕ) → Alongside (paged t buf) (pagedIn replaying n buf)
   unfolding pagedIn
@@ -160,12 +172,14 @@ module _ (t : Tables) (n : State entries) (K : Kept t n) where
       go (rules.for-none f e) =
           for-none (λ p P. rw (K .alike .book) (f p P)) (planned-as (refused 2 0) e)
       go (rules.for-first p F e) =
-          for-first p (subst (λ (b : Book). First b (n .kept .entry) 1 p) (sym (K .alike .book)) F) (planned-as (call (view lists (plain t)) p c) e)
+          for-first p (subst (λ (b : Book). First b (n .kept .entry) 1 p) (sym (K .alike .book)) F)
+          (planned-as (call (view lists (plain t)) p c) e)
 
   agrees : Agrees t n
   agrees = record {
     book = sym (K .alike .book);
-    chains = λ s l h. subst (λ (b : Book). Fits b (n .kept .entry) s (getD (plain t .kept) s [])) (sym (K .alike .book)) (K .alike .fits s l h);
+    chains = λ s l h.
+        subst (λ (b : Book). Fits b (n .kept .entry) s (getD (plain t .kept) s [])) (sym (K .alike .book)) (K .alike .fits s l h);
     acts = acts-for;
   }
 
@@ -175,16 +189,21 @@ unfolding run
 run-kept [] t n K = K
 run-kept (c ∷ cs) t n K = run-kept cs (step linked t c .tables) (step replaying n c .tables) (along t n K c .kept)
 
-run-told : (cs : List Made) (t : Tables) (n : State entries) → Kept t n → map toldOf (outcomes linked t cs) ≡ map toldOf (outcomes replaying n cs)
+run-told : (cs : List Made) (t : Tables) (n : State entries) → Kept t n
+    → map toldOf (outcomes linked t cs) ≡ map toldOf (outcomes replaying n cs)
 unfolding outcomes
 run-told [] t n K = refl
-run-told (c ∷ cs) t n K = let H = along t n K c in ap₂ _∷_ (H .told) (run-told cs (step linked t c .tables) (step replaying n c .tables) (H .kept))
+run-told (c ∷ cs) t n K =
+    let H = along t n K c in
+    ap₂ _∷_ (H .told) (run-told cs (step linked t c .tables) (step replaying n c .tables) (H .kept))
 
 run-answers : (cs : List Made) (t : Tables) (n : State entries) → Kept t n
     → every (λ a. not (eqb a 14)) (map (λ (w : Handed Tables). w .number) (outcomes linked t cs)) ≡ true
 unfolding outcomes
 run-answers [] t n K = refl
-run-answers (c ∷ cs) t n K = let H = along t n K c in and (H .answers) (run-answers cs (step linked t c .tables) (step replaying n c .tables) (H .kept))
+run-answers (c ∷ cs) t n K =
+    let H = along t n K c in
+    and (H .answers) (run-answers cs (step linked t c .tables) (step replaying n c .tables) (H .kept))
 
 kept-demanded : (t : Tables) (n : State entries) → Kept t n → (cs : List Made) → Demanded t n cs
 kept-demanded t n K cs = record {

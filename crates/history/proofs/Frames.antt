@@ -1,5 +1,6 @@
--- The frame (demand 3), of any tables, sound or not: no call alters the record of a program that it does not touch, and one that may only be woken changes in state and why
--- alone. What makes no request leaves the tables; a request asked of sound tables is the rule's, which has the frame; and tables that are not sound stay as they are.
+-- The frame (demand 3), of any tables, sound or not: no call alters the record of a program that it does not touch, and one that may only
+-- be woken changes in state and why alone. What makes no request leaves the tables; a request asked of sound tables is the rule's, which
+-- has the frame; and tables that are not sound stay as they are.
 -- Assumes nothing.
 use Prim.Native.Nat.{ℕ}
 use mathlib.Core.Path.{_≡_, refl, sym, ap, _∙_, subst}
@@ -55,7 +56,8 @@ module _ (t : Tables) (A : Arrays t) (p : ℕ) (P : Known p) where
   asked-same c q a n = go (sound t) refl
     where
       go : (b : Bool) → sound t ≡ b → Same t p (asked t q .tables)
-      go true e = ap (λ (x : State lists). at (x .book) p) (after-is t A e q) ∙ rules.frame lists (plain t) q p P (λ x. n (concerns q a e x))
+      go true e = ap (λ (x : State lists). at (x .book) p) (after-is t A e q)
+          ∙ rules.frame lists (plain t) q p P (λ x. n (concerns q a e x))
       go false e = same (asked t q .tables) (asked-stays t e q)
 
   -- FRESH as a call of its own
@@ -105,10 +107,12 @@ module _ (t : Tables) (A : Arrays t) (p : ℕ) (P : Known p) where
       old T S R e = B .old T S R (subst (λ (x : Request). Asks x c) e a)
 
       go : (b : Bool) → sound t ≡ b → Stirred (before t p) (at (plain (asked t q .tables) .book) p)
-      go true e = subst (λ (x : State lists). Stirred (before t p) (at (x .book) p)) (sym (after-is t A e q)) (rules.stirred lists (plain t) q p P old (B .apart q a))
+      go true e = subst (λ (x : State lists). Stirred (before t p) (at (x .book) p)) (sym (after-is t A e q))
+          (rules.stirred lists (plain t) q p P old (B .apart q a))
       go false e = stays (same (asked t q .tables) (asked-stays t e q))
 
-  keyed-stirred : (bytes buf : List ℕ) → Bystander t (calls.line bytes buf) p → Stirred (before t p) (at (plain (keyed t bytes buf .tables) .book) p)
+  keyed-stirred : (bytes buf : List ℕ) → Bystander t (calls.line bytes buf) p
+      → Stirred (before t p) (at (plain (keyed t bytes buf .tables) .book) p)
   keyed-stirred bytes buf B = go (sound t) refl
     where
       obeyed-stirred : (l : Line) → lineOf bytes ≡ l → Stirred (before t p) (at (plain (obeyed t buf l .tables) .book) p)
@@ -118,7 +122,8 @@ module _ (t : Tables) (A : Arrays t) (p : ℕ) (P : Known p) where
 
       go : (b : Bool) → sound t ≡ b → Stirred (before t p) (at (plain (keyed t bytes buf .tables) .book) p)
       go true e =
-          subst (λ (w : Written). Stirred (before t p) (at (plain (w .tables) .book) p)) (sym (keyed-sound t e bytes buf)) (obeyed-stirred (lineOf bytes) refl)
+          subst (λ (w : Written). Stirred (before t p) (at (plain (w .tables) .book) p)) (sym (keyed-sound t e bytes buf))
+          (obeyed-stirred (lineOf bytes) refl)
       go false e = stays (same (keyed t bytes buf .tables) (keyed-stays t e bytes buf))
 
   pub stirred : (c : Made) → Bystander t c p → Stirred (before t p) (afterwards t c p)

@@ -7,6 +7,7 @@ use mathlib.Core.Bool.{true, not}
 use mathlib.Core.List.{List, [], _∷_, map}
 use lib.ListN.{getD}
 use lib.Dec.{eqb}
+use Rattle.limits.specs.Limits.{scheduled, states}
 use Rattle.lists.specs.Lists.{from, every}
 use Rattle.records.specs.declared.Program.{Program}
 use Rattle.records.specs.Records.{Known}
@@ -29,13 +30,15 @@ use Rattle.console.specs.Line as line
 use Rattle.history.specs.Runs.{Made, lentTo, step, run, outcomes}
 use Rattle.history.specs.Runs as calls
 
--- DEMAND 1, of a call c on any tables t: its number is of the outline's list; where that is a refusal, the tables and the lent buffer are afterwards as before
+-- DEMAND 1, of a call c on any tables t: its number is of the outline's list; where that is a refusal, the tables and
+-- the lent buffer are afterwards as before
 pub record Refuses (t : Tables) (c : Made) : Type 0 where
   pub listed : step linked t c .number ≤ 14
   pub tables : 2 ≤ step linked t c .number → step linked t c .tables ≡ t
   pub buffer : 2 ≤ step linked t c .number → step linked t c .buffer ≡ lentTo c
 
--- DEMAND 3. The replay of a history keeps no chain: it has the book, and when each program last entered its chain; a chain is sorted out of these whenever one is asked for. As a page shows them:
+-- DEMAND 3. The replay of a history keeps no chain: it has the book, and when each program last entered its chain; a chain is sorted out of
+-- these whenever one is asked for. As a page shows them:
 abbrev pub sortedOut : State entries → State lists
 sortedOut n = record { book = n .book; kept = [] ∷ map (sorted (n .book) (n .kept)) (from 1 6) }
 
@@ -52,15 +55,19 @@ replaying = record {
 abbrev pub toldOf : {S : Type 0} → Handed S → Handed (Unit {0})
 toldOf w = record { number = w .number; values = w .values; tables = tt; buffer = w .buffer }
 
--- a call of the running program on tables t: refused with 2 where the replay has no program scheduled; else it acts for the program that the replay has first
+-- a call of the running program on tables t: refused with 2 where the replay has no program scheduled; else it acts for
+-- the program that the replay has first
 pub data ActsFor (t : Tables) (n : State entries) (c : Call) : Type 0 where
-  for-none : ((p : ℕ) → Known p → stateOf (n .book) p ≢ 1) → asked t (running c) ≡ record { number = 2; values = 0 ∷ []; tables = t } → ActsFor t n c
-  for-first : (p : ℕ) → First (n .book) (n .kept .entry) 1 p → asked t (running c) ≡ planned t (call (view lists (plain t)) p c) → ActsFor t n c
+  for-none : ((p : ℕ) → Known p → stateOf (n .book) p ≢ scheduled)
+      → asked t (running c) ≡ record { number = 2; values = 0 ∷ []; tables = t } → ActsFor t n c
+  for-first : (p : ℕ) → First (n .book) (n .kept .entry) scheduled p → asked t (running c) ≡ planned t (call (view lists (plain t)) p c)
+      → ActsFor t n c
 
 -- tables t, and the replay n of the history that led to them
 pub record Agrees (t : Tables) (n : State entries) : Type 0 where
   pub book : plain t .book ≡ n .book  -- each program's state and priority, and the rest of the book
-  pub chains : (s : ℕ) → 1 ≤ s → s < 7 → Fits (n .book) (n .kept .entry) s (getD (plain t .kept) s [])  -- exactly the programs in that state, once each, in order
+  -- exactly the programs in that state, once each, in order
+  pub chains : (s : ℕ) → 1 ≤ s → s < states → Fits (n .book) (n .kept .entry) s (getD (plain t .kept) s [])
   pub acts : (c : Call) → ActsFor t n c
 
 -- a run of calls from tables t, and its replay from notes n
@@ -74,7 +81,8 @@ pub data Asks (q : Request) : Made → Type 0 where
   by-call : Asks q (calls.request q)
   by-line : (bytes buf : List ℕ) → lineOf bytes ≡ line.asks q → Asks q (calls.line bytes buf)
 
--- the call is an accepted FRESH, which takes no tables; or the tables are sound and it concerns program p: its caller, named in it, due at that tick, or woken by it
+-- the call is an accepted FRESH, which takes no tables; or the tables are sound and it concerns program p: its caller, named
+-- in it, due at that tick, or woken by it
 pub data Touches (t : Tables) (c : Made) (p : ℕ) : Type 0 where
   anew : (T S R : ℕ) → c ≡ calls.request (FRESH T S R) → sizes T S R ≡ true → Touches t c p
   concerns : (q : Request) → Asks q c → sound t ≡ true → Concerned (view lists (plain t)) q p → Touches t c p
@@ -86,7 +94,8 @@ before t p = at (plain t .book) p
 abbrev pub afterwards : Tables → Made → ℕ → Program
 afterwards t c p = at (plain (step linked t c .tables) .book) p
 
--- p has nothing to do with the call but that it may be woken by it: the call is no FRESH, and neither is p its caller, nor named in it, nor due at that tick
+-- p has nothing to do with the call but that it may be woken by it: the call is no FRESH, and neither is p its caller,
+-- nor named in it, nor due at that tick
 pub record Bystander (t : Tables) (c : Made) (p : ℕ) : Type 0 where
   pub old : (T S R : ℕ) → Asks (FRESH T S R) c → ⊥
   pub apart : (q : Request) → Asks q c → Party (view lists (plain t)) p q → ⊥

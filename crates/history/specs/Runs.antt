@@ -1,4 +1,5 @@
--- Runs of calls on an engine: requests, PAGE with any buffer, console lines of any bytes (demand 3). Each step is the definition that the call's contract cites; FRESH, which takes no tables, lets the run go on with those it had where it is refused.
+-- Runs of calls on an engine: requests, PAGE with any buffer, console lines of any bytes (demand 3). Each step is the definition that the
+-- call's contract cites; FRESH, which takes no tables, lets the run go on with those it had where it is refused.
 -- Assumes nothing.
 use Prim.Native.Nat.{ℕ}
 use mathlib.Core.Bool.{cond}

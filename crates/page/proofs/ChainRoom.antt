@@ -1,4 +1,5 @@
--- Room for the lines of the chains that are shown. A program stands in the chain of its state, once: so these chains together weigh no more than all programs.
+-- Room for the lines of the chains that are shown. A program stands in the chain of its state, once: so these chains
+-- together weigh no more than all programs.
 -- Assumes nothing.
 use Prim.Native.Nat.{ℕ, zero, suc, _+_, _*_, _<_, _≤_}
 use native.Mathlib.Omega.{arith}

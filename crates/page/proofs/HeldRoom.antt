@@ -1,5 +1,7 @@
--- Room for the lines of the held tracks. A track weighs the line of a run of its own whose holder has four bytes: two fewer than `global`, two more than a program.
--- Neighbouring runs have different holders, so a global run takes the two that it wants from the run behind it, and only the first run is left wanting.
+-- Room for the lines of the held tracks. A track weighs the line of a run of its own whose holder has four bytes: two fewer
+-- than `global`, two more than a program.
+-- Neighbouring runs have different holders, so a global run takes the two that it wants from the run behind it,
+-- and only the first run is left wanting.
 -- Assumes nothing.
 use Prim.Native.Nat.{ℕ, suc, _+_, _*_, _<_, _≤_}
 use native.Mathlib.Omega.{arith}
@@ -28,7 +30,8 @@ held-length : (g : Run) → g .holder ≢ nobody → g .holder ≢ system
     → length (bytes (heldLine g)) ≡ 8 + length (decimal (g .first)) + length (decimal (g .last)) + length (party (g .holder))
 held-length g n m = rw (held-some g n m) (simp length-append (omega arith))
 
-held-most : (g : Run) → g .holder ≤ system → length (bytes (heldLine g)) ≤ 10 + length (decimal (g .first)) + length (decimal (g .last)) + 2 * gain (g .holder)
+held-most : (g : Run) → g .holder ≤ system
+    → length (bytes (heldLine g)) ≤ 10 + length (decimal (g .first)) + length (decimal (g .last)) + 2 * gain (g .holder)
 held-most g h = go (ℕ-discrete (g .holder) nobody) (ℕ-discrete (g .holder) system)
   where
     go : Dec (g .holder ≡ nobody) → Dec (g .holder ≡ system)
@@ -102,7 +105,13 @@ joined-fits i h n (g ∷ gs) b F = go (eqb h (g .holder)) refl
     go : (t : Bool) → eqb h (g .holder) ≡ t → Fits i (suc n) (cond t (runOf i (g .last) h ∷ gs) (runOf i i h ∷ g ∷ gs))
     go true e = rw (eqb-true h (g .holder) e) (record {
       begin = omega arith;
-      room = omega (arith, lines-length (runOf i (g .last) (g .holder)) gs, lines-length g gs, held-earlier i g (omega (arith, F .begin)), F .room);
+      room = omega (
+        arith,
+        lines-length (runOf i (g .last) (g .holder)) gs,
+        lines-length g gs,
+        held-earlier i g (omega (arith, F .begin)),
+        F .room,
+      );
     })
     go false e = record {
       begin = omega arith;
@@ -111,8 +120,16 @@ joined-fits i h n (g ∷ gs) b F = go (eqb h (g .holder)) refl
 
 runs-fit : (i : ℕ) (hs : List ℕ) → ((k : ℕ) → k < length hs → getD hs k nobody ≤ system) → Fits i (length hs) (runsOf i hs)
 runs-fit i [] b = record { begin = tt; room = omega arith }
-runs-fit i (h ∷ hs) b = joined-fits i h (length hs) (runsOf (suc i) hs) (b 0 (omega arith)) (runs-fit (suc i) hs (λ k l. b (suc k) (omega arith)))
+runs-fit i (h ∷ hs) b =
+    joined-fits i h (length hs) (runsOf (suc i) hs) (b 0 (omega arith)) (runs-fit (suc i) hs (λ k l. b (suc k) (omega arith)))
 
-pub held-room : (hs : List ℕ) → length hs ≤ 256 → ((k : ℕ) → k < length hs → getD hs k nobody ≤ system) → length (bytes (heldLines hs)) ≤ 4390
+pub held-room : (hs : List ℕ) → length hs ≤ 256 → ((k : ℕ) → k < length hs → getD hs k nobody ≤ system)
+    → length (bytes (heldLines hs)) ≤ 4390
 unfolding heldLines
-held-room hs l b = omega (arith, ap length (pieces-join heldLine (runsOf 0 hs)), runs-fit 0 hs b .room, want-most (runsOf 0 hs), tracks-weigh (length hs) l)
+held-room hs l b = omega (
+  arith,
+  ap length (pieces-join heldLine (runsOf 0 hs)),
+  runs-fit 0 hs b .room,
+  want-most (runsOf 0 hs),
+  tracks-weigh (length hs) l,
+)

@@ -1,4 +1,5 @@
--- What PAGE hands back, by the paths of the code: 8,192 bytes are room for the page of sound tables, and a buffer that was long enough begins with the page.
+-- What PAGE hands back, by the paths of the code: 8,192 bytes are room for the page of sound tables, and a buffer that
+-- was long enough begins with the page.
 -- Assumes nothing.
 use Prim.Native.Nat.{ℕ, _+_, _<_, _≤_}
 use native.Mathlib.Nat.{zero-add}
@@ -9,6 +10,7 @@ use mathlib.Core.List.{List, [], _∷_}
 use lib.Dec.{leb}
 use lib.ListN.{length}
 use borrow.Author.Tests.{le-leb, lt-leb}
+use Rattle.limits.specs.Limits.{pageRoom}
 use Rattle.text.specs.Inner.{Wrote}
 use Rattle.text.proofs.Laws.{wrote-front}
 use Rattle.tables.specs.declared.Tables.{Tables}
@@ -22,7 +24,7 @@ use Rattle.page.specs.Paging.{Written, written, paged}
 use Rattle.page.specs.Inner.{CanPage}
 use Rattle.page.proofs.Room.{page-room}
 
-pub can-page : (t : Tables) (buf : List ℕ) → Arrays t → sound t ≡ true → 8192 ≤ length buf → CanPage t buf
+pub can-page : (t : Tables) (buf : List ℕ) → Arrays t → sound t ≡ true → pageRoom ≤ length buf → CanPage t buf
 can-page t buf A e h =
     let S = sound-clauses t e in
     record { tracks = S .limits .most; numbers = S .limits .few; room = omega (arith, page-room (plain t) (sound-plain t A S)) }

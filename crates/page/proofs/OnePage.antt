@@ -1,4 +1,5 @@
--- Two outcomes of PAGE, each with its buffer, that say the same are the same. So the contract of `write_page` determines answer, value, tables and buffer.
+-- Two outcomes of PAGE, each with its buffer, that say the same are the same. So the contract of `write_page`
+-- determines answer, value, tables and buffer.
 -- Assumes nothing.
 use Prim.Native.Nat.{ℕ}
 use mathlib.Core.Path.{_≡_, sym, ap, _∙_}
@@ -14,7 +15,8 @@ use Rattle.page.specs.Paging.{Written, paged}
 abbrev result : Written → Result
 result w = record { number = w .number; values = w .values; tables = w .tables }
 
-pub page-determined : (t : Tables) (buf : List ℕ) (r s : Outcome) (b c : List ℕ) → beside b (told r) ≡ paged t buf → beside c (told s) ≡ paged t buf
+pub page-determined : (t : Tables) (buf : List ℕ) (r s : Outcome) (b c : List ℕ) → beside b (told r) ≡ paged t buf
+    → beside c (told s) ≡ paged t buf
     → (r ≡ s) × (b ≡ c)
 page-determined t buf r s b c e f =
     (determined (result (paged t buf)) r s (ap result e) (ap result f), ap (λ (w : Written). w .buffer) (e ∙ sym f))

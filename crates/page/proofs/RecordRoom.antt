@@ -1,4 +1,5 @@
--- Room for the lines of the used records. Soundness bounds each value, so a record has at most 91 bytes besides its number; and the used ones are some of all.
+-- Room for the lines of the used records. Soundness bounds each value, so a record has at most 91 bytes besides its
+-- number; and the used ones are some of all.
 -- Assumes nothing.
 use Prim.Native.Nat.{ℕ, _+_, _<_, _≤_}
 use native.Mathlib.Omega.{arith}

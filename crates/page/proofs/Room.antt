@@ -1,10 +1,12 @@
--- The page of a sound state has at most 7,871 bytes: it fits 8,192, and would with ten bytes more for each of 32 records. Each part has its own bound; here they are added up.
+-- The page of a sound state has at most 7,871 bytes: it fits 8,192, and would with ten bytes more for each of 32 records. Each part has
+-- its own bound; here they are added up.
 -- Assumes nothing.
 use Prim.Native.Nat.{_≤_}
 use native.Mathlib.Omega.{arith}
 use mathlib.Core.Path.{ap}
 use mathlib.Core.List.{List}
 use lib.ListN.{length, length-append}
+use Rattle.limits.specs.Limits.{pageRoom}
 use Rattle.text.specs.Text.{text}
 use Rattle.text.proofs.Laws.{entry-length}
 use Rattle.records.specs.declared.Program.{Program}
@@ -25,7 +27,8 @@ used-length : (ps : List Program) → length (usedIn ps) ≤ 32
 unfolding usedIn all
 used-length ps = keep-length (λ p. recordAt ps p .used) all
 
-head-room : (b : Book) → Limits b → length (bytes (headLines (b .clock) (b .tracks) (b .system) (b .numbers) (length (usedIn (b .programs))))) ≤ 75
+head-room : (b : Book) → Limits b
+    → length (bytes (headLines (b .clock) (b .tracks) (b .system) (b .numbers) (length (usedIn (b .programs))))) ≤ 75
 unfolding bytes
 head-room b L = simp length-append (omega (
   arith,
@@ -45,11 +48,12 @@ page-length a S =
       head-room b (S .limits),
       record-room b (S .names) (S .whys) (S .limits) (S .dues),
       chain-room b (a .kept) (S .chains),
-      held-room (b .holders) (omega (arith, S .shape .holders, S .limits .most)) (λ i h. S .limits .holder i (omega (arith, S .shape .holders))),
+      held-room (b .holders) (omega (arith, S .shape .holders, S .limits .most))
+          (λ i h. S .limits .holder i (omega (arith, S .shape .holders))),
       number-room b (S .limits),
       ap length (bytes-line (line endKey (text "page"))),
       entry-length (text endKey) (text "page"),
     )))
 
-pub page-room : (a : State lists) → Sound a → length (page a) ≤ 8192
+pub page-room : (a : State lists) → Sound a → length (page a) ≤ pageRoom
 page-room a S = omega (arith, page-length a S)

@@ -1,5 +1,5 @@
--- Lists of numbers, weighed number by number: a list that has each number at most as often as another weighs no more, and the lines of a list's numbers are together
--- no longer than its weight, if each line is no longer than its number's.
+-- Lists of numbers, weighed number by number: a list that has each number at most as often as another weighs no more, and the lines of a
+-- list's numbers are together no longer than its weight, if each line is no longer than its number's.
 -- Assumes nothing.
 use Prim.Native.Nat.{ℕ, zero, suc, _+_, _≤_}
 use native.Mathlib.Omega.{arith}
@@ -21,7 +21,8 @@ module _ (w : ℕ → ℕ) where
   weigh-remove p [] h = absurd (omega arith)
   weigh-remove p (q ∷ qs) h = go (eqb q p) refl (weigh-remove p qs)
     where
-      go : (t : Bool) → eqb q p ≡ t → (1 ≤ count p qs → weigh w (remove p qs) + w p ≡ weigh w qs) → weigh w (cond t qs (q ∷ remove p qs)) + w p ≡ w q + weigh w qs
+      go : (t : Bool) → eqb q p ≡ t → (1 ≤ count p qs → weigh w (remove p qs) + w p ≡ weigh w qs)
+          → weigh w (cond t qs (q ∷ remove p qs)) + w p ≡ w q + weigh w qs
       go true e ih = rw (eqb-true q p e) (omega arith)
       go false e ih = omega (arith, ih (omega (arith, same-ne p q (λ d. eqb-false q p e (sym d)))))
 
@@ -45,10 +46,16 @@ module _ (w : ℕ → ℕ) where
   weigh-append [] d = omega arith
   weigh-append (x ∷ xs) d = omega (arith, weigh-append xs d)
 
-  pub lines-weigh : (line : ℕ → List ℕ) (c : List ℕ) → ((x : ℕ) → 1 ≤ count x c → length (line x) ≤ w x) → length (join (map line c)) ≤ weigh w c
+  pub lines-weigh : (line : ℕ → List ℕ) (c : List ℕ) → ((x : ℕ) → 1 ≤ count x c → length (line x) ≤ w x)
+      → length (join (map line c)) ≤ weigh w c
   lines-weigh line [] h = omega arith
   lines-weigh line (x ∷ xs) h =
-      omega (arith, length-append (line x) (join (map line xs)), h x (omega (arith, same-refl x)), lines-weigh line xs (λ y k. h y (omega arith)))
+      omega (
+        arith,
+        length-append (line x) (join (map line xs)),
+        h x (omega (arith, same-refl x)),
+        lines-weigh line xs (λ y k. h y (omega arith)),
+      )
 
 -- those that pass a test
 pub keep-length : (f : ℕ → Bool) (c : List ℕ) → length (keep f c) ≤ length c

@@ -1,4 +1,5 @@
--- How many bytes a line has, and the values in it: a number, a holder, what may be absent. A line has two bytes besides its key and its value.
+-- How many bytes a line has, and the values in it: a number, a holder, what may be absent. A line has
+-- two bytes besides its key and its value.
 -- Assumes nothing.
 use Prim.Native.Nat.{ℕ, zero, suc, _+_, _*_, _/_, _%_, _<_, _≤_}
 use Prim.Native.String.{String}
@@ -26,7 +27,8 @@ unfolding digits
 digits-rise zero m n h = omega arith
 digits-rise (suc f) m n h = go (decLt m 10) (decLt n 10) (digits-rise f (m / 10) (n / 10) (omega arith))
   where
-    go : Dec (m < 10) → Dec (n < 10) → length (digits f (m / 10)) ≤ length (digits f (n / 10)) → length (digits (suc f) m) ≤ length (digits (suc f) n)
+    go : Dec (m < 10) → Dec (n < 10) → length (digits f (m / 10)) ≤ length (digits f (n / 10))
+        → length (digits (suc f) m) ≤ length (digits (suc f) n)
     go (yes a) (yes b) ih = omega (arith, small-length f m a, small-length f n b)
     go (yes a) (no b) ih = omega (arith, small-length f m a, step-length f n (omega arith))
     go (no a) (yes b) ih = absurd (omega arith)

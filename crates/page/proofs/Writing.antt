@@ -1,4 +1,5 @@
--- Laws of the values and lines that are written: lines piece by piece, a value known by an equation, a name without its blanks, numbers joined by commas.
+-- Laws of the values and lines that are written: lines piece by piece, a value known by an equation, a name without
+-- its blanks, numbers joined by commas.
 -- Assumes nothing.
 use Prim.Native.Nat.{ℕ, suc, _+_, _≤_, _<_}
 use native.Mathlib.Omega.{arith}
@@ -91,10 +92,12 @@ held-some g n m =
 -- a resource number likewise
 abbrev pub numberPieces : ℕ → Resource → List (List ℕ)
 numberPieces r x =
-    (text numberKey ++ (61 ∷ [])) ∷ (decimal r ++ (58 ∷ [])) ∷ party (x .owner) ∷ (58 ∷ []) ∷ orDash (ltb 0 (x .lock)) (x .lock) ∷ (10 ∷ []) ∷ []
+    (text numberKey ++ (61 ∷ [])) ∷ (decimal r ++ (58 ∷ [])) ∷ party (x .owner) ∷ (58 ∷ []) ∷ orDash (ltb 0 (x .lock)) (x .lock)
+    ∷ (10 ∷ []) ∷ []
 
 abbrev numberIf : ℕ → Resource → Bool → List Line
-numberIf r x b = cond b [] (line numberKey (decimal r ++ text ":" ++ party (x .owner) ++ text ":" ++ orDash (ltb 0 (x .lock)) (x .lock)) ∷ [])
+numberIf r x b =
+    cond b [] (line numberKey (decimal r ++ text ":" ++ party (x .owner) ++ text ":" ++ orDash (ltb 0 (x .lock)) (x .lock)) ∷ [])
 
 pub number-none : (r : ℕ) (x : Resource) → x .owner ≡ 0 → bytes (numberLine r x) ≡ []
 unfolding bytes numberLine
@@ -132,14 +135,16 @@ joined-cons x (y ∷ ys) = ap (λ (r : List ℕ). decimal x ++ (44 ∷ r)) (join
 pub joined-none : (xs : List ℕ) (n : ℕ) → n ≡ 0 → between 44 (map decimal (take n xs)) ≡ []
 joined-none xs n e = rw e refl
 
-pub joined-first : (xs : List ℕ) (n : ℕ) → 0 < n → n ≤ length xs → between 44 (map decimal (take n xs)) ≡ decimal (getD xs 0 0) ++ others (slice 1 n xs)
+pub joined-first : (xs : List ℕ) (n : ℕ) → 0 < n → n ≤ length xs
+    → between 44 (map decimal (take n xs)) ≡ decimal (getD xs 0 0) ++ others (slice 1 n xs)
 joined-first xs n h k = ap (λ (r : List ℕ). between 44 (map decimal r)) (slice-cons 0 n xs 0 h k) ∙ joined-cons (getD xs 0 0) (slice 1 n xs)
 
 -- the others from the one at i on, a piece for each
 abbrev pub othersFrom : List ℕ → ℕ → ℕ → List (List ℕ)
 othersFrom xs n i = map (λ x. 44 ∷ decimal x) (slice i n xs)
 
-pub others-here : (xs : List ℕ) (i n : ℕ) → i < n → n ≤ length xs → othersFrom xs n i ≡ (44 ∷ decimal (getD xs i 0)) ∷ othersFrom xs n (i + 1)
+pub others-here : (xs : List ℕ) (i n : ℕ) → i < n → n ≤ length xs
+    → othersFrom xs n i ≡ (44 ∷ decimal (getD xs i 0)) ∷ othersFrom xs n (i + 1)
 others-here xs i n h k = rw (add-one i) (ap (map (λ x. 44 ∷ decimal x)) (slice-cons i n xs 0 h k))
 
 pub others-past : (xs : List ℕ) (i n : ℕ) → n ≤ i → n ≤ length xs → othersFrom xs n i ≡ []

@@ -3,6 +3,7 @@
 use Prim.Native.Nat.{ℕ, _≤_}
 use mathlib.Core.List.{List, _∷_, map}
 use lib.ListN.{length}
+use Rattle.limits.specs.Limits.{mostTracks, mostNumbers}
 use Rattle.lists.specs.Lists.{join}
 use Rattle.text.specs.Text.{decimal}
 use Rattle.tables.specs.declared.Tables.{Tables}
@@ -15,6 +16,6 @@ others xs = join (map (λ x. 44 ∷ decimal x) xs)
 
 -- tables whose page fits a buffer
 pub record CanPage (t : Tables) (buf : List ℕ) : Type 0 where
-  pub tracks : t .ledger .tracks .count ≤ 256
-  pub numbers : t .ledger .numbers .count ≤ 16
+  pub tracks : t .ledger .tracks .count ≤ mostTracks
+  pub numbers : t .ledger .numbers .count ≤ mostNumbers
   pub room : length (page (plain t)) ≤ length buf

@@ -6,6 +6,7 @@ use mathlib.Core.Bool.{Bool, cond, _||_}
 use mathlib.Core.List.{List, [], _∷_, _++_, map}
 use lib.ListN.{length, getD}
 use lib.Dec.{eqb, ltb}
+use Rattle.limits.specs.Limits.{scheduled, general, disc, suspended}
 use Rattle.lists.specs.Lists.{keep, from, join}
 use Rattle.text.specs.Text.{text, decimal, between, entry}
 use Rattle.records.specs.declared.Program.{Program}
@@ -53,7 +54,7 @@ endKey = "end"
 
 -- the states whose chains are shown
 abbrev pub chained : List ℕ
-chained = 1 ∷ 3 ∷ 5 ∷ 6 ∷ []
+chained = scheduled ∷ general ∷ disc ∷ suspended ∷ []
 
 -- VALUES
 -- a number that may be absent
@@ -92,7 +93,8 @@ abbrev pub recorded : ℕ → Program → List Line
 recorded p r =
     let timer : Bool = ltb 0 (r .due) in
     paired recordKeys
-    (decimal p ∷ bare (r .name) ∷ decimal (r .priority) ∷ decimal (r .state) ∷ reason (r .why) ∷ orDash timer (r .due) ∷ orDash timer (r .interval) ∷ [])
+    (decimal p ∷ bare (r .name) ∷ decimal (r .priority) ∷ decimal (r .state) ∷ reason (r .why) ∷ orDash timer (r .due)
+    ∷ orDash timer (r .interval) ∷ [])
 
 unfoldable pub recordLines : List Program → List Line
 recordLines ps = join (map (λ p. recorded p (recordAt ps p)) (usedIn ps))
@@ -126,8 +128,8 @@ numberLines n xs = join (map (λ r. numberLine r (numberAt xs r)) (from 1 n))
 abbrev pub parts : State lists → List (List Line)
 parts a =
     let b : Book = a .book in
-    headLines (b .clock) (b .tracks) (b .system) (b .numbers) (length (usedIn (b .programs))) ∷ recordLines (b .programs) ∷ chainLines (a .kept)
-    ∷ heldLines (b .holders) ∷ numberLines (b .numbers) (b .resources) ∷ (line endKey (text "page") ∷ []) ∷ []
+    headLines (b .clock) (b .tracks) (b .system) (b .numbers) (length (usedIn (b .programs))) ∷ recordLines (b .programs)
+    ∷ chainLines (a .kept) ∷ heldLines (b .holders) ∷ numberLines (b .numbers) (b .resources) ∷ (line endKey (text "page") ∷ []) ∷ []
 
 unfoldable pub lines : State lists → List Line
 lines a = join (parts a)

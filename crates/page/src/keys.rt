@@ -1,4 +1,10 @@
-// The words of a page, each in one place: the writer puts them, a reader will compare them. The keys are those of specs/Page.antt, in its order.
+// The words of a page, each in one place: the writer puts them, a reader will compare them. The keys are
+// those of specs/Page.antt, in its order.
+use limits::DISC;
+use limits::GENERAL;
+use limits::SCHEDULED;
+use limits::SUSPENDED;
+
 pub(crate) const PAGE: [u8; 4] = *b"page";
 
 pub(crate) const RTE2: [u8; 4] = *b"rte2";
@@ -40,7 +46,7 @@ pub(crate) const FOR_NUMBER: [u8; 6] = *b"number";
 pub(crate) const CHAIN: [u8; 5] = *b"chain";
 
 // The states whose chains are shown.
-pub(crate) const CHAINED: [u8; 4] = [1, 3, 5, 6];
+pub(crate) const CHAINED: [u8; 4] = [SCHEDULED, GENERAL, DISC, SUSPENDED];
 
 pub(crate) const COMMA: [u8; 1] = *b",";
 

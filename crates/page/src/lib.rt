@@ -12,6 +12,7 @@ ghost use Rattle.page.specs.Page.{page};
 ghost use Rattle.rules.specs.Engine.{beside};
 ghost use Rattle.page.specs.Paging.{paged};
 ghost use Rattle.page.specs.Inner.{CanPage};
+use limits::PAGE_ROOM;
 use rules::Answer;
 use tables::Outcome;
 use tables::Tables;
@@ -54,7 +55,7 @@ pub fn write_page(tables: Tables, buf: &mut [u8]) -> Outcome
             tables: tables,
         };
     }
-    let mut space = [0u8; 8192];
+    let mut space = [0u8; PAGE_ROOM];
     let n = put_page(&mut space, tables);
     if buf.len() < n {
         return Outcome {

@@ -1,6 +1,7 @@
 // The lines of a page, each of them for one thing.
 ghost use Prim.Native.Nat.{_+_, _≤_};
 ghost use lib.ListN.{length, take};
+ghost use Rattle.limits.specs.Limits.{mostPrograms};
 ghost use Rattle.records.specs.Names.{bare};
 ghost use Rattle.text.specs.Text.{entry};
 ghost use Rattle.text.specs.Inner.{Wrote};
@@ -82,7 +83,7 @@ pub(crate) fn put_record(buf: &mut [u8], at: usize, p: u8, program: Program) -> 
 
 // The chain of a state.
 pub(crate) fn put_chain(buf: &mut [u8], at: usize, state: u8, chain: Listing) -> usize
-    requires { ⌜ chain .len ≤ 32 ⌝ }
+    requires { ⌜ chain .len ≤ mostPrograms ⌝ }
     requires { ⌜ at + length (bytesOf (chainLine state (take (chain .len) (chain .ids)))) ≤ length (now buf) ⌝ }
     ensures { λ r. ⌜ Wrote (now (buf .entry)) at (bytesOf (chainLine state (take (chain .len) (chain .ids)))) (now (buf .exit)) r ⌝ }
 {

@@ -2,6 +2,7 @@
 ghost use Prim.Native.Nat.{_+_, _≤_};
 ghost use mathlib.Core.List.{[], _∷_, _++_, map};
 ghost use lib.ListN.{length, take};
+ghost use Rattle.limits.specs.Limits.{mostPrograms};
 ghost use Rattle.records.specs.Names.{bare};
 ghost use Rattle.text.specs.Text.{decimal, between};
 ghost use Rattle.text.specs.Inner.{Wrote};
@@ -9,6 +10,7 @@ ghost use lib.Seq.{slice};
 ghost use Rattle.page.specs.Page.{party, orDash, reason};
 ghost use Rattle.page.specs.Inner.{others};
 use super::keys;
+use limits::MOST_PROGRAMS;
 use records::Numbers;
 use records::Why;
 
@@ -18,14 +20,12 @@ pub(crate) fn put_name(buf: &mut [u8], at: usize, name: [u8; 5]) -> usize
     ensures { λ r. ⌜ Wrote (now (buf .entry)) at (bare name) (now (buf .exit)) r ⌝ }
 {
     let mut o = at;
-    let mut i: usize = 0;
-    while i < 5 {
+    for i in 0..5 {
         let c = name[i];
-        if c != 32 {
+        if c != b' ' {
             buf[o] = c;
             o += 1;
         }
-        i += 1;
     }
     o
 }
@@ -83,23 +83,21 @@ pub(crate) fn put_party(buf: &mut [u8], at: usize, h: u8) -> usize
 }
 
 // The numbers from the second to the one before `len`, a comma before each.
-fn put_others(buf: &mut [u8], at: usize, ids: [u8; 32], len: usize) -> usize
-    requires { ⌜ len ≤ 32 ⌝ }
+fn put_others(buf: &mut [u8], at: usize, ids: [u8; MOST_PROGRAMS], len: usize) -> usize
+    requires { ⌜ len ≤ mostPrograms ⌝ }
     requires { ⌜ at + length (others (slice 1 len ids)) ≤ length (now buf) ⌝ }
     ensures { λ r. ⌜ Wrote (now (buf .entry)) at (others (slice 1 len ids)) (now (buf .exit)) r ⌝ }
 {
     let mut o = at;
-    let mut i: usize = 1;
-    while i < len {
+    for i in 1..len {
         o = put_coded(buf, o, &keys::COMMA, ids[i] as u64);
-        i += 1;
     }
     o
 }
 
 // The first `len` numbers, joined by commas.
-pub(crate) fn put_joined(buf: &mut [u8], at: usize, ids: [u8; 32], len: usize) -> usize
-    requires { ⌜ len ≤ 32 ⌝ }
+pub(crate) fn put_joined(buf: &mut [u8], at: usize, ids: [u8; MOST_PROGRAMS], len: usize) -> usize
+    requires { ⌜ len ≤ mostPrograms ⌝ }
     requires { ⌜ at + length (between 44 (map decimal (take len ids))) ≤ length (now buf) ⌝ }
     ensures { λ r. ⌜ Wrote (now (buf .entry)) at (between 44 (map decimal (take len ids))) (now (buf .exit)) r ⌝ }
 {

@@ -1,4 +1,5 @@
--- What turn after turn over a block comes to, where all that was printed was written: the tables after every line that ended in the block, and the place of the one that did not.
+-- What turn after turn over a block comes to, where all that was printed was written: the tables after every line that ended in the block,
+-- and the place of the one that did not.
 -- Assumes nothing.
 use mathlib.Core.Path.{_≡_}
 use mathlib.Core.Bool.{true}

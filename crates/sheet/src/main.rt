@@ -1,12 +1,17 @@
-// The program `sheet`: reads lines from standard input and prints what each comes to, from the smallest tables on. The work on bytes is done by `blocks` and
-// `console`; here is only the order of the reads and writes.
+// The program `sheet`: reads lines from standard input and prints what each comes to, from the smallest tables on. The work on bytes is
+// done by `blocks` and `console`; here is only the order of the reads and writes.
 ghost use Prim.Native.Nat.{_<_, _≤_};
 ghost use lib.ListN.{length};
+ghost use Rattle.limits.specs.Limits.{pageRoom};
+ghost use Rattle.blocks.specs.Blocks.{most};
 ghost use Rattle.sheet.specs.Inner.{Through};
 
 mod moving;
 
 use tables::Tables;
+
+// The bytes of a block, and those of the output.
+const SPACE: usize = 65536;
 
 // The tables after the lines that end in a block, where the line begins that does not, and whether all was written.
 struct Printed {
@@ -15,10 +20,10 @@ struct Printed {
     written: bool,
 }
 
-// Prints for the lines that end in the block: turn after turn, until one prints nothing. Each turn but the last prints for a line, so there are no more turns than
-// bytes.
+// Prints for the lines that end in the block: turn after turn, until one prints nothing. Each turn but the last prints for a line,
+// so there are no more turns than bytes.
 fn print_turns(tables: Tables, block: &[u8], out: &mut [u8]) -> Printed
-    requires { ⌜ 8192 ≤ length (now out) ⌝ }
+    requires { ⌜ pageRoom ≤ length (now out) ⌝ }
     ensures { λ r. ⌜ Through tables (now (block .entry)) r ⌝ }
 {
     let mut t = tables;
@@ -58,11 +63,11 @@ fn print_last(tables: Tables, line: &[u8], out: &mut [u8]) {
     }
 }
 
-// Prints for all of the input, which is read into the block. A proved loop has to end, and nothing says that the input does: it counts down from a number that no
-// run uses up.
+// Prints for all of the input, which is read into the block. A proved loop has to end, and nothing says that the input does: it counts
+// down from a number that no run uses up.
 fn print_all(block: &mut [u8], out: &mut [u8])
-    requires { ⌜ 73 < length (now block) ⌝ }
-    requires { ⌜ 8192 ≤ length (now out) ⌝ }
+    requires { ⌜ most < length (now block) ⌝ }
+    requires { ⌜ pageRoom ≤ length (now out) ⌝ }
 {
     let first = Tables::fresh(1, 0, 0);
     let mut tables = first.tables;
@@ -90,7 +95,7 @@ fn print_all(block: &mut [u8], out: &mut [u8])
 }
 
 fn main() {
-    let mut block = [0u8; 65536];
-    let mut out = [0u8; 65536];
+    let mut block = [0u8; SPACE];
+    let mut out = [0u8; SPACE];
     print_all(&mut block, &mut out);
 }

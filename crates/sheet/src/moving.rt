@@ -1,4 +1,5 @@
-// Reads and writes that wait for the other end. A call that was interrupted, or found the other end not ready, is tried again after a short sleep.
+// Reads and writes that wait for the other end. A call that was interrupted, or found the other end not
+// ready, is tried again after a short sleep.
 ghost use Prim.Native.Nat.{_+_, _<_, _≤_};
 ghost use lib.ListN.{length};
 use libc::EAGAIN;
@@ -59,8 +60,8 @@ pub fn read_behind(block: &mut [u8], have: usize) -> Got
     }
 }
 
-// Writes the first n bytes of the output, and answers whether all went out. After a write that fails nothing more is written, so what went out is a front of
-// the whole; and so after one that takes no byte and does not fail.
+// Writes the first n bytes of the output, and answers whether all went out. After a write that fails nothing more is written, so what went
+// out is a front of the whole; and so after one that takes no byte and does not fail.
 pub fn write_front(out: &[u8], n: usize) -> bool
     requires { ⌜ n ≤ length (now out) ⌝ }
 {

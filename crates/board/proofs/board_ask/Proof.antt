@@ -1,5 +1,5 @@
--- `board_ask` meets its contract: bytes that are not in packed form, and too little room for the answer, are refused with nothing done; else the tables fill their buffer, since the
--- arrays of tables are as long as their types say. Assumes nothing.
+-- `board_ask` meets its contract: bytes that are not in packed form, and too little room for the answer, are refused with nothing done;
+-- else the tables fill their buffer, since the arrays of tables are as long as their types say. Assumes nothing.
 use mathlib.Core.Path.{_≡_, sym, _∙_}
 use mathlib.Core.Bool.{true, false}
 use lib.ListN.{length, length-map}
@@ -41,7 +41,8 @@ returns-2 c =
     let t = i .before .before in
     let e = t .before .before in
     let a = Begun e .args in
-    boarded-short (a .tables .now) (a .line .now) (a .page .now) (a .answer .now) (form e) (t .tables-at .result) true (i .before .if2 .taken) (t .tables-at .ensures)
+    boarded-short (a .tables .now) (a .line .now) (a .page .now) (a .answer .now) (form e) (t .tables-at .result) true
+    (i .before .if2 .taken) (t .tables-at .ensures)
     (sym (i .is-sound .ensures) ∙ c .if3 .taken)
 
 returns-3 : tie.Need-returns-3
@@ -50,16 +51,20 @@ returns-3 c =
     let t = i .before .before in
     let e = t .before .before in
     let a = Begun e .args in
-    boarded-short (a .tables .now) (a .line .now) (a .page .now) (a .answer .now) (form e) (t .tables-at .result) false (i .before .if2 .taken) (t .tables-at .ensures)
+    boarded-short (a .tables .now) (a .line .now) (a .page .now) (a .answer .now) (form e) (t .tables-at .result) false
+    (i .before .if2 .taken) (t .tables-at .ensures)
     (sym (i .is-sound .ensures) ∙ c .if3 .left)
 
 -- the tables after the line
 arrays : (c : tie.After-key-line) → Arrays (c .key-line .result .tables)
 arrays c = record {
-  programs = sym (length-map (c .key-line .result .tables .ledger .programs) (program.the-field .into)) ∙ c .key-line .ok .1 .1 .1 .0 .1 .1 .0 .1 .1 .0 .1 .0 .1;
+  programs = sym (length-map (c .key-line .result .tables .ledger .programs) (program.the-field .into))
+      ∙ c .key-line .ok .1 .1 .1 .0 .1 .1 .0 .1 .1 .0 .1 .0 .1;
   links = search needs;
-  holders = sym (length-map (c .key-line .result .tables .ledger .tracks .holders) (u8-field .into)) ∙ c .key-line .ok .1 .1 .1 .0 .1 .1 .0 .1 .1 .1 .1 .0 .1 .1 .1 .1 .0 .1 .0 .1;
-  resources = sym (length-map (c .key-line .result .tables .ledger .numbers .resources) (resource.the-field .into)) ∙ c .key-line .ok .1 .1 .1 .0 .1 .1 .0 .1 .1 .1 .1 .1 .0 .1 .1 .1 .0 .1 .0 .1;
+  holders = sym (length-map (c .key-line .result .tables .ledger .tracks .holders) (u8-field .into))
+      ∙ c .key-line .ok .1 .1 .1 .0 .1 .1 .0 .1 .1 .1 .1 .0 .1 .1 .1 .1 .0 .1 .0 .1;
+  resources = sym (length-map (c .key-line .result .tables .ledger .numbers .resources) (resource.the-field .into))
+      ∙ c .key-line .ok .1 .1 .1 .0 .1 .1 .0 .1 .1 .1 .1 .1 .0 .1 .1 .1 .0 .1 .0 .1;
 }
 
 long : (c : tie.After-key-line) → length (packed (c .key-line .result .tables)) ≡ packedLength
@@ -81,8 +86,10 @@ returns-4 c =
     let t = r .before in
     let e = t .before .before in
     let a = Begun e .args in
-    boarded-done (a .tables .now) (a .line .now) (a .page .now) (a .answer .now) (form e) (t .tables-at .result) (k .key-line .result) (v .put-tables .last .0)
-    (k .key-line .last .1 .1 .0) (w .tell2 .last .0) (v .put-tables .result) (w .tell2 .result) (r .if2 .left) (t .tables-at .ensures) (k .key-line .ensures) (long k)
+    boarded-done (a .tables .now) (a .line .now) (a .page .now) (a .answer .now) (form e) (t .tables-at .result) (k .key-line .result)
+    (v .put-tables .last .0)
+    (k .key-line .last .1 .1 .0) (w .tell2 .last .0) (v .put-tables .result) (w .tell2 .result) (r .if2 .left) (t .tables-at .ensures)
+    (k .key-line .ensures) (long k)
     (v .put-tables .ensures) (w .tell2 .ensures .0) (w .tell2 .ensures .1)
 
 pub board-ask-spec : {M : Type 1} → statement M

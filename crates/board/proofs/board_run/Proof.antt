@@ -1,5 +1,6 @@
--- `board_run` meets its contract. The loop's invariant: what is counted and what the lines from `from` on print is all that the text prints, and what is left to be put
--- is what of it fits the room left, or nothing once a line did not fit. The measure is the bytes left of the text. Assumes nothing.
+-- `board_run` meets its contract. The loop's invariant: what is counted and what the lines from `from` on print is all that the
+-- text prints, and what is left to be put is what of it fits the room left, or nothing once a line did not fit. The measure is the
+-- bytes left of the text. Assumes nothing.
 use Prim.Native.Nat.{ℕ, _-_, _≤_}
 use native.Mathlib.Omega.{arith}
 use mathlib.Core.Path.{_≡_, sym, ap, subst, _∙_}
@@ -10,19 +11,20 @@ use borrow.Author.Tests.{not-true, not-false}
 use lib.ListN.{length, take, drop, length-replicate}
 use lib.Seq.{slice, length-take-le}
 use borrow.Author.Needs.{needs}
+use Rattle.limits.specs.Limits.{pageRoom}
 use Rattle.lists.proofs.Tests.{clash}
 use Rattle.tables.specs.declared.Tables.{Tables}
-use Rattle.console.specs.Sheet.{room}
 use Rattle.console.proofs.LineEnds.{LineEnd, line-end, line-taken}
 use Rattle.board.proofs.Answered.{answering-not}
 use Rattle.board.proofs.Whole.{ran-over, ran-short}
-use Rattle.board.proofs.Running.{made-smallest, Shows, line-printed, Run, run-as, run-start, Turn, needed-small, run-keep, put-room, run-put, run-end}
+use Rattle.board.proofs.Running.{made-smallest, Shows, line-printed, Run, run-as, run-start, Turn}
+use Rattle.board.proofs.Running.{needed-small, run-keep, put-room, run-put, run-end}
 use Rattle.board.proofs.board_run.Statement.{statement}
 use Rattle.board.proofs.board_run.Tie as tie
 
 abbrev Inv-loop : tie.InvT-loop
 Inv-loop text out₀ answer tables₀ space₀ from₀ used₀ needed₀ is-full₀ out tables space from used needed is-full =
-    Run text out₀ out tables from used needed is-full × (length space ≡ room)
+    Run text out₀ out tables from used needed is-full × (length space ≡ pageRoom)
 
 abbrev μ-loop : tie.MeasureT-loop
 μ-loop text out₀ answer tables₀ space₀ from₀ used₀ needed₀ is-full₀ out tables space from used needed is-full = length text - from
@@ -32,20 +34,24 @@ returns c =
     let w = c .before .before in
     let h = w .before .before in
     let a = h .before .before .before .before .args in
-    (λ i. record { number = w .tell .ensures .0 i; buffer = a .out .now; answer = w .tell .ensures .1 i }) ∙ sym (ran-over (a .text .now) (a .out .now) (a .answer .now) (h .if1 .taken))
+    (λ i. record { number = w .tell .ensures .0 i; buffer = a .out .now; answer = w .tell .ensures .1 i })
+    ∙ sym (ran-over (a .text .now) (a .out .now) (a .answer .now) (h .if1 .taken))
 
 returns-2 : tie.Need-returns-2 Inv-loop μ-loop
 returns-2 c =
     let e = c .before in
     let a = e .before .before .before .before .args in
-    ap (λ (x : List ℕ). record { number = 12; buffer = a .out .now; answer = x }) (sym (answering-not 12 (0 ∷ []) (a .answer .now) (c .if2 .taken)))
+    ap (λ (x : List ℕ). record { number = 12; buffer = a .out .now; answer = x })
+    (sym (answering-not 12 (0 ∷ []) (a .answer .now) (c .if2 .taken)))
     ∙ sym (ran-short (a .text .now) (a .out .now) (a .answer .now) (e .if1 .left) (c .if2 .taken))
 
 loop-holds : tie.Need-loop-holds Inv-loop μ-loop
 loop-holds c =
     let f = c .before in
-    let a = f .before .before .before .before .before .before .args in
-    (run-start (a .text .now) (a .out .now) (f .fresh .result .tables) (made-smallest (f .fresh .result) (f .fresh .ensures)), length-replicate {A = ℕ} 8192 0)
+    let a = f .before .before .before .before .before .before .args in (
+      run-start (a .text .now) (a .out .now) (f .fresh .result .tables) (made-smallest (f .fresh .result) (f .fresh .ensures)),
+      length-replicate {A = ℕ} pageRoom 0,
+    )
 
 -- back from where a line's end was found to where its turn began, and to the start
 abbrev Turned : tie.After-line-end Inv-loop μ-loop → tie.At-loop Inv-loop μ-loop
@@ -95,24 +101,33 @@ After c = c .before .before .before .print-line .result .tables
 abbrev Space : tie.After-bytes-printed Inv-loop μ-loop → List ℕ
 Space c = c .before .before .before .print-line .last .1 .1 .0
 
-space-same : (c : tie.After-bytes-printed Inv-loop μ-loop) → length (Space c) ≡ room
+space-same : (c : tie.After-bytes-printed Inv-loop μ-loop) → length (Space c) ≡ pageRoom
 space-same c = omega (arith, Begun c .loop .inv .1)
 
 shows : (c : tie.After-bytes-printed Inv-loop μ-loop)
-    → Shows (Begun c .loop .tables) (slice (Begun c .loop .from) (Ended c .line-end .result) (S c .args .text .now)) (N c) (After c) (Space c)
+    → Shows (Begun c .loop .tables) (slice (Begun c .loop .from) (Ended c .line-end .result) (S c .args .text .now)) (N c)
+    (After c) (Space c)
 shows c =
     let l = Begun c .loop in
     let p = c .before .before .before .print-line in
     let s = S c .args .text .now in
     let e = Ended c .line-end .result in
     subst (λ (x : List ℕ). Shows (l .tables) x (N c) (After c) (Space c)) (line-taken s (l .from) e (low (Ended c)))
-    (line-printed (l .tables) (take (e - l .from) (drop (l .from) s)) (l .space) (omega (arith, l .inv .1)) (p .result) (N c) (Space c) (p .ensures) (c .bytes-printed .ensures)
+    (line-printed (l .tables) (take (e - l .from) (drop (l .from) s)) (l .space) (omega (arith, l .inv .1)) (p .result) (N c) (Space c)
+    (p .ensures) (c .bytes-printed .ensures)
     (space-same c ∙ sym (l .inv .1)))
 
 turn : (c : tie.After-bytes-printed Inv-loop μ-loop)
-    → Turn (S c .args .text .now) (S c .args .out .now) (Begun c .loop .out) (Begun c .loop .tables) (Begun c .loop .from) (Begun c .loop .used) (Begun c .loop .needed) (Begun c .loop .is-full)
+    → Turn (S c .args .text .now) (S c .args .out .now) (Begun c .loop .out) (Begun c .loop .tables) (Begun c .loop .from)
+    (Begun c .loop .used) (Begun c .loop .needed) (Begun c .loop .is-full)
     (Ended c .line-end .result) (N c) (After c) (Space c)
-turn c = record { run = Begun c .loop .inv .0; more = Ended c .before .loop-test .taken; ends = ends (Ended c); shows = shows c; long = space-same c }
+turn c = record {
+  run = Begun c .loop .inv .0;
+  more = Ended c .before .loop-test .taken;
+  ends = ends (Ended c);
+  shows = shows c;
+  long = space-same c;
+}
 
 sub-if3 : tie.Need-sub-if3 Inv-loop μ-loop
 sub-if3 c = let r = Begun c .loop .inv .0 in omega (arith, r .fits, r .left .same)
@@ -125,7 +140,8 @@ unfilled c =
       | inr w ↦ sym (w .1) ∙ not-true (c .before .if3 .is-full) (c .if4 .taken)
     ]
 
-fit : (c : tie.Then4 Inv-loop μ-loop) → N (c .before .before) ≤ length (Begun (c .before .before) .loop .out) - Begun (c .before .before) .loop .used
+fit : (c : tie.Then4 Inv-loop μ-loop)
+    → N (c .before .before) ≤ length (Begun (c .before .before) .loop .out) - Begun (c .before .before) .loop .used
 fit c =
     elim (c .before .if3 .came) [
       | inl w ↦ clash (w .1) (not-true (c .before .if3 .is-full) (c .if4 .taken))
@@ -158,10 +174,12 @@ loop-again c =
       elim (c .if4 .came) [
         | inl w ↦
             let t : tie.Then4 Inv-loop μ-loop = record { before = j; if4 = w .0 } in
-            run-as (w .6) (w .7) (run-put (turn (j .before)) (unfilled t) (fit t) full (not-true full (w .0 .taken)) (w .3 .last .0) (w .3 .result) (w .3 .ensures))
+            run-as (w .6) (w .7) (run-put (turn (j .before)) (unfilled t) (fit t) full (not-true full (w .0 .taken)) (w .3 .last .0)
+            (w .3 .result) (w .3 .ensures))
         | inr w ↦
             let is = not-false full (w .0 .left) in
-            run-as (w .1) (w .2) (run-keep (turn (j .before)) full is (elim (j .if3 .came) [ inl v ↦ inr (v .0 .taken) | inr v ↦ inl (sym (v .1) ∙ is) ]))
+            run-as (w .1) (w .2)
+            (run-keep (turn (j .before)) full is (elim (j .if3 .came) [ inl v ↦ inr (v .0 .taken) | inr v ↦ inl (sym (v .1) ∙ is) ]))
       ],
       space-same (j .before),
     )
@@ -176,7 +194,8 @@ returns-3 c =
     let l = x .before .loop in
     let h = x .before .before .before .before in
     let a = Started (x .before) .args in
-    run-end (a .text .now) (a .out .now) (a .answer .now) (l .out) (l .tables) (l .from) (l .used) (l .needed) (l .is-full) (l .inv .0) (x .loop-test .left)
+    run-end (a .text .now) (a .out .now) (a .answer .now) (l .out) (l .tables) (l .from) (l .used) (l .needed) (l .is-full) (l .inv .0)
+    (x .loop-test .left)
     (w .put-counts .last .0) (w .put-counts .result) (h .before .if1 .left) (h .if2 .left) (w .put-counts .ensures)
 
 pub board-run-spec : {M : Type 1} → statement M

@@ -25,13 +25,15 @@ returns-2 : tie.Need-returns-2
 returns-2 c =
     let t = c .before .before in
     let e = t .before in
-    soundly-is (e .before .before .before .args .tables .now) (t .tables-at .result) true (form e) (t .tables-at .ensures) (sym (c .before .is-sound .ensures) ∙ c .if2 .taken)
+    soundly-is (e .before .before .before .args .tables .now) (t .tables-at .result) true (form e) (t .tables-at .ensures)
+    (sym (c .before .is-sound .ensures) ∙ c .if2 .taken)
 
 returns-3 : tie.Need-returns-3
 returns-3 c =
     let t = c .before .before in
     let e = t .before in
-    soundly-is (e .before .before .before .args .tables .now) (t .tables-at .result) false (form e) (t .tables-at .ensures) (sym (c .before .is-sound .ensures) ∙ c .if2 .left)
+    soundly-is (e .before .before .before .args .tables .now) (t .tables-at .result) false (form e) (t .tables-at .ensures)
+    (sym (c .before .is-sound .ensures) ∙ c .if2 .left)
 
 pub board-sound-spec : {M : Type 1} → statement M
 board-sound-spec = tie.close (tie.spec (λ c κs. search needs) returns tables-at-requires (λ c κs. search needs) returns-2 returns-3)

@@ -1,4 +1,5 @@
--- `cases::touched` is safe and ends. The invariant: no more bytes are counted than were looked at. The measure is how many are left. Assumes nothing.
+-- `cases::touched` is safe and ends. The invariant: no more bytes are counted than were looked at. The measure
+-- is how many are left. Assumes nothing.
 use Prim.Native.Nat.{_≤_, _-_}
 use native.Mathlib.Omega.{arith}
 use lib.ListN.{length}

@@ -17,11 +17,14 @@ use Rattle.page.proofs.put_page.Tie as tie
 -- the parts from k on are left
 abbrev From : ℕ → List ℕ → ℕ → Type 0
 From k l at =
-    (s : tie.Start) × Todo (s .args .buf .now) 0 (page (plain (s .args .tables))) l at (drop k (pieces (λ ls. ls) (parts (plain (s .args .tables)))))
+    (s : tie.Start)
+    × Todo (s .args .buf .now) 0 (page (plain (s .args .tables))) l at (drop k (pieces (λ ls. ls) (parts (plain (s .args .tables)))))
 
 -- the head, by the number of programs
 abbrev head : tie.Start → ℕ → List ℕ
-head s n = let g = s .args .tables .ledger in bytes (headLines (g .clock .ticks) (g .tracks .count) (g .tracks .system) (g .numbers .count) n)
+head s n =
+    let g = s .args .tables .ledger in
+    bytes (headLines (g .clock .ticks) (g .tracks .count) (g .tracks .system) (g .numbers .count) n)
 
 abbrev after-0 : (s : tie.Start) → From 0 (s .args .buf .now) 0
 after-0 s =
@@ -56,7 +59,8 @@ put-heading-requires c κs =
     omega (arith, ap (λ (n : ℕ). length (head (d .0) n)) (c .before .count-used .ensures), todo-room (d .1))
 
 put-entry-requires : tie.Need-put-entry-requires
-put-entry-requires c κs = omega (arith, ap length (bytes-line (line endKey (text "page"))), todo-room (after-5 (c .before .before .before .before .before) .1))
+put-entry-requires c κs =
+    omega (arith, ap length (bytes-line (line endKey (text "page"))), todo-room (after-5 (c .before .before .before .before .before) .1))
 
 pub put-page-spec : {M : Type 1} → statement M
 put-page-spec =

@@ -8,6 +8,7 @@ use mathlib.Core.Bool.{true, false}
 use lib.ListN.{length, take, replicate, length-map, length-replicate}
 use lib.Seq.{length-take-le}
 use borrow.Author.Tests.{not-true, not-false}
+use Rattle.limits.specs.Limits.{pageRoom}
 use Rattle.records.proofs.Program as program
 use Rattle.records.proofs.Resource as resource
 use Rattle.text.proofs.Laws.{wrote-length, wrote-take}
@@ -25,7 +26,8 @@ arrays s = record {
   programs = sym (length-map (s .args .tables .ledger .programs) (program.the-field .into)) ∙ s .good .0 .1 .1 .0 .1 .1 .0 .1 .0 .1;
   links = search needs;
   holders = search needs;
-  resources = sym (length-map (s .args .tables .ledger .numbers .resources) (resource.the-field .into)) ∙ s .good .0 .1 .1 .0 .1 .1 .1 .1 .1 .0 .1 .1 .1 .0 .1 .0 .1;
+  resources = sym (length-map (s .args .tables .ledger .numbers .resources) (resource.the-field .into))
+      ∙ s .good .0 .1 .1 .0 .1 .1 .1 .1 .1 .0 .1 .1 .1 .0 .1 .0 .1;
 }
 
 unsound : (c : tie.Then1) → sound (c .before .before .before .args .tables) ≡ false
@@ -35,22 +37,25 @@ approved : (c : tie.Else1) → sound (c .before .before .before .args .tables) �
 approved c = sym (c .before .is-sound .ensures) ∙ not-false (c .before .is-sound .result) (c .if1 .left)
 
 -- the space is room for the page, and the page is what it begins with
-fits : (c : tie.After-space) → CanPage (c .before .before .before .before .args .tables) (replicate {A = ℕ} 8192 0)
+fits : (c : tie.After-space) → CanPage (c .before .before .before .before .args .tables) (replicate {A = ℕ} pageRoom 0)
 fits c =
     let s = c .before .before .before .before in
-    can-page (s .args .tables) (replicate {A = ℕ} 8192 0) (arrays s) (approved (c .before)) (omega (arith, length-replicate {A = ℕ} 8192 0))
+    can-page (s .args .tables) (replicate {A = ℕ} pageRoom 0) (arrays s) (approved (c .before))
+    (omega (arith, length-replicate {A = ℕ} pageRoom 0))
 
 within : (c : tie.After-put-page) → c .put-page .result ≤ length (c .put-page .last .0)
 within c = omega (arith, c .put-page .ensures .place, wrote-length (c .put-page .ensures), fits (c .before) .room)
 
-begins : (c : tie.After-put-page) → take (c .put-page .result) (c .put-page .last .0) ≡ page (plain (c .before .before .before .before .before .args .tables))
+begins : (c : tie.After-put-page)
+    → take (c .put-page .result) (c .put-page .last .0) ≡ page (plain (c .before .before .before .before .before .args .tables))
 begins c = wrote-take (c .put-page .ensures) (fits (c .before) .room)
 
 returns-2 : tie.Need-returns-2
 returns-2 c =
     let p = c .before .before in
     let s = p .before .before .before .before .before in
-    handed-short (s .args .tables) (s .args .buf .now) (p .put-page .result) (approved (p .before .before)) (p .put-page .ensures .place) (omega (arith, c .if2 .taken))
+    handed-short (s .args .tables) (s .args .buf .now) (p .put-page .result) (approved (p .before .before)) (p .put-page .ensures .place)
+    (omega (arith, c .if2 .taken))
 
 put-bytes-requires : tie.Need-put-bytes-requires
 put-bytes-requires c κs =
@@ -64,7 +69,8 @@ returns-3 c =
     let e = b .before .before .before in
     let p = e .before .before in
     let s = p .before .before .before .before .before in
-    handed-done (s .args .tables) (s .args .buf .now) (p .put-page .result) (b .put-bytes .result) (b .put-bytes .last .0) (approved (p .before .before))
+    handed-done (s .args .tables) (s .args .buf .now) (p .put-page .result) (b .put-bytes .result) (b .put-bytes .last .0)
+    (approved (p .before .before))
     (p .put-page .ensures .place) (omega (arith, e .if2 .left)) (wrote-as (sym (begins p)) (b .put-bytes .ensures))
 
 pub write-page-spec : {M : Type 1} → statement M

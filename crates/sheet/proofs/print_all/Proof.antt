@@ -1,4 +1,5 @@
--- `sheet::print_all` is safe and ends. The invariant: at most 73 bytes are held, and block and output are as long as they came. The measure is the number of reads that are left.
+-- `sheet::print_all` is safe and ends. The invariant: at most 73 bytes are held, and block and output are as long as they came. The measure
+-- is the number of reads that are left.
 -- Assumes nothing.
 use borrow.Author.Needs.{needs}
 use Prim.Native.Nat.{_≤_}
@@ -6,12 +7,14 @@ use native.Mathlib.Omega.{arith}
 use mathlib.Core.Path.{_≡_, sym}
 use lib.ListN.{length}
 use lib.Seq.{length-take-le}
+use Rattle.blocks.specs.Blocks.{most}
 use Rattle.blocks.proofs.Copying.{held-few}
 use Rattle.sheet.proofs.print_all.Statement.{statement}
 use Rattle.sheet.proofs.print_all.Tie as tie
 
 abbrev Inv-loop : tie.InvT-loop
-Inv-loop block₀ out₀ tables₀ have₀ left₀ block out tables have left = (have ≤ 73) × (length block ≡ length block₀) × (length out ≡ length out₀)
+Inv-loop block₀ out₀ tables₀ have₀ left₀ block out tables have left =
+    (have ≤ most) × (length block ≡ length block₀) × (length out ≡ length out₀)
 
 abbrev μ-loop : tie.MeasureT-loop
 μ-loop block₀ out₀ tables₀ have₀ left₀ block out tables have left = left

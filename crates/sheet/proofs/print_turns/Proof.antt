@@ -1,4 +1,5 @@
--- `sheet::print_turns` meets its contract. The invariant: the output is as long as it came, the lines from `from` on are left of the block's, and there are no more of them than turns.
+-- `sheet::print_turns` meets its contract. The invariant: the output is as long as it came, the lines from `from` on are left of the
+-- block's, and there are no more of them than turns.
 -- The measure is the number of turns that are left. Assumes nothing.
 use Prim.Native.Nat.{ℕ, _≤_}
 use native.Mathlib.Omega.{arith}
@@ -11,7 +12,8 @@ use Rattle.lists.proofs.Tests.{false-true}
 use Rattle.text.specs.Text.{parts}
 use Rattle.tables.specs.declared.Tables.{Tables}
 use Rattle.blocks.specs.Blocks.{ended}
-use Rattle.blocks.proofs.AllTurns.{turned-fits, Onward, onward-start, onward-turn, onward-none, ended-few, turn-fewer, turn-last, no-lines-left}
+use Rattle.blocks.proofs.AllTurns.{turned-fits, Onward, onward-start, onward-turn, onward-none}
+use Rattle.blocks.proofs.AllTurns.{ended-few, turn-fewer, turn-last, no-lines-left}
 use Rattle.sheet.specs.Inner.{Through}
 use Rattle.sheet.proofs.print_turns.Statement.{statement}
 use Rattle.sheet.proofs.print_turns.Tie as tie
@@ -26,7 +28,8 @@ abbrev μ-loop : tie.MeasureT-loop
 abbrev Block : tie.At-loop Inv-loop μ-loop → List ℕ
 Block c = c .before .before .before .args .block .now
 
-through : {t₀ t : Tables} {block : List ℕ} {from : ℕ} → Onward t₀ block t from → ended (parts 10 (drop from block)) ≡ [] → Through t₀ block (record { tables = t; place = from; written = true })
+through : {t₀ t : Tables} {block : List ℕ} {from : ℕ} → Onward t₀ block t from → ended (parts 10 (drop from block)) ≡ []
+    → Through t₀ block (record { tables = t; place = from; written = true })
 through o e = let n = onward-none o e in record { tables = λ w. n .0; rest = λ w. n .1 }
 
 loop-holds : tie.Need-loop-holds Inv-loop μ-loop
@@ -46,11 +49,17 @@ loop-again c =
     let l = p .before .before .before in (
       search needs,
       onward-turn (l .loop .t) (Block l) (l .loop .from) (l .loop .out) _ (p .print-block .ensures) (l .loop .inv .1),
-      omega (arith, turn-fewer (l .loop .t) (Block l) (l .loop .from) (l .loop .out) _ (p .print-block .ensures) (λ q. omega arith), l .loop .inv .2),
+      omega (
+        arith,
+        turn-fewer (l .loop .t) (Block l) (l .loop .from) (l .loop .out) _ (p .print-block .ensures) (λ q. omega arith),
+        l .loop .inv .2,
+      ),
     )
 
 returns-2 : tie.Need-returns-2 Inv-loop μ-loop
-returns-2 c = let l = c .before in through (l .loop .inv .1) (no-lines-left (ended (parts 10 (drop (l .loop .from) (Block l)))) (omega (arith, l .loop .inv .2)))
+returns-2 c =
+    let l = c .before in
+    through (l .loop .inv .1) (no-lines-left (ended (parts 10 (drop (l .loop .from) (Block l)))) (omega (arith, l .loop .inv .2)))
 
 returns-3 : tie.Need-returns-3 Inv-loop μ-loop
 returns-3 c =

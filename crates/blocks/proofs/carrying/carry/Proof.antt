@@ -1,4 +1,5 @@
--- `blocks::carrying::carry` meets its contract. The invariant: i of the bytes stand at the front, and from place i on the block is as it was. Assumes nothing.
+-- `blocks::carrying::carry` meets its contract. The invariant: i of the bytes stand at the front, and from place i on
+-- the block is as it was. Assumes nothing.
 use Prim.Native.Nat.{ℕ, _≤_, _<_, _-_}
 use native.Mathlib.Omega.{arith}
 use mathlib.Core.Path.{_≡_}
@@ -49,7 +50,9 @@ add-i : tie.Need-add-i Inv-loop μ-loop
 add-i c = let m = many (c .before .before .before) in omega arith
 
 loop-again : tie.Need-loop-again Inv-loop μ-loop
-loop-again c = let m = many (c .before .before .before) in (omega arith, copied-turn (c .before .before .loop .inv .1) (omega arith) (omega arith))
+loop-again c =
+    let m = many (c .before .before .before) in
+    (omega arith, copied-turn (c .before .before .loop .inv .1) (omega arith) (omega arith))
 
 same-length : tie.Need-same-length Inv-loop μ-loop
 same-length c = c .before .loop .inv .1 .same
@@ -58,7 +61,8 @@ returns-3 : tie.Need-returns-3 Inv-loop μ-loop
 returns-3 c =
     let m = many (c .before .before) in
     let e : c .before .loop .i ≡ c .before .before .if3 .n = omega arith in
-    rw (← e) (copied-whole (c .before .loop .inv .1) (omega arith) (omega arith) (omega (arith, m .many)) (omega (arith, m .all)) (λ k. omega (arith, m .few (omega arith))))
+    rw (← e) (copied-whole (c .before .loop .inv .1) (omega arith) (omega arith) (omega (arith, m .many)) (omega (arith, m .all))
+    (λ k. omega (arith, m .few (omega arith))))
 
 pub carry-spec : {M : Type 1} → statement M
 carry-spec =

@@ -1,11 +1,13 @@
--- `blocks::turning::print_block` meets its contract. The invariant: `end` is where the line at `from` ends, and the turn is what was printed and then the turn that is left.
+-- `blocks::turning::print_block` meets its contract. The invariant: `end` is where the line at `from` ends, and the turn is what was
+-- printed and then the turn that is left.
 -- The measure is how much of the block is left. Assumes nothing.
 use Prim.Native.Nat.{_+_, _-_, _≤_, _<_}
 use native.Mathlib.Omega.{arith}
 use mathlib.Core.Path.{_≡_, sym, subst}
 use lib.ListN.{length}
 use borrow.Author.Needs.{needs}
-use Rattle.console.specs.Sheet.{room, lineEnd}
+use Rattle.limits.specs.Limits.{pageRoom}
+use Rattle.console.specs.Sheet.{lineEnd}
 use Rattle.console.proofs.LineEnds.{LineEnd, line-end, line-within}
 use Rattle.blocks.proofs.Going.{Going, going-start, going-over, going-length, going-fits, going-line, turn-full, turn-none, no-lines}
 use Rattle.blocks.proofs.turning.print_block.Statement.{statement}
@@ -26,7 +28,7 @@ ends c = subst (LineEnd (S c .args .block .now) (c .loop .from)) (sym (c .loop .
 low : (c : tie.In-loop Inv-loop μ-loop) → c .before .loop .from ≤ c .before .loop .end
 low c = ends (c .before) .line (line-within (ends (c .before)) (c .loop-test .taken)) .low
 
-room-left : (c : tie.Else1 Inv-loop μ-loop) → room ≤ length (S (c .before .before) .args .out .now) - c .before .before .loop .used
+room-left : (c : tie.Else1 Inv-loop μ-loop) → pageRoom ≤ length (S (c .before .before) .args .out .now) - c .before .before .loop .used
 room-left c = omega (arith, going-length (c .before .before .loop .inv .1))
 
 small : (c : tie.After-slice-known Inv-loop μ-loop) → length (c .before .before .args .out .now) < 18446744073709551616
@@ -35,15 +37,19 @@ small c = search needs
 abbrev Entered : tie.After-bytes-printed Inv-loop μ-loop → tie.Else1 Inv-loop μ-loop
 Entered c = c .before .before .before .before .before .before .before
 
-fitting : (c : tie.After-bytes-printed Inv-loop μ-loop) → Entered c .before .before .loop .used + c .bytes-printed .result ≤ length (S (Entered c .before .before) .args .out .now)
+fitting : (c : tie.After-bytes-printed Inv-loop μ-loop)
+    → Entered c .before .before .loop .used + c .bytes-printed .result ≤ length (S (Entered c .before .before) .args .out .now)
 fitting c =
     let i = Entered c .before in
     let p = c .before .before .before .before in
     going-fits (i .before .loop .inv .1) (i .before .loop .end) (ends (i .before)) (i .loop-test .taken) (room-left (Entered c))
-    (p .print-line .result) (p .print-line .last .1 .1 .0) (search needs) (p .print-line .ensures) (c .bytes-printed .result) (c .bytes-printed .ensures)
+    (p .print-line .result) (p .print-line .last .1 .1 .0) (search needs) (p .print-line .ensures) (c .bytes-printed .result)
+    (c .bytes-printed .ensures)
 
 loop-holds : tie.Need-loop-holds Inv-loop μ-loop
-loop-holds c = let a = c .before .before .before .args in (c .line-end .ensures, going-start (a .tables) (a .block .now) (a .at) (a .out .now))
+loop-holds c =
+    let a = c .before .before .before .args in
+    (c .line-end .ensures, going-start (a .tables) (a .block .now) (a .at) (a .out .now))
 
 sub-if1 : tie.Need-sub-if1 Inv-loop μ-loop
 sub-if1 c = omega (arith, going-length (c .before .loop .inv .1))
@@ -80,7 +86,8 @@ loop-again c =
     let p = c .before .before .before .before .before in (
       c .line-end2 .ensures,
       going-line (i .before .loop .inv .1) (i .before .loop .end) (ends (i .before)) (i .loop-test .taken) (room-left (Entered (c .before)))
-          (p .print-line .result) (p .print-line .last .1 .1 .0) (search needs) (p .print-line .ensures) (c .before .bytes-printed .result) (c .before .bytes-printed .ensures),
+          (p .print-line .result) (p .print-line .last .1 .1 .0) (search needs) (p .print-line .ensures) (c .before .bytes-printed .result)
+          (c .before .bytes-printed .ensures),
     )
 
 same-length-2 : tie.Need-same-length-2 Inv-loop μ-loop

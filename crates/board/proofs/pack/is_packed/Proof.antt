@@ -1,4 +1,5 @@
--- `board::pack::is_packed` meets its contract: the bytes are held against the packed form of the tables that they say (`packed-is`). Assumes nothing.
+-- `board::pack::is_packed` meets its contract: the bytes are held against the packed form of the tables that
+-- they say (`packed-is`). Assumes nothing.
 use Prim.Native.Nat.{ℕ}
 use mathlib.Core.Path.{_∙_}
 use borrow.Author.Needs.{needs}
@@ -16,7 +17,8 @@ returns-2 c =
     let t = p .before .before in
     let s = t .before .before .before in
     c .is-word .ensures
-    ∙ packed-is (s .args .s .now) (t .tables-at .result) _ _ _ (t .before .if1 .left) (length-replicate {A = ℕ} 1237 0) (t .tables-at .ensures) (p .put-tables .ensures)
+    ∙ packed-is (s .args .s .now) (t .tables-at .result) _ _ _ (t .before .if1 .left) (length-replicate {A = ℕ} 1237 0)
+    (t .tables-at .ensures) (p .put-tables .ensures)
 
 pub is-packed-spec : {M : Type 1} → statement M
 is-packed-spec =

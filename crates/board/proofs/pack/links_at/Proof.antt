@@ -10,7 +10,8 @@ use Rattle.board.proofs.pack.links_at.Tie as tie
 returns : tie.Need-returns
 returns c =
     let w = c .before in
-    part-whole 301 40 (w .before .before .before .before .args .s .now) (omega arith) (length-replicate {A = ℕ} 40 0) (w .put-bytes .ensures)
+    part-whole 301 40 (w .before .before .before .before .args .s .now) (omega arith) (length-replicate {A = ℕ} 40 0)
+    (w .put-bytes .ensures)
 
 pub links-at-spec : {M : Type 1} → statement M
 links-at-spec =

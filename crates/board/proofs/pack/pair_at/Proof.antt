@@ -7,7 +7,11 @@ use Rattle.board.proofs.pack.pair_at.Statement.{statement}
 use Rattle.board.proofs.pack.pair_at.Tie as tie
 
 add-result-2 : tie.Need-add-result-2
-add-result-2 c = omega (arith, c .before .shared-slice-known .given (c .before .before .args .at), c .shared-slice-known2 .given (c .before .before .args .at + 1))
+add-result-2 c = omega (
+  arith,
+  c .before .shared-slice-known .given (c .before .before .args .at),
+  c .shared-slice-known2 .given (c .before .before .args .at + 1),
+)
 
 returns : tie.Need-returns
 returns c = figure-two (c .before .before .args .s .now) (c .before .before .args .at) (c .before .before .pre)

@@ -11,7 +11,8 @@ returns c =
     let w = p .before .before in
     let n = w .before in
     let s = n .before .before .before .before .before .before .before .before in
-    program-is (s .args .s .now) (s .args .at) _ (n .pair-at .result) (s .pre) refl refl (p .pair-at2 .ensures) refl (n .pair-at .ensures) (w .why-of .ensures) (c .before .long-at .ensures) (c .long-at2 .ensures)
+    program-is (s .args .s .now) (s .args .at) _ (n .pair-at .result) (s .pre) refl refl (p .pair-at2 .ensures) refl (n .pair-at .ensures)
+    (w .why-of .ensures) (c .before .long-at .ensures) (c .long-at2 .ensures)
 
 pub program-at-spec : {M : Type 1} → statement M
 program-at-spec =

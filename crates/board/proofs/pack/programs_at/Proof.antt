@@ -1,4 +1,5 @@
--- `board::pack::programs_at` meets its contract. The loop's invariant: the first i records are read. The measure is the records left. Assumes nothing.
+-- `board::pack::programs_at` meets its contract. The loop's invariant: the first i records are read. The measure
+-- is the records left. Assumes nothing.
 use Prim.Native.Nat.{ℕ, _+_, _*_, _-_}
 use native.Mathlib.Omega.{arith}
 use mathlib.Core.Path.{refl}
@@ -25,7 +26,8 @@ loop-holds c = filled-start 32 (listed (at (c .before .before .args .s .now))) _
 loop-again : tie.Need-loop-again Inv-loop μ-loop
 loop-again c =
     let l = c .before .before in
-    listed-turn 32 (at (l .before .before .before .args .s .now)) (c .program-at .result) (c .before .loop-test .taken) (c .program-at .ensures) (l .loop .inv)
+    listed-turn 32 (at (l .before .before .before .args .s .now)) (c .program-at .result) (c .before .loop-test .taken)
+    (c .program-at .ensures) (l .loop .inv)
 
 returns : tie.Need-returns Inv-loop μ-loop
 returns c = filled-end 32 (listed (at (c .before .before .before .before .args .s .now))) (c .loop-test .left) (c .before .loop .inv)

@@ -10,7 +10,8 @@ returns c =
     let e = d .before .before .before .before in
     let b = e .before .before .before .before in
     let a = b .before .before .before .before in
-    wrote-eight (a .before .before .before .args .n) (a .put-pair .ensures) (b .put-pair2 .ensures) (e .put-pair3 .ensures) (d .put-pair4 .ensures)
+    wrote-eight (a .before .before .before .args .n) (a .put-pair .ensures) (b .put-pair2 .ensures) (e .put-pair3 .ensures)
+    (d .put-pair4 .ensures)
 
 pub put-long-spec : {M : Type 1} → statement M
 put-long-spec =

@@ -9,7 +9,8 @@ returns : tie.Need-returns
 returns c =
     let b = c .before .before in
     let a = b .before .before .before .before in
-    wrote-pair (a .before .before .before .args .n) (omega (arith, a .before .before .before .fits .n)) (a .put-byte .ensures) (b .put-byte2 .ensures)
+    wrote-pair (a .before .before .before .args .n) (omega (arith, a .before .before .before .fits .n)) (a .put-byte .ensures)
+    (b .put-byte2 .ensures)
 
 pub put-pair-spec : {M : Type 1} → statement M
 put-pair-spec =

@@ -1,4 +1,5 @@
--- `board::pack::put_program` meets its contract: its eight writes are the record (`program-wrote`), and a name has five bytes. Assumes nothing.
+-- `board::pack::put_program` meets its contract: its eight writes are the record (`program-wrote`), and a
+-- name has five bytes. Assumes nothing.
 use Prim.Native.Nat.{_+_, _≤_}
 use native.Mathlib.Omega.{arith}
 use mathlib.Core.Path.{_≡_, sym, ap, _∙_}
@@ -22,14 +23,23 @@ used : (c : tie.Joined1) → c .if1 .used ≡ hit (c .before .before .before .ar
 used c = ⊎-elim (λ w. w .1 ∙ ap hit (sym (w .0 .taken))) (λ w. w .1 ∙ ap hit (sym (w .0 .left))) (c .if1 .came)
 
 put-byte-requires-3 : tie.Need-put-byte-requires-3
-put-byte-requires-3 c κs = omega (arith, long (begun (c .before .before .before .before .before .before .before .before .before .before .before .before)))
+put-byte-requires-3 c κs =
+    omega (arith, long (begun (c .before .before .before .before .before .before .before .before .before .before .before .before)))
 
 put-pair-requires-2 : tie.Need-put-pair-requires-2
-put-pair-requires-2 c κs = omega (arith, long (begun (c .before .before .before .before .before .before .before .before .before .before .before .before .before .before .before .before .before)))
+put-pair-requires-2 c κs = omega (
+  arith,
+  long (begun (c .before .before .before .before .before .before .before .before .before .before .before .before .before .before .before
+      .before .before)),
+)
 
 -- there is room for the two numbers that are left
 room : (c : tie.After-put-pair2) → c .put-pair2 .result + 16 ≤ length (c .put-pair2 .last .0)
-room c = omega (arith, long (begun (c .before .before .before .before .before .before .before .before .before .before .before .before .before .before .before .before .before .before)))
+room c = omega (
+  arith,
+  long (begun (c .before .before .before .before .before .before .before .before .before .before .before .before .before .before .before
+      .before .before .before)),
+)
 
 returns : tie.Need-returns
 returns c =
@@ -42,7 +52,8 @@ returns c =
     let n = p .before .before .before .before in
     let a = n .before .before .before .before .before in
     let j = a .before .before in
-    program-wrote (j .before .before .before .args .r) (j .if1 .used) (e .before .kind-of .result) (f .before .count-of .result) (used j) (e .before .kind-of .ensures) (f .before .count-of .ensures)
+    program-wrote (j .before .before .before .args .r) (j .if1 .used) (e .before .kind-of .result) (f .before .count-of .result) (used j)
+    (e .before .kind-of .ensures) (f .before .count-of .ensures)
     (a .put-byte .ensures) (n .put-bytes .ensures) (p .put-pair .ensures) (d .put-byte2 .ensures)
     (e .put-byte3 .ensures) (f .put-pair2 .ensures) (g .put-long .ensures) (h .put-long2 .ensures)
 

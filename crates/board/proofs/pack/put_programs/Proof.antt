@@ -1,4 +1,5 @@
--- `board::pack::put_programs` meets its contract. The loop's invariant: the first i records are written. The measure is the records left. Assumes nothing.
+-- `board::pack::put_programs` meets its contract. The loop's invariant: the first i records are written. The measure
+-- is the records left. Assumes nothing.
 use Prim.Native.Nat.{_<_, _-_}
 use native.Mathlib.Omega.{arith}
 use mathlib.Core.Path.{_≡_}
@@ -21,7 +22,8 @@ loop-holds : tie.Need-loop-holds Inv-loop μ-loop
 loop-holds c = items-start packProgram 28 _
 
 put-program-requires : tie.Need-put-program-requires Inv-loop μ-loop
-put-program-requires c κs = omega (arith, long (c .before .before .before .before .before), c .before .before .before .loop .inv .left .same)
+put-program-requires c κs =
+    omega (arith, long (c .before .before .before .before .before), c .before .before .before .loop .inv .left .same)
 
 loop-again : tie.Need-loop-again Inv-loop μ-loop
 loop-again c =
@@ -31,13 +33,15 @@ loop-again c =
     let xs = s .args .t3 in
     let g = s .good .1 .1 .0 in
     let more : l .loop .i < length xs = omega (arith, long s) in
-    items-turn packProgram 28 xs _ more (program-length (getD xs (l .loop .i) _) (named xs (g .0) (l .loop .i) _ (g .1 .1) more)) (l .loop .inv) (w .put-program .ensures)
+    items-turn packProgram 28 xs _ more (program-length (getD xs (l .loop .i) _) (named xs (g .0) (l .loop .i) _ (g .1 .1) more))
+    (l .loop .inv) (w .put-program .ensures)
 
 same-length : tie.Need-same-length Inv-loop μ-loop
 same-length c = c .before .loop .inv .left .same
 
 returns : tie.Need-returns Inv-loop μ-loop
-returns c = items-end packProgram 28 (c .before .before .before .args .t3) (omega (arith, long (c .before .before .before))) (c .before .loop .inv)
+returns c = items-end packProgram 28 (c .before .before .before .args .t3) (omega (arith, long (c .before .before .before)))
+    (c .before .loop .inv)
 
 pub put-programs-spec : {M : Type 1} → statement M
 put-programs-spec =

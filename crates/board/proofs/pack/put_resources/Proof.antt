@@ -1,4 +1,5 @@
--- `board::pack::put_resources` meets its contract. The loop's invariant: the first i numbers are written. The measure is the numbers left. Assumes nothing.
+-- `board::pack::put_resources` meets its contract. The loop's invariant: the first i numbers are written. The measure
+-- is the numbers left. Assumes nothing.
 use Prim.Native.Nat.{_-_}
 use native.Mathlib.Omega.{arith}
 use mathlib.Core.Path.{_≡_, refl}
@@ -26,7 +27,11 @@ put-byte-requires : tie.Need-put-byte-requires Inv-loop μ-loop
 put-byte-requires c κs = omega (arith, long (c .before .before .before .before .before), c .before .before .before .loop .inv .left .same)
 
 put-byte-requires-2 : tie.Need-put-byte-requires-2 Inv-loop μ-loop
-put-byte-requires-2 c κs = omega (arith, long (c .before .before .before .before .before .before .before .before .before), c .before .before .before .before .before .before .before .loop .inv .left .same)
+put-byte-requires-2 c κs = omega (
+  arith,
+  long (c .before .before .before .before .before .before .before .before .before),
+  c .before .before .before .before .before .before .before .loop .inv .left .same,
+)
 
 add-i : tie.Need-add-i Inv-loop μ-loop
 add-i c = omega (arith, long (c .before .before .before .before .before .before .before .before .before .before .before .before))
@@ -41,13 +46,15 @@ loop-again c =
     let l = y .before .before .before .before in
     let s = l .before .before in
     let xs = s .args .t3 in
-    items-turn packResource 2 xs (record { owner = 0; lock = 0 }) (omega (arith, long s)) refl (l .loop .inv) (wrote-then (_ ∷ []) (_ ∷ []) (y .put-byte .ensures) (z .put-byte2 .ensures))
+    items-turn packResource 2 xs (record { owner = 0; lock = 0 }) (omega (arith, long s)) refl (l .loop .inv)
+    (wrote-then (_ ∷ []) (_ ∷ []) (y .put-byte .ensures) (z .put-byte2 .ensures))
 
 same-length : tie.Need-same-length Inv-loop μ-loop
 same-length c = c .before .loop .inv .left .same
 
 returns : tie.Need-returns Inv-loop μ-loop
-returns c = items-end packResource 2 (c .before .before .before .args .t3) (omega (arith, long (c .before .before .before))) (c .before .loop .inv)
+returns c = items-end packResource 2 (c .before .before .before .args .t3) (omega (arith, long (c .before .before .before)))
+    (c .before .loop .inv)
 
 pub put-resources-spec : {M : Type 1} → statement M
 put-resources-spec =

@@ -1,4 +1,5 @@
--- `board::pack::put_tables` meets its contract: its eight writes are the tables (`tables-wrote`), whose arrays are as long as their types say. Assumes nothing.
+-- `board::pack::put_tables` meets its contract: its eight writes are the tables (`tables-wrote`), whose arrays are as
+-- long as their types say. Assumes nothing.
 use Prim.Native.Nat.{_+_, _≤_}
 use native.Mathlib.Omega.{arith}
 use mathlib.Core.Path.{_≡_, sym, ap, _∙_}
@@ -15,7 +16,8 @@ use Rattle.board.proofs.pack.put_tables.Tie as tie
 
 -- where the places of the tracks were read, seen from behind the write of the numbers' count; and where the function began
 abbrev read : tie.After-put-byte → tie.After-places
-read c = c .before .before .before .before .before .before .before .before .before .before .before .before .before .before .before .before .before .before
+read c = c .before .before .before .before .before .before .before .before .before .before .before .before .before .before .before .before
+    .before .before
 
 abbrev begun : tie.After-put-byte → tie.Start
 begun c = read c .before .before .before .before .before
@@ -25,7 +27,8 @@ arrays s = record {
   programs = sym (length-map (s .args .tables .ledger .programs) (program.the-field .into)) ∙ s .good .1 .0 .1 .1 .0 .1 .1 .0 .1 .0 .1;
   links = search needs;
   holders = search needs;
-  resources = sym (length-map (s .args .tables .ledger .numbers .resources) (resource.the-field .into)) ∙ s .good .1 .0 .1 .1 .0 .1 .1 .1 .1 .1 .0 .1 .1 .1 .0 .1 .0 .1;
+  resources = sym (length-map (s .args .tables .ledger .numbers .resources) (resource.the-field .into))
+      ∙ s .good .1 .0 .1 .1 .0 .1 .1 .1 .1 .1 .0 .1 .1 .1 .0 .1 .0 .1;
 }
 
 -- there are as many places as there should be
@@ -40,7 +43,8 @@ room : (c : tie.After-put-bytes) → c .put-bytes .result + 968 ≤ length (c .p
 room c = omega (arith, long (c .before .before .before .before .before))
 
 slice-aggregate-put-bytes-2 : tie.Need-slice-aggregate-put-bytes-2
-slice-aggregate-put-bytes-2 c = sym (arrays (begun (c .before .before .before .before .before .before .before .before .before .before .before .before .before)) .links)
+slice-aggregate-put-bytes-2 c =
+    sym (arrays (begun (c .before .before .before .before .before .before .before .before .before .before .before .before .before)) .links)
 
 put-bytes-requires-2 : tie.Need-put-bytes-requires-2
 put-bytes-requires-2 c κs =
@@ -66,7 +70,8 @@ returns c =
     let a = x .before .before .before .before in
     tables-wrote (begun d .args .tables)
     (a .put-long .ensures) (x .put-pair .ensures) (y .put-pair2 .ensures) (d .put-byte .ensures)
-    (wrote-as (sym (read d .places .ensures)) (e .put-bytes .ensures)) (f .put-resources .ensures) (g .put-bytes2 .ensures) (h .put-programs .ensures)
+    (wrote-as (sym (read d .places .ensures)) (e .put-bytes .ensures)) (f .put-resources .ensures) (g .put-bytes2 .ensures)
+    (h .put-programs .ensures)
 
 same-length : tie.Need-same-length
 same-length c = wrote-length (returns c)

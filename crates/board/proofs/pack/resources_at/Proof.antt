@@ -1,4 +1,5 @@
--- `board::pack::resources_at` meets its contract. The loop's invariant: the first i numbers are read. The measure is the numbers left. Assumes nothing.
+-- `board::pack::resources_at` meets its contract. The loop's invariant: the first i numbers are read. The measure
+-- is the numbers left. Assumes nothing.
 use Prim.Native.Nat.{ℕ, _+_, _*_, _-_}
 use native.Mathlib.Omega.{arith}
 use mathlib.Core.Path.{refl}

@@ -34,7 +34,12 @@ returns-3 c = simp (miss0 (c .before .before), miss1 (c .before), eq-eqb (c .bef
 
 returns-4 : tie.Need-returns-4
 unfolding whyOf
-returns-4 c = simp (miss0 (c .before .before .before), miss1 (c .before .before), miss2 (c .before), eq-eqb (c .before .before .before .before .args .kind) 3 (c .if4 .taken))
+returns-4 c = simp (
+  miss0 (c .before .before .before),
+  miss1 (c .before .before),
+  miss2 (c .before),
+  eq-eqb (c .before .before .before .before .args .kind) 3 (c .if4 .taken),
+)
 
 returns-5 : tie.Need-returns-5
 unfolding whyOf

@@ -1,4 +1,5 @@
--- `board::telling::put_counts` meets its contract: the number 0, and behind it the two counts and three 0 (`counts-wrote`). Assumes nothing.
+-- `board::telling::put_counts` meets its contract: the number 0, and behind it the two counts and
+-- three 0 (`counts-wrote`). Assumes nothing.
 use borrow.Author.Needs.{needs}
 use Rattle.board.proofs.Answered.{counts-wrote}
 use Rattle.board.proofs.telling.put_counts.Statement.{statement}

@@ -12,7 +12,8 @@ returns c =
     let w = x .before .before .before .before in
     let v = w .before .before .before .before in
     let a = v .before .before .before .args in
-    five-wrote (a .a) (a .b) (a .c) (a .d) (a .e) (v .put-long .ensures) (w .put-long2 .ensures) (x .put-long3 .ensures) (y .put-long4 .ensures) (z .put-long5 .ensures)
+    five-wrote (a .a) (a .b) (a .c) (a .d) (a .e) (v .put-long .ensures) (w .put-long2 .ensures) (x .put-long3 .ensures)
+    (y .put-long4 .ensures) (z .put-long5 .ensures)
 
 pub put-five-spec : {M : Type 1} → statement M
 put-five-spec =

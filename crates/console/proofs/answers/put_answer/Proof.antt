@@ -1,4 +1,5 @@
--- `console::answers::put_answer` meets its contract. Its five writes are the answer's line (`answer-wrote`), and the room is its length (`answer-length`). Assumes nothing.
+-- `console::answers::put_answer` meets its contract. Its five writes are the answer's line (`answer-wrote`), and the room is its
+-- length (`answer-length`). Assumes nothing.
 use Prim.Native.Nat.{_+_}
 use native.Mathlib.Omega.{arith}
 use mathlib.Core.Path.{_≡_, refl}
@@ -30,7 +31,8 @@ ended c = valued (c .before .before .before .before)
 
 -- the room that the line takes
 size : (c : tie.After-number-of)
-    → length (answerBytes (begun c .args .answer)) ≡ length (decimal (c .number-of .result)) + length (valuesLine (begun c .args .answer)) + 15
+    → length (answerBytes (begun c .args .answer))
+    ≡ length (decimal (c .number-of .result)) + length (valuesLine (begun c .args .answer)) + 15
 size c = answer-length (begun c .args .answer) (c .number-of .result) (c .number-of .ensures)
 
 put-bytes-requires : tie.Need-put-bytes-requires
@@ -56,7 +58,8 @@ returns c =
     let n = q .before .before .before .before .before in
     let k = n .before in
     let p = k .before .before .before .before in
-    answer-wrote (begun k .args .answer) (k .number-of .ensures) (p .put-bytes .ensures) (n .put-number .ensures) (q .put-bytes2 .ensures) (v .put-values .ensures)
+    answer-wrote (begun k .args .answer) (k .number-of .ensures) (p .put-bytes .ensures) (n .put-number .ensures) (q .put-bytes2 .ensures)
+    (v .put-values .ensures)
     (e .put-byte .ensures)
 
 same-length : tie.Need-same-length

@@ -1,4 +1,5 @@
--- `console::fields::name_field` meets its contract. The invariant: what is left of the field, stored over the name, gives the field over five blanks, and no blank was passed. Assumes nothing.
+-- `console::fields::name_field` meets its contract. The invariant: what is left of the field, stored over the name, gives the field over
+-- five blanks, and no blank was passed. Assumes nothing.
 use mathlib.Core.Path.{sym, _∙_}
 use Prim.Native.Nat.{_-_}
 use native.Mathlib.Omega.{arith}
@@ -23,7 +24,8 @@ returns-2 : tie.Need-returns-2 Inv-loop μ-loop
 returns-2 c =
     let p = c .before .part-end in
     let a = c .before .before .before .before .args in
-    name-not (p .ensures) (name-long (slice (a .at) (p .result) (a .s .now)) (omega (arith, length-slice (a .at) (p .result) (a .s .now) (p .ensures .high))))
+    name-not (p .ensures)
+    (name-long (slice (a .at) (p .result) (a .s .now)) (omega (arith, length-slice (a .at) (p .result) (a .s .now) (p .ensures .high))))
 
 loop-holds : tie.Need-loop-holds Inv-loop μ-loop
 loop-holds c = filling-start (c .before .part-end .ensures .low)
@@ -43,13 +45,15 @@ returns-4 : tie.Need-returns-4 Inv-loop μ-loop
 returns-4 c =
     let l = c .before .before .before in
     let p = l .before .before .part-end .ensures in
-    name-not p (filled-not (l .loop .inv) (p .high) (omega arith) (omega arith) (sym (c .before .is-legal .ensures) ∙ not-true _ (c .if4 .taken)))
+    name-not p
+    (filled-not (l .loop .inv) (p .high) (omega arith) (omega arith) (sym (c .before .is-legal .ensures) ∙ not-true _ (c .if4 .taken)))
 
 returns-5 : tie.Need-returns-5 Inv-loop μ-loop
 returns-5 c =
     let l = c .before .before .before in
     let p = l .before .before .part-end .ensures in
-    name-is p (filled-is (l .loop .inv) (p .high) (omega arith) (omega arith) (sym (c .before .is-legal .ensures) ∙ not-false _ (c .if4 .left)))
+    name-is p
+    (filled-is (l .loop .inv) (p .high) (omega arith) (omega arith) (sym (c .before .is-legal .ensures) ∙ not-false _ (c .if4 .left)))
 
 pub name-field-spec : {M : Type 1} → statement M
 name-field-spec =

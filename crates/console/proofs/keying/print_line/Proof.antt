@@ -1,5 +1,5 @@
--- `console::keying::print_line` meets its contract. Every page fits the 8,192 bytes that are lent, so PAGE done has put the page at their front; any other line, and
--- PAGE refused, leaves them as they were, and the line for its answer goes there. Assumes nothing.
+-- `console::keying::print_line` meets its contract. Every page fits the 8,192 bytes that are lent, so PAGE done has put the page at their
+-- front; any other line, and PAGE refused, leaves them as they were, and the line for its answer goes there. Assumes nothing.
 use Prim.Native.Nat.{ℕ, _≤_}
 use mathlib.Core.Path.{_≡_, sym, ap, _∙_}
 use mathlib.Core.Bool.{true}
@@ -7,6 +7,7 @@ use mathlib.Core.List.{List}
 use mathlib.Core.Logic.{inl, inr}
 use lib.ListN.{length, length-map}
 use borrow.Author.Needs.{needs}
+use Rattle.limits.specs.Limits.{pageRoom}
 use Rattle.records.proofs.Program as program
 use Rattle.records.proofs.Resource as resource
 use Rattle.rules.specs.declared.Answer.the-variants.{Done}
@@ -20,7 +21,6 @@ use Rattle.rules.specs.Engine.{beside}
 use Rattle.page.proofs.Room.{page-room}
 use Rattle.console.specs.Line.{PAGE, lineOf}
 use Rattle.console.specs.Console.{keyed}
-use Rattle.console.specs.Sheet.{room}
 use Rattle.console.specs.Inner.{obeys}
 use Rattle.console.proofs.AnswerLaws.{done-not}
 use Rattle.console.proofs.KeyLaws.{keyed-obeys, page-said, page-unsaid}
@@ -33,11 +33,12 @@ arrays s = record {
   programs = sym (length-map (s .args .tables .ledger .programs) (program.the-field .into)) ∙ s .good .0 .1 .1 .0 .1 .1 .0 .1 .0 .1;
   links = search needs;
   holders = search needs;
-  resources = sym (length-map (s .args .tables .ledger .numbers .resources) (resource.the-field .into)) ∙ s .good .0 .1 .1 .0 .1 .1 .1 .1 .1 .0 .1 .1 .1 .0 .1 .0 .1;
+  resources = sym (length-map (s .args .tables .ledger .numbers .resources) (resource.the-field .into))
+      ∙ s .good .0 .1 .1 .0 .1 .1 .1 .1 .1 .0 .1 .1 .1 .0 .1 .0 .1;
 }
 
 -- no page is longer than what is lent
-fits : (s : tie.Start) → sound (s .args .tables) ≡ true → length (page (plain (s .args .tables))) ≤ room
+fits : (s : tie.Start) → sound (s .args .tables) ≡ true → length (page (plain (s .args .tables))) ≤ pageRoom
 fits s e = let t = s .args .tables in page-room (plain t) (sound-plain t (arrays s) (sound-clauses t e))
 
 abbrev S : tie.After-obey → tie.Start
@@ -46,11 +47,12 @@ S c = c .before .before .before .before .before .before
 abbrev After : tie.After-obey → List ℕ
 After c = c .obey .last .1 .1 .0
 
-big : (c : tie.After-obey) → room ≤ length (S c .args .out .now)
+big : (c : tie.After-obey) → pageRoom ≤ length (S c .args .out .now)
 big c = c .before .before .before .if1 .left
 
 -- what the line comes to
-same : (c : tie.After-obey) → beside (After c) (told (c .obey .result)) ≡ keyed (S c .args .tables) (S c .args .line .now) (S c .args .out .now)
+same : (c : tie.After-obey)
+    → beside (After c) (told (c .obey .result)) ≡ keyed (S c .args .tables) (S c .args .line .now) (S c .args .out .now)
 same c =
     let a = S c .args in
     c .obey .ensures
@@ -67,7 +69,8 @@ asks-page c =
     sym (p .ensures) ∙ page-said (p .result .name) (p .result .said) (sym (c .before .is-page .ensures) ∙ c .if2 .taken)
 
 -- where the code comes to the answer's line it is not PAGE that is done
-other : (c : tie.Joined2) → lineOf (S (Obeyed (c .before)) .args .line .now) ≡ PAGE → (n : ℕ) → Obeyed (c .before) .obey .result .answer ≡ Done n → ⊥
+other : (c : tie.Joined2) → lineOf (S (Obeyed (c .before)) .args .line .now) ≡ PAGE → (n : ℕ)
+    → Obeyed (c .before) .obey .result .answer ≡ Done n → ⊥
 other c =
     let o = Obeyed (c .before) in
     let p = o .before .before .command-of in
@@ -87,7 +90,8 @@ returns-2 c =
     let o = Obeyed (asked .before) in
     let a = S o .args in
     let d = c .enum-told .given in
-    printed-page (a .tables) (a .line .now) (a .out .now) (big o) (fits (S o)) (o .obey .result) (After o) (same o) (d .0 .0) (asks-page asked) (d .1)
+    printed-page (a .tables) (a .line .now) (a .out .now) (big o) (fits (S o)) (o .obey .result) (After o) (same o) (d .0 .0)
+    (asks-page asked) (d .1)
 
 put-answer-requires : tie.Need-put-answer-requires
 put-answer-requires c κs =

@@ -31,7 +31,8 @@ returns-2 c =
     let w = c .before .before in
     let l = w .before .before in
     let s = l .before .before .before .before in
-    c .end-of .ensures ∙ sym (l .loop .inv .2 ∙ word-last (l .loop .inv .0) (s .args .s .now) (l .loop .at) (w .word-of .ensures) (c .before .if2 .taken))
+    c .end-of .ensures
+    ∙ sym (l .loop .inv .2 ∙ word-last (l .loop .inv .0) (s .args .s .now) (l .loop .at) (w .word-of .ensures) (c .before .if2 .taken))
 
 which-requires : tie.Need-which-requires Inv-loop μ-loop
 which-requires c κs = (omega arith, (omega arith, told-row))
@@ -45,7 +46,8 @@ returns-3 c =
     let p = w .before .before in
     let l = p .before .before .before .before in
     let s = l .before .before .before .before in
-    let none = word-none (l .loop .inv .0) (s .args .s .now) (l .loop .at) (p .part-end .ensures) (w .which .ensures) (c .before .if3 .taken) in
+    let none = word-none (l .loop .inv .0) (s .args .s .now) (l .loop .at) (p .part-end .ensures) (w .which .ensures)
+    (c .before .if3 .taken) in
     c .end-of2 .ensures ∙ sym (l .loop .inv .2 ∙ none)
 
 loop-again : tie.Need-loop-again Inv-loop μ-loop

@@ -34,7 +34,12 @@ put-chain-spec =
     tie.close
     (tie.spec (λ c. search needs)
     (λ c κs. let s = c .before .before .before .before in omega (arith, entry-length (key s) (value s), s .pre .1))
-    (λ c κs. let s = c .before .before .before .before .before .before .before .before in omega (arith, entry-length (key s) (value s), s .pre .1))
-    (λ c κs. (c .before .before .before .before .before .before .before .before .before .before .before .before .pre .0, todo-room (opened (c .before .before .before))))
-    (λ c κs. let v = c .before .before .before in todo-room (todo-step (opened (v .before .before .before .before)) (v .put-joined .ensures)))
+    (λ c κs. let s = c .before .before .before .before .before .before .before .before in
+    omega (arith, entry-length (key s) (value s), s .pre .1))
+    (λ c κs. (
+      c .before .before .before .before .before .before .before .before .before .before .before .before .pre .0,
+      todo-room (opened (c .before .before .before)),
+    ))
+    (λ c κs. let v = c .before .before .before in
+    todo-room (todo-step (opened (v .before .before .before .before)) (v .put-joined .ensures)))
     (λ c. search needs) returns)

@@ -10,7 +10,8 @@ use Rattle.page.proofs.lines.put_name_line.Tie as tie
 
 opened : (k : tie.After-put-key)
     → let s = k .before .before .before .before .args in
-    Todo (s .buf .now) (s .at) (entry (s .key .now) (bare (s .name))) (k .put-key .last .0) (k .put-key .result) (bare (s .name) ∷ (10 ∷ []) ∷ [])
+    Todo (s .buf .now) (s .at) (entry (s .key .now) (bare (s .name))) (k .put-key .last .0) (k .put-key .result)
+    (bare (s .name) ∷ (10 ∷ []) ∷ [])
 opened k = let s = k .before .before .before .before in entry-todo (s .args .key .now) _ (s .pre) (k .put-key .ensures)
 
 returns : tie.Need-returns

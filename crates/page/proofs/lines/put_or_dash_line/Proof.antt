@@ -10,7 +10,8 @@ use Rattle.page.proofs.lines.put_or_dash_line.Tie as tie
 
 opened : (k : tie.After-put-key)
     → let s = k .before .before .before .before .args in
-    Todo (s .buf .now) (s .at) (entry (s .key .now) (orDash (s .there) (s .n))) (k .put-key .last .0) (k .put-key .result) (orDash (s .there) (s .n) ∷ (10 ∷ []) ∷ [])
+    Todo (s .buf .now) (s .at) (entry (s .key .now) (orDash (s .there) (s .n))) (k .put-key .last .0) (k .put-key .result)
+    (orDash (s .there) (s .n) ∷ (10 ∷ []) ∷ [])
 opened k = let s = k .before .before .before .before in entry-todo (s .args .key .now) _ (s .pre) (k .put-key .ensures)
 
 returns : tie.Need-returns
@@ -25,5 +26,6 @@ put-or-dash-line-spec =
     (tie.spec
     (λ c κs. let s = c .before .before .before .args in omega (arith, entry-length (s .key .now) (orDash (s .there) (s .n))))
     (λ c κs. todo-room (opened (c .before .before .before)))
-    (λ c κs. let v = c .before .before .before in todo-room (todo-step (opened (v .before .before .before .before)) (v .put-or-dash .ensures)))
+    (λ c κs. let v = c .before .before .before in
+    todo-room (todo-step (opened (v .before .before .before .before)) (v .put-or-dash .ensures)))
     (λ c. search needs) returns)

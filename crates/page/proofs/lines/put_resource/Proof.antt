@@ -1,4 +1,5 @@
--- `lines::put_resource` meets its contract: past its test there is a line, and after each call its pieces from the next on are left. Assumes nothing.
+-- `lines::put_resource` meets its contract: past its test there is a line, and after each call its pieces from
+-- the next on are left. Assumes nothing.
 use Prim.Native.Nat.{ℕ}
 use native.Mathlib.Omega.{arith}
 use borrow.Author.Needs.{needs}
@@ -13,7 +14,9 @@ use Rattle.page.proofs.lines.put_resource.Tie as tie
 -- the pieces from k on are left
 abbrev From : ℕ → List ℕ → ℕ → Type 0
 From k l at =
-    (s : tie.Start) × Todo (s .args .buf .now) (s .args .at) (bytes (numberLine (s .args .number) (s .args .x))) l at (drop k (numberPieces (s .args .number) (s .args .x)))
+    (s : tie.Start)
+    × Todo (s .args .buf .now) (s .args .at) (bytes (numberLine (s .args .number) (s .args .x))) l at
+    (drop k (numberPieces (s .args .number) (s .args .x)))
 
 abbrev after-0 : (c : tie.Else1) → let s = c .before .before .before in From 0 (s .args .buf .now) (s .args .at)
 after-0 c =

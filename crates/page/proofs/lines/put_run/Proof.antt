@@ -1,4 +1,5 @@
--- `lines::put_run` meets its contract: past its two tests there is a line, and after each call its pieces from the next on are left. Assumes nothing.
+-- `lines::put_run` meets its contract: past its two tests there is a line, and after each call its pieces from
+-- the next on are left. Assumes nothing.
 use Prim.Native.Nat.{ℕ}
 use native.Mathlib.Omega.{arith}
 use borrow.Author.Needs.{needs}
@@ -12,7 +13,8 @@ use Rattle.page.proofs.lines.put_run.Tie as tie
 
 -- the pieces from k on are left
 abbrev From : ℕ → List ℕ → ℕ → Type 0
-From k l at = (s : tie.Start) × Todo (s .args .buf .now) (s .args .at) (bytes (heldLine (s .args .run))) l at (drop k (heldPieces (s .args .run)))
+From k l at =
+    (s : tie.Start) × Todo (s .args .buf .now) (s .args .at) (bytes (heldLine (s .args .run))) l at (drop k (heldPieces (s .args .run)))
 
 abbrev after-0 : (c : tie.Else2) → let s = c .before .before .before .before .before in From 0 (s .args .buf .now) (s .args .at)
 after-0 c =

@@ -10,7 +10,8 @@ use Rattle.page.proofs.lines.put_why_line.Tie as tie
 
 opened : (k : tie.After-put-key)
     → let s = k .before .before .before .before .args in
-    Todo (s .buf .now) (s .at) (entry (s .key .now) (reason (s .why))) (k .put-key .last .0) (k .put-key .result) (reason (s .why) ∷ (10 ∷ []) ∷ [])
+    Todo (s .buf .now) (s .at) (entry (s .key .now) (reason (s .why))) (k .put-key .last .0) (k .put-key .result)
+    (reason (s .why) ∷ (10 ∷ []) ∷ [])
 opened k = let s = k .before .before .before .before in entry-todo (s .args .key .now) _ (s .pre) (k .put-key .ensures)
 
 returns : tie.Need-returns
@@ -24,5 +25,6 @@ put-why-line-spec =
     tie.close
     (tie.spec (λ c κs. let s = c .before .before .before .args in omega (arith, entry-length (s .key .now) (reason (s .why))))
     (λ c κs. todo-room (opened (c .before .before .before)))
-    (λ c κs. let v = c .before .before .before in todo-room (todo-step (opened (v .before .before .before .before)) (v .put-reason .ensures)))
+    (λ c κs. let v = c .before .before .before in
+    todo-room (todo-step (opened (v .before .before .before .before)) (v .put-reason .ensures)))
     (λ c. search needs) returns)

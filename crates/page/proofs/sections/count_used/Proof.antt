@@ -1,4 +1,5 @@
--- `sections::count_used` meets its contract. The loop's invariant: those counted and the used records left are all. The measure is the records left.
+-- `sections::count_used` meets its contract. The loop's invariant: those counted and the used records left are
+-- all. The measure is the records left.
 -- Assumes nothing.
 use Prim.Native.Nat.{_+_, _-_, _≤_}
 use native.Mathlib.Omega.{arith}
@@ -7,16 +8,17 @@ use mathlib.Core.Path.{_≡_, ap}
 use mathlib.Core.Bool.{true, false}
 use mathlib.Core.Logic.{⊎-elim}
 use lib.ListN.{length}
+use Rattle.limits.specs.Limits.{mostPrograms}
 use Rattle.page.specs.Page.{usedIn}
 use Rattle.page.proofs.Spans.{usedFrom, used-all, used-next, used-past}
 use Rattle.page.proofs.sections.count_used.Statement.{statement}
 use Rattle.page.proofs.sections.count_used.Tie as tie
 
 abbrev Inv-loop : tie.InvT-loop
-Inv-loop programs n₀ i₀ n i = (i ≤ 32) × (n ≤ i) × (n + length (usedFrom programs (i + 1)) ≡ length (usedIn programs))
+Inv-loop programs n₀ i₀ n i = (i ≤ mostPrograms) × (n ≤ i) × (n + length (usedFrom programs (i + 1)) ≡ length (usedIn programs))
 
 abbrev μ-loop : tie.MeasureT-loop
-μ-loop programs n₀ i₀ n i = 32 - i
+μ-loop programs n₀ i₀ n i = mostPrograms - i
 
 loop-again : tie.Need-loop-again Inv-loop μ-loop
 loop-again c =

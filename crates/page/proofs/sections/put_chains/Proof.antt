@@ -1,16 +1,18 @@
--- `sections::put_chains` meets its contract. The loop's invariant: the lines of the states from the one at i on are left. The measure is the states left.
+-- `sections::put_chains` meets its contract. The loop's invariant: the lines of the states from the one at i on are
+-- left. The measure is the states left.
 -- Assumes nothing.
 use Prim.Native.Nat.{ℕ, _+_, _-_, _≤_}
 use native.Mathlib.Omega.{arith}
 use borrow.Author.Needs.{needs}
-use mathlib.Core.Path.{_≡_, sym, ap, _∙_}
+use mathlib.Core.Path.{_≡_, sym, ap}
 use mathlib.Core.List.{List, _∷_}
 use lib.ListN.{length, getD, take}
+use Rattle.limits.specs.Limits.{mostPrograms}
 use Rattle.text.proofs.Laws.{Todo, todo-start, todo-as, todo-step, todo-room, todo-end, todo-same}
 use Rattle.chains.specs.Links.{walk, read}
 use Rattle.page.specs.Page.{bytesOf, bytes, chained, chainLine, chainLines}
 use Rattle.page.proofs.Writing.{wrote-as}
-use Rattle.page.proofs.Spans.{chainsFrom, chains-all, chains-here, chains-past}
+use Rattle.page.proofs.Spans.{chained-most, chainsFrom, chains-all, chains-here, chains-past}
 use Rattle.page.proofs.sections.put_chains.Statement.{statement}
 use Rattle.page.proofs.sections.put_chains.Tie as tie
 
@@ -30,28 +32,27 @@ lineOf c ids = bytesOf (chainLine (state c) ids)
 here : (c : tie.In-loop Inv-loop μ-loop)
     → let b = c .before in let s = c .before .before .before .args in
     Todo (s .buf .now) (s .at) (bytes (chainLines (read (s .links)))) (b .loop .buf) (b .loop .o)
-    (lineOf c (walk (s .links) (state c) 32) ∷ chainsFrom (s .links) (b .loop .i + 1))
+    (lineOf c (walk (s .links) (state c) mostPrograms) ∷ chainsFrom (s .links) (b .loop .i + 1))
 here c = let b = c .before in todo-as (chains-here (c .before .before .before .args .links) (b .loop .i) (omega arith)) (b .loop .inv .1)
 
 -- the ids listed are the walk from the state's slot
 listed : (c : tie.After-chain-of Inv-loop μ-loop)
-    → let d = c .before .before in let r = c .chain-of .result in
-    lineOf d (walk (c .before .before .before .before .before .args .links) (state d) 32) ≡ lineOf d (take (r .len) (r .ids))
-listed c =
-    let d = c .before .before in
-    ap (lineOf d) (sym (c .chain-of .ensures .some ∙ ap (λ (k : ℕ). walk (c .before .before .before .before .before .args .links) k 32) (c .before .wide .ensures)))
+    → let d = c .before in let r = c .chain-of .result in
+    lineOf d (walk (d .before .before .before .args .links) (state d) mostPrograms) ≡ lineOf d (take (r .len) (r .ids))
+listed c = ap (lineOf (c .before)) (sym (c .chain-of .ensures .some))
 
 loop-again : tie.Need-loop-again Inv-loop μ-loop
 loop-again c =
     let p = c .before .before in
     let f = p .before .before in
-    (omega arith, todo-step (here (f .before .before)) (wrote-as (listed f) (p .put-chain .ensures)))
+    (omega arith, todo-step (here (f .before)) (wrote-as (listed f) (p .put-chain .ensures)))
 
 pub put-chains-spec : {M : Type 1} → statement M
 put-chains-spec =
     tie.close
     (tie.spec Inv-loop μ-loop (λ c. let s = c .before in (omega arith, todo-start _ (chains-all (s .args .links)) (s .pre)))
-    (λ c. omega arith) (λ c κs. search needs) (λ c κs. search needs)
-    (λ c κs. let f = c .before in (f .chain-of .ensures .most, omega (arith, ap length (listed f), todo-room (here (f .before .before)))))
+    (λ c. omega arith) (λ c. omega (arith, chained-most (c .before .loop .i) (omega arith))) (λ c κs. search needs)
+    (λ c κs. let f = c .before in (f .chain-of .ensures .most, omega (arith, ap length (listed f), todo-room (here (f .before)))))
     (λ c. omega arith) (λ c. omega arith) loop-again (λ c. todo-same (c .before .loop .inv .1))
-    (λ c. let b = c .before in todo-end (todo-as (chains-past (b .before .before .args .links) (b .loop .i) (omega arith)) (b .loop .inv .1))))
+    (λ c. let b = c .before in
+    todo-end (todo-as (chains-past (b .before .before .args .links) (b .loop .i) (omega arith)) (b .loop .inv .1))))

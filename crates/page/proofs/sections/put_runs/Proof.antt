@@ -1,4 +1,5 @@
--- `sections::put_runs` meets its contract. The loop's invariant: the lines of the runs from `first` on are left. The measure is the tracks left.
+-- `sections::put_runs` meets its contract. The loop's invariant: the lines of the runs from `first` on are
+-- left. The measure is the tracks left.
 -- Assumes nothing.
 use Prim.Native.Nat.{_+_, _-_, _≤_}
 use native.Mathlib.Omega.{arith}
@@ -16,7 +17,8 @@ use Rattle.page.proofs.sections.put_runs.Tie as tie
 
 abbrev Inv-loop : tie.InvT-loop
 Inv-loop buf₀ at tracks count o₀ first₀ buf o first =
-    (first ≤ count) × (length (holders tracks) ≡ count) × Todo buf₀ at (bytes (heldLines (holders tracks))) buf o (heldFrom (holders tracks) first)
+    (first ≤ count) × (length (holders tracks) ≡ count)
+    × Todo buf₀ at (bytes (heldLines (holders tracks))) buf o (heldFrom (holders tracks) first)
 
 abbrev μ-loop : tie.MeasureT-loop
 μ-loop buf₀ at tracks count o₀ first₀ buf o first = count - first
@@ -31,10 +33,12 @@ loop-holds c =
 
 here : (c : tie.After-run-from Inv-loop μ-loop)
     → let b = c .before .before in let s = c .before .before .before .before .before .args in let g = c .run-from .result in
-    Todo (s .buf .now) (s .at) (bytes (heldLines (holders (s .tracks)))) (b .loop .buf) (b .loop .o) (bytes (heldLine g) ∷ heldFrom (holders (s .tracks)) (g .last + 1))
+    Todo (s .buf .now) (s .at) (bytes (heldLines (holders (s .tracks)))) (b .loop .buf) (b .loop .o)
+    (bytes (heldLine g) ∷ heldFrom (holders (s .tracks)) (g .last + 1))
 here c =
     let b = c .before .before in
-    todo-as (held-here (holders (c .before .before .before .before .before .args .tracks)) (b .loop .first) (c .run-from .result) (c .run-from .ensures)) (b .loop .inv .2)
+    todo-as (held-here (holders (c .before .before .before .before .before .args .tracks)) (b .loop .first) (c .run-from .result)
+    (c .run-from .ensures)) (b .loop .inv .2)
 
 loop-again : tie.Need-loop-again Inv-loop μ-loop
 loop-again c =
@@ -45,7 +49,8 @@ loop-again c =
 returns : tie.Need-returns Inv-loop μ-loop
 returns c =
     let b = c .before in
-    todo-end (todo-as (held-past (holders (b .before .before .before .args .tracks)) (b .loop .first) (omega arith) (omega arith)) (b .loop .inv .2))
+    todo-end
+    (todo-as (held-past (holders (b .before .before .before .args .tracks)) (b .loop .first) (omega arith) (omega arith)) (b .loop .inv .2))
 
 pub put-runs-spec : {M : Type 1} → statement M
 put-runs-spec =

@@ -11,6 +11,7 @@ pub put-coded-spec : {M : Type 1} → statement M
 put-coded-spec =
     tie.close
     (tie.spec (λ c κs. let s = c .before .before .before .args in omega (arith, length-append (s .word .now) (decimal (s .n))))
-    (λ c κs. let s = c .before .before .before .before .before .before .before .args in omega (arith, length-append (s .word .now) (decimal (s .n))))
+    (λ c κs. let s = c .before .before .before .before .before .before .before .args in
+    omega (arith, length-append (s .word .now) (decimal (s .n))))
     (λ c. search needs)
     (λ c. let n = c .before .before in wrote-then _ _ (n .before .before .before .before .put-bytes .ensures) (n .put-number .ensures)))

@@ -22,7 +22,12 @@ put-number-requires : tie.Need-put-number-requires
 put-number-requires c κs =
     let e = c .before in
     let s = e .before .before in
-    omega (arith, ap length (first e), length-append (decimal (getD (s .args .t3) 0 0)) (others (slice 1 (s .args .len) (s .args .t3))), s .pre .1)
+    omega (
+      arith,
+      ap length (first e),
+      length-append (decimal (getD (s .args .t3) 0 0)) (others (slice 1 (s .args .len) (s .args .t3))),
+      s .pre .1,
+    )
 
 put-others-requires : tie.Need-put-others-requires
 put-others-requires c κs =

@@ -12,6 +12,7 @@ pub put-marked-spec : {M : Type 1} → statement M
 put-marked-spec =
     tie.close
     (tie.spec (λ c κs. let s = c .before .before .args in omega (arith, length-append (decimal (s .n)) (s .mark ∷ [])))
-    (λ c κs. let s = c .before .before .before .before .before .before .args in omega (arith, length-append (decimal (s .n)) (s .mark ∷ [])))
+    (λ c κs. let s = c .before .before .before .before .before .before .args in
+    omega (arith, length-append (decimal (s .n)) (s .mark ∷ [])))
     (λ c. search needs)
     (λ c. let m = c .before .before in wrote-then _ _ (m .before .before .before .before .put-number .ensures) (m .put-byte .ensures)))

@@ -1,4 +1,5 @@
--- `values::put_name` meets its contract. The invariant: what is left to be written is the name from its byte i on, without blanks. Assumes nothing.
+-- `values::put_name` meets its contract. The invariant: what is left to be written is the name from its byte
+-- i on, without blanks. Assumes nothing.
 use Prim.Native.Nat.{_+_, _-_, _≤_}
 use native.Mathlib.Omega.{arith}
 use mathlib.Core.Path.{ap}
@@ -20,7 +21,8 @@ abbrev μ-loop : tie.MeasureT-loop
 -- a byte that is no blank is the next to be written
 next : (c : tie.Then1 Inv-loop μ-loop)
     → let b = c .before .before in let s = b .before .args in
-    Left (s .buf .now) (s .at) (bare (s .t3)) (b .loop .buf) (b .loop .o) (getD (s .t3) (b .loop .i) 0 ∷ bare (drop (b .loop .i + 1) (s .t3)))
+    Left (s .buf .now) (s .at) (bare (s .t3)) (b .loop .buf) (b .loop .o)
+    (getD (s .t3) (b .loop .i) 0 ∷ bare (drop (b .loop .i + 1) (s .t3)))
 next c =
     let b = c .before .before in
     left-as (bare-put (b .before .args .t3) (b .loop .i) (omega arith) (c .if1 .taken)) (b .loop .inv .1)
@@ -41,4 +43,5 @@ put-name-spec =
     (tie.spec Inv-loop μ-loop (λ c. (omega arith, left-start)) (λ c. omega arith) (λ c. omega (arith, next c .end, next c .same))
     (λ c. omega (arith, next c .end, next c .same)) (λ c. omega arith) (λ c. omega arith) loop-again
     (λ c. c .before .loop .inv .1 .same)
-    (λ c. let b = c .before in left-end (b .loop .inv .1) (ap bare (drop-of-length-le (b .before .args .t3) {i = b .loop .i} (omega arith)))))
+    (λ c. let b = c .before in
+    left-end (b .loop .inv .1) (ap bare (drop-of-length-le (b .before .args .t3) {i = b .loop .i} (omega arith)))))

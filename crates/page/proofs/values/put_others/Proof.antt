@@ -1,4 +1,5 @@
--- `values::put_others` meets its contract. The loop's invariant: the numbers from the one at i on are left, a comma before each. The measure is the numbers left.
+-- `values::put_others` meets its contract. The loop's invariant: the numbers from the one at i on are left, a comma before
+-- each. The measure is the numbers left.
 -- Assumes nothing.
 use Prim.Native.Nat.{_+_, _-_}
 use native.Mathlib.Omega.{arith}
@@ -22,7 +23,8 @@ abbrev μ-loop : tie.MeasureT-loop
 
 here : (c : tie.In-loop Inv-loop μ-loop)
     → let b = c .before in let s = c .before .before .before .args in let i = b .loop .i in
-    Todo (s .buf .now) (s .at) (others (slice 1 (s .len) (s .t3))) (b .loop .buf) (b .loop .o) ((44 ∷ decimal (getD (s .t3) i 0)) ∷ othersFrom (s .t3) (s .len) (i + 1))
+    Todo (s .buf .now) (s .at) (others (slice 1 (s .len) (s .t3))) (b .loop .buf) (b .loop .o)
+    ((44 ∷ decimal (getD (s .t3) i 0)) ∷ othersFrom (s .t3) (s .len) (i + 1))
 here c =
     let b = c .before in
     let s = c .before .before .before .args in

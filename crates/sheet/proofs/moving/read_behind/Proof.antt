@@ -1,5 +1,5 @@
--- `sheet::moving::read_behind` is safe, ends, and answers no more bytes than the block has room for. The invariant: the block is as long as it came. The measure is the number
--- of tries that are left. Assumes nothing.
+-- `sheet::moving::read_behind` is safe, ends, and answers no more bytes than the block has room for. The invariant: the block is as long as
+-- it came. The measure is the number of tries that are left. Assumes nothing.
 use borrow.Author.Needs.{needs}
 use mathlib.Core.Path.{_≡_}
 use lib.ListN.{length}

@@ -1,4 +1,5 @@
--- `sheet::moving::write_front` is safe and ends. The invariant: no more went out than was asked for. The measure is the number of tries that are left. Assumes nothing.
+-- `sheet::moving::write_front` is safe and ends. The invariant: no more went out than was asked for. The measure is the number of
+-- tries that are left. Assumes nothing.
 use borrow.Author.Needs.{needs}
 use Prim.Native.Nat.{_≤_}
 use Rattle.sheet.proofs.moving.write_front.Statement.{statement}
