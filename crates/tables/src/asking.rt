@@ -91,10 +91,13 @@ impl Tables {
     pub fn ask(self, name: [u8; 5], q: Request) -> Outcome
         ensures { λ r. ⌜ told r ≡ asked self (theRequest name q) ⌝ }
     {
-        let o = self.tested();
+        let o = self.opened();
         if o.sound {
             return self.carry(name, decisions::decide(self.ledger, o.caller, name, q));
         }
-        self.refused(Answer::NotSound)
+        Outcome {
+            answer: Answer::NotSound,
+            tables: self,
+        }
     }
 }

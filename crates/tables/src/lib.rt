@@ -1,6 +1,5 @@
 // The executive's tables, and what a call hands back.
 mod asking;
-mod base;
 mod calls;
 mod changes;
 mod ending;
@@ -27,7 +26,7 @@ pub struct Outcome {
     pub tables: Tables,
 }
 
-// Whether the tables are sound, and who stands at the head of the scheduled chain, or 0.
+// What every call begins with: whether the tables are sound, and who stands at the head of the scheduled chain, or 0.
 pub struct Opening {
     pub sound: bool,
     pub caller: u8,

@@ -1,6 +1,7 @@
 // Whether tables are sound, of any that a caller hands in: also of links that cross, run in circles or lead nowhere.
 ghost use mathlib.Core.Path.{_≡_};
 ghost use lib.ListN.{getD};
+ghost use Rattle.limits.specs.Limits.{scheduled};
 ghost use Rattle.tables.specs.Sound.{sound};
 ghost use Rattle.tables.specs.Walks.{Chained, ofProgram, Walks, settled, Rests};
 use super::Opening;
@@ -119,8 +120,8 @@ fn chains_sound(
 
 impl Tables {
     // The test of the tables, whatever is handed in; and their caller, read off the same links.
-    pub(crate) fn opened(self) -> Opening
-        ensures { λ r. ⌜ (r .sound ≡ sound self) × (r .caller ≡ getD (self .links) 1 0) ⌝ }
+    pub fn opened(self) -> Opening
+        ensures { λ r. ⌜ (r .sound ≡ sound self) × (r .caller ≡ getD (self .links) scheduled 0) ⌝ }
     {
         let ledger = self.ledger;
         let review = reviewed(ledger);
