@@ -117,10 +117,8 @@ fn is_touched(x: u8) -> u64
 // How many bytes of a buffer are not as they were lent.
 fn touched(buf: &[u8]) -> u64 {
     let mut n: u64 = 0;
-    let mut i: usize = 0;
-    while i < buf.len() {
+    for i in 0..buf.len() {
         n += is_touched(buf[i]);
-        i += 1;
     }
     n
 }

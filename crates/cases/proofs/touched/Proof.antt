@@ -2,16 +2,15 @@
 -- is how many are left. Assumes nothing.
 use Prim.Native.Nat.{_≤_, _-_}
 use native.Mathlib.Omega.{arith}
-use lib.ListN.{length}
 use borrow.Author.Needs.{needs}
 use Rattle.cases.proofs.touched.Statement.{statement}
 use Rattle.cases.proofs.touched.Tie as tie
 
 abbrev Inv-loop : tie.InvT-loop
-Inv-loop buf n₀ i₀ n i = n ≤ i
+Inv-loop buf n₀ i₀ i-end n i = n ≤ i
 
 abbrev μ-loop : tie.MeasureT-loop
-μ-loop buf n₀ i₀ n i = length buf - i
+μ-loop buf n₀ i₀ i-end n i = i-end - i
 
 pub touched-spec : {M : Type 1} → statement M
 touched-spec =
