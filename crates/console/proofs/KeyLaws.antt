@@ -62,12 +62,7 @@ refusing-sound t e = rw (e, refusing)
 pub refusing-unsound : (t : Tables) → sound t ≡ false → told (record { answer = NotSound; tables = t }) ≡ refusing t
 refusing-unsound t e = rw (e, refusing)
 
--- whether a command is PAGE
-pub page-said : (nm : List ℕ) (a : Said) → isPage a ≡ true → saying nm a ≡ PAGE
-page-said nm Bad e = false-true e
-page-said nm Page e = refl
-page-said nm (Asks q) e = false-true e
-
+-- what is not PAGE
 pub page-unsaid : (nm : List ℕ) (a : Said) → isPage a ≡ false → saying nm a ≡ PAGE → ⊥
 page-unsaid nm Bad e s = let z : _≡_ {A = ℕ} 0 1 = cc in omega arith
 page-unsaid nm Page e s = false-true (sym e)

@@ -19,7 +19,7 @@ use Rattle.text.specs.Inner.{PartEnd}
 use Rattle.text.proofs.Fields.{drop-take}
 use Rattle.text.proofs.Read.{upTo-over}
 use Rattle.console.specs.declared.words.Word.{Word}
-use Rattle.console.specs.Line.{Line, bad, Form, Entry, lookUp, execs, numbers, forms, lineOf}
+use Rattle.console.specs.Line.{Line, bad, PAGE, Form, Entry, lookUp, execs, numbers, forms, lineOf}
 use Rattle.console.specs.Inner.{fieldsFrom, noWord, lead, rows, rowAt, requests, taking, ended, entries}
 use Rattle.console.specs.Inner.{keys, behind, seek, starts, startAt, Row}
 use Rattle.console.proofs.FieldLaws.{fields-past, fields-cut, fields-all}
@@ -163,6 +163,11 @@ pub line-fits : (s : List ℕ) → length s ≤ longestLine → lineOf s ≡ beh
 unfolding lineOf parts fieldsFrom execs numbers forms entries behind
 line-fits [] h = refl
 line-fits (x ∷ s) h = line-is (x ∷ s) true (upTo-is 1 longestLine (length (x ∷ s)) (omega arith) h)
+
+-- the line that asks for the page
+pub page-line : lineOf (text "PAGE") ≡ PAGE
+unfolding lineOf parts execs numbers forms
+page-line = refl
 
 -- what word i says where no word comes, by its row
 pub ended-as : (i : ℕ) {w : Word} {named : Bool} → w ≡ rowAt i → w .1 ≡ named → (fs : List (List ℕ))

@@ -1,10 +1,15 @@
 // What a line does, and what is printed for it.
+ghost use Prim.Native.Nat.{ℕ, _≤_};
 ghost use mathlib.Core.Path.{_≡_};
+ghost use mathlib.Core.List.{List};
+ghost use lib.ListN.{length};
+ghost use Rattle.limits.specs.Limits.{pageRoom};
 ghost use Rattle.tables.specs.Calls.{told};
 ghost use Rattle.rules.specs.Engine.{beside};
+ghost use Rattle.console.specs.Line.{PAGE, lineOf};
 ghost use Rattle.console.specs.Console.{keyed};
 ghost use Rattle.console.specs.Sheet.{lineShown};
-ghost use Rattle.console.specs.Inner.{obeys, refusing, isPage, says};
+ghost use Rattle.console.specs.Inner.{obeys, refusing, says};
 use super::Command;
 use super::Said;
 use super::answers;
@@ -14,20 +19,15 @@ use rules::Answer;
 use tables::Outcome;
 use tables::Tables;
 
-// A line that is not understood; but tables that are not sound come first.
-fn not_understood(tables: Tables) -> Outcome
-    ensures { λ r. ⌜ told r ≡ refusing tables ⌝ }
+// The answer to a line that is not understood; but tables that are not sound come first.
+fn refusal(tables: Tables) -> Answer
+    ensures { λ r. ⌜ told (record { answer = r; tables = tables }) ≡ refusing tables ⌝ }
 {
-    if tables.is_sound() {
-        return Outcome {
-            answer: Answer::NotUnderstood,
-            tables: tables,
-        };
+    let o = tables.opened();
+    if o.sound {
+        return Answer::NotUnderstood;
     }
-    Outcome {
-        answer: Answer::NotSound,
-        tables: tables,
-    }
+    Answer::NotSound
 }
 
 // What a command does.
@@ -37,7 +37,10 @@ fn obey(tables: Tables, command: Command, buf: &mut [u8]) -> Outcome
     let name = command.name;
     let said = command.said;
     match said {
-        Said::Bad => not_understood(tables),
+        Said::Bad => Outcome {
+            answer: refusal(tables),
+            tables: tables,
+        },
         Said::Page => page::write_page(tables, buf),
         Said::Asks(q) => tables.ask(name, q),
     }
@@ -51,13 +54,21 @@ pub fn key_line(tables: Tables, line: &[u8], buf: &mut [u8]) -> Outcome
     obey(tables, command, buf)
 }
 
-fn is_page(said: Said) -> bool
-    ensures { λ r. ⌜ r ≡ isPage said ⌝ }
+// What any line that asks for the page prints: the page, or the line for a refusal.
+fn print_page(tables: Tables, out: &mut [u8]) -> Outcome
+    requires { ⌜ pageRoom ≤ length (now out) ⌝ }
+    ensures { λ r. ⌜ ((l : List ℕ) → lineOf l ≡ PAGE → beside (now (out .exit)) (told r) ≡ lineShown tables l (now (out .entry))) ⌝ }
 {
-    match said {
-        Said::Bad => false,
-        Said::Page => true,
-        Said::Asks(_) => false,
+    let outcome = page::write_page(tables, out);
+    let after = outcome.tables;
+    let answer = outcome.answer;
+    if let Answer::Done(_) = answer {
+        return outcome;
+    }
+    let length = answers::put_answer(out, answer);
+    Outcome {
+        answer: Answer::Done(length as u64),
+        tables: after,
     }
 }
 
@@ -73,18 +84,26 @@ pub fn print_line(tables: Tables, line: &[u8], out: &mut [u8]) -> Outcome
         };
     }
     let command = parse::command_of(line);
+    let name = command.name;
     let said = command.said;
-    let outcome = obey(tables, command, out);
-    let after = outcome.tables;
-    let answer = outcome.answer;
-    if is_page(said) {
-        if let Answer::Done(_) = answer {
-            return outcome;
+    match said {
+        Said::Bad => {
+            let length = answers::put_answer(out, refusal(tables));
+            Outcome {
+                answer: Answer::Done(length as u64),
+                tables: tables,
+            }
         }
-    }
-    let length = answers::put_answer(out, answer);
-    Outcome {
-        answer: Answer::Done(length as u64),
-        tables: after,
+        Said::Page => print_page(tables, out),
+        Said::Asks(q) => {
+            let outcome = tables.ask(name, q);
+            let after = outcome.tables;
+            let answer = outcome.answer;
+            let length = answers::put_answer(out, answer);
+            Outcome {
+                answer: Answer::Done(length as u64),
+                tables: after,
+            }
+        }
     }
 }

@@ -49,7 +49,8 @@ fn put_page(buf: &mut [u8], tables: Tables) -> usize
 pub fn write_page(tables: Tables, buf: &mut [u8]) -> Outcome
     ensures { λ r. ⌜ beside (now (buf .exit)) (told r) ≡ paged tables (now (buf .entry)) ⌝ }
 {
-    if !tables.is_sound() {
+    let o = tables.opened();
+    if !o.sound {
         return Outcome {
             answer: Answer::NotSound,
             tables: tables,

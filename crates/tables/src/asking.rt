@@ -95,8 +95,15 @@ impl Tables {
         if o.sound {
             return self.carry(name, decisions::decide(self.ledger, o.caller, name, q));
         }
+        self.refused(Answer::NotSound)
+    }
+
+    // A refusal: the tables as they came.
+    fn refused(self, answer: Answer) -> Outcome
+        ensures { λ r. ⌜ r ≡ record { answer = answer; tables = self } ⌝ }
+    {
         Outcome {
-            answer: Answer::NotSound,
+            answer: answer,
             tables: self,
         }
     }

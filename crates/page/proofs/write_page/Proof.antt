@@ -30,16 +30,20 @@ arrays s = record {
       ∙ s .good .0 .1 .1 .0 .1 .1 .1 .1 .1 .0 .1 .1 .1 .0 .1 .0 .1;
 }
 
-unsound : (c : tie.Then1) → sound (c .before .before .before .args .tables) ≡ false
-unsound c = sym (c .before .is-sound .ensures) ∙ not-true (c .before .is-sound .result) (c .if1 .taken)
+-- the start, from where the tables were tested
+abbrev start : tie.After-struct-known → tie.Start
+start k = k .before .before .before
 
-approved : (c : tie.Else1) → sound (c .before .before .before .args .tables) ≡ true
-approved c = sym (c .before .is-sound .ensures) ∙ not-false (c .before .is-sound .result) (c .if1 .left)
+unsound : (c : tie.Then1) → sound (start (c .before) .args .tables) ≡ false
+unsound c = sym (c .before .before .opened .ensures .0) ∙ not-true _ (c .if1 .taken)
+
+approved : (c : tie.Else1) → sound (start (c .before) .args .tables) ≡ true
+approved c = sym (c .before .before .opened .ensures .0) ∙ not-false _ (c .if1 .left)
 
 -- the space is room for the page, and the page is what it begins with
-fits : (c : tie.After-space) → CanPage (c .before .before .before .before .args .tables) (replicate {A = ℕ} pageRoom 0)
+fits : (c : tie.After-space) → CanPage (start (c .before .before) .args .tables) (replicate {A = ℕ} pageRoom 0)
 fits c =
-    let s = c .before .before .before .before in
+    let s = start (c .before .before) in
     can-page (s .args .tables) (replicate {A = ℕ} pageRoom 0) (arrays s) (approved (c .before))
     (omega (arith, length-replicate {A = ℕ} pageRoom 0))
 
@@ -47,13 +51,13 @@ within : (c : tie.After-put-page) → c .put-page .result ≤ length (c .put-pag
 within c = omega (arith, c .put-page .ensures .place, wrote-length (c .put-page .ensures), fits (c .before) .room)
 
 begins : (c : tie.After-put-page)
-    → take (c .put-page .result) (c .put-page .last .0) ≡ page (plain (c .before .before .before .before .before .args .tables))
+    → take (c .put-page .result) (c .put-page .last .0) ≡ page (plain (start (c .before .before .before) .args .tables))
 begins c = wrote-take (c .put-page .ensures) (fits (c .before) .room)
 
 returns-2 : tie.Need-returns-2
 returns-2 c =
     let p = c .before .before in
-    let s = p .before .before .before .before .before in
+    let s = start (p .before .before .before) in
     handed-short (s .args .tables) (s .args .buf .now) (p .put-page .result) (approved (p .before .before)) (p .put-page .ensures .place)
     (omega (arith, c .if2 .taken))
 
@@ -68,7 +72,7 @@ returns-3 c =
     let b = c .before .before in
     let e = b .before .before .before in
     let p = e .before .before in
-    let s = p .before .before .before .before .before in
+    let s = start (p .before .before .before) in
     handed-done (s .args .tables) (s .args .buf .now) (p .put-page .result) (b .put-bytes .result) (b .put-bytes .last .0)
     (approved (p .before .before))
     (p .put-page .ensures .place) (omega (arith, e .if2 .left)) (wrote-as (sym (begins p)) (b .put-bytes .ensures))
@@ -77,7 +81,7 @@ pub write-page-spec : {M : Type 1} → statement M
 write-page-spec =
     tie.close
     (tie.spec (λ c κs. search needs)
-    (λ c. let s = c .before .before .before in handed-unsound (s .args .tables) (s .args .buf .now) (unsound c)) (λ c. search needs)
+    (λ c. let s = start (c .before) in handed-unsound (s .args .tables) (s .args .buf .now) (unsound c)) (λ c. search needs)
     (λ c κs. fits c) returns-2 (λ c. within (c .before .before .before))
     (λ c. let p = c .before .before .before .before in sym (length-take-le (p .put-page .result) (p .put-page .last .0) (within p)))
     put-bytes-requires (λ c. wrote-length (c .before .before .put-bytes .ensures)) returns-3)

@@ -20,7 +20,7 @@ returns : tie.Need-returns
 returns c =
     let s = c .before .before .before .before .before in
     let a = s .args in
-    ap (beside (a .buf .now)) (c .not-understood .ensures)
+    ap (beside (a .buf .now)) (c .refusal .ensures)
     ∙ sym (obeys-bad (a .tables) (a .buf .now))
     ∙ told s (c .before .enum-told .given .1)
 

@@ -1,7 +1,7 @@
 -- `tables::Tables::ask` meets its contract: the test, the decision, and what was decided, made. Assumes nothing.
 use borrow.Author.Needs.{needs}
 use native.Mathlib.Omega.{arith}
-use mathlib.Core.Path.{_≡_, sym, _∙_, refl, subst}
+use mathlib.Core.Path.{_≡_, sym, ap, _∙_, refl, subst}
 use lib.ListN.{length-map}
 use Rattle.records.specs.Records.{Known}
 use Rattle.records.proofs.Program as program
@@ -11,6 +11,7 @@ use Rattle.rules.specs.Keeper as keeper
 use Rattle.rules.specs.Coded.{theRequest}
 use Rattle.decisions.specs.Inner.{Decides}
 use Rattle.tables.specs.Tables.{plain, callerOf, Arrays}
+use Rattle.tables.specs.Calls.{told}
 use Rattle.tables.specs.Inner.{Ready, Tested}
 use Rattle.tables.proofs.Readied.{tested-is, caller-known, clock-most}
 use Rattle.tables.proofs.Serving.{asked-unsound}
@@ -59,7 +60,7 @@ returns : tie.Need-returns
 returns c = let d = c .before in c .carry .ensures ∙ as-asked _ (ready (d .before)) _ _ _ (decided d)
 
 returns-2 : tie.Need-returns-2
-returns-2 c = asked-unsound _ _ (sym (tested (c .before) .is) ∙ c .if1 .left)
+returns-2 c = ap told (c .refused .ensures) ∙ asked-unsound _ _ (sym (tested (c .before .before) .is) ∙ c .before .if1 .left)
 
 pub ask-spec : {M : Type 1} → statement M
-ask-spec = tie.close (tie.spec (λ c κs. search needs) decide-requires carry-requires returns returns-2)
+ask-spec = tie.close (tie.spec (λ c κs. search needs) decide-requires carry-requires returns (λ c κs. search needs) returns-2)
