@@ -18,7 +18,7 @@ use Rattle.records.specs.declared.Why.the-variants.{Number, Lock}
 use Rattle.records.specs.Numbers.{globally, resources, numberAt}
 use Rattle.rules.specs.Plans.{View, refused, done, releasing, woken}
 use Rattle.rules.specs.Requests.{ALLOC}
-use Rattle.rules.specs.Rules.{waits, clears, call, number}
+use Rattle.rules.specs.Rules.{waits, clears, call, assigned}
 use Rattle.rules.proofs.shared.Paths.{need-met, need-failed, either-so, either-not, allocated-not-ours, allocated-free, allocated-is}
 use Rattle.decisions.specs.declared.numbering.Wanted.{Wanted}
 use Rattle.decisions.specs.declared.numbering.Wanted.the-variants as wants
@@ -48,13 +48,13 @@ module _ (v : View) (c : ℕ) (g : Bool) (w : ℕ) where
     alloc-waits z = need-met 3 0 _ (le-leb w 1 h) ∙ either-not _ _ (le-ltb 0 (lowestFree (v .book .resources) (v .book .numbers)) (omega (arith, lowest, z)))
 
     module _ (z : r ≢ 0) where
-      pub alloc-done : (o : ℕ) → o ≡ cond g globally c → call v c (ALLOC g w) ≡ done (r ∷ []) (number v r o 0 ∷ [])
+      pub alloc-done : (o : ℕ) → o ≡ cond g globally c → call v c (ALLOC g w) ≡ done (r ∷ []) (assigned v r o 0 ∷ [])
       unfolding call
       alloc-done o G =
           need-met 3 0 _ (le-leb w 1 h)
           ∙ either-so _ _ (lt-ltb 0 (lowestFree (v .book .resources) (v .book .numbers)) (omega (arith, lowest, z)))
-          ∙ ap (λ (k : ℕ). done (k ∷ []) (number v k (cond g globally c) 0 ∷ [])) lowest
-          ∙ ap (λ (k : ℕ). done (r ∷ []) (number v r k 0 ∷ [])) (sym G)
+          ∙ ap (λ (k : ℕ). done (k ∷ []) (assigned v k (cond g globally c) 0 ∷ [])) lowest
+          ∙ ap (λ (k : ℕ). done (r ∷ []) (assigned v r k 0 ∷ [])) (sym G)
 
 -- an allocated number
 module _ (v : View) (c r : ℕ) (q : Wanted) where
@@ -89,7 +89,7 @@ module _ (v : View) (c r : ℕ) (x : Resource) where
     lock-own e = either-so _ _ (eq-eqb (x .lock) c e)
 
     module _ (n : x .lock ≢ c) where
-      pub lock-clear : x .lock ≡ 0 → wanted v c r (wants.Lock w) x ≡ done (r ∷ []) (number v r (x .owner) c ∷ [])
+      pub lock-clear : x .lock ≡ 0 → wanted v c r (wants.Lock w) x ≡ done (r ∷ []) (assigned v r (x .owner) c ∷ [])
       unfolding wanted
       lock-clear e = either-not _ _ (ne-eqb (x .lock) c n) ∙ either-so _ _ (eq-eqb (x .lock) 0 e)
 
@@ -107,12 +107,12 @@ module _ (v : View) (c r : ℕ) (x : Resource) where
     clear-other e = either-not _ _ (ne-eqb (x .lock) 0 n) ∙ need-failed 9 0 _ (ne-eqb (x .lock) c e)
 
     pub clear-own : x .lock ≡ c → wanted v c r wants.Clear x
-        ≡ releasing (length (woken v (clears r false)) ∷ []) (number v r (x .owner) 0 ∷ []) (clears r false)
+        ≡ releasing (length (woken v (clears r false)) ∷ []) (assigned v r (x .owner) 0 ∷ []) (clears r false)
     unfolding wanted
     clear-own e = either-not _ _ (ne-eqb (x .lock) 0 n) ∙ need-met 9 0 _ (eq-eqb (x .lock) c e)
 
   module _ (b : Bool) (B : b ≡ mayFree c (x .owner) (x .lock)) where
-    pub free-own : b ≡ true → wanted v c r wants.Free x ≡ releasing (length (woken v (clears r true)) ∷ []) (number v r 0 0 ∷ []) (clears r true)
+    pub free-own : b ≡ true → wanted v c r wants.Free x ≡ releasing (length (woken v (clears r true)) ∷ []) (assigned v r 0 0 ∷ []) (clears r true)
     unfolding wanted
     free-own e = need-met 9 0 _ (sym B ∙ e)
 

@@ -26,8 +26,7 @@ use Rattle.rules.specs.Answers.{number, values}
 use Rattle.rules.specs.Book.{Book, at, stateOf}
 use Rattle.rules.specs.Requests.{PR, OF}
 use Rattle.rules.specs.Plans.{Event, on, becomes, priced, loaded, timed, clocked, held, renewed, Plan, refused, done, releasing, waiting, View, woken, wake, need, either, numberOf, valuesOf, eventsOf}
-use Rattle.rules.specs.Rules.{named, inside, waits, frees, clears, ends, quit, dismissed, order, dueAt, ticked, allocated}
-use Rattle.rules.specs.Rules as rules
+use Rattle.rules.specs.Rules.{named, inside, waits, frees, clears, ends, quit, dismissed, order, dueAt, ticked, allocated, assigned}
 use Rattle.ledger.specs.declared.Ledger.{Ledger}
 use Rattle.decisions.specs.declared.Effect.{Effect}
 use Rattle.decisions.specs.declared.Effect.the-variants.{Stay, Renew, Load, Price, Time, Become, Await, Dismiss, End, Take, Give, GiveAll, Number, Release, Tick}
@@ -60,8 +59,8 @@ eventsFor v nm (End p) = on p (becomes dormant why.Nothing) ∷ quit v p ∷ wak
 eventsFor v nm (Take i n h) = held (filled i n h (v .book .holders)) ∷ []
 eventsFor v nm (Give i n) = held (filled i n nobody (v .book .holders)) ∷ wake (woken v (frees n))
 eventsFor v nm (GiveAll c n) = held (replaced c nobody (v .book .holders)) ∷ wake (woken v (frees n))
-eventsFor v nm (Number r o l) = rules.number v r o l ∷ []
-eventsFor v nm (Release r o l d) = rules.number v r o l ∷ wake (woken v (clears r d))
+eventsFor v nm (Number r o l) = assigned v r o l ∷ []
+eventsFor v nm (Release r o l d) = assigned v r o l ∷ wake (woken v (clears r d))
 eventsFor v nm Tick = tickEvents (v .book)
 
 -- the number and the values: those of the answer, or what the effect tells: how many are woken or started, and 0 for new tables
@@ -162,14 +161,14 @@ waitingOf wants.Free = 0
 unfoldable pub wanted : View → ℕ → ℕ → Wanted → Resource → Plan
 wanted v c r (wants.Lock w) x =
     either (eqb (x .lock) c) (done (r ∷ []) [])
-    (either (eqb (x .lock) 0) (done (r ∷ []) (rules.number v r (x .owner) c ∷ [])) (waits c w general (why.Lock r)))
+    (either (eqb (x .lock) 0) (done (r ∷ []) (assigned v r (x .owner) c ∷ [])) (waits c w general (why.Lock r)))
 wanted v c r wants.Clear x =
     either (eqb (x .lock) 0) (done (0 ∷ []) [])
     (need (eqb (x .lock) c) 9 0
-    (releasing (length (woken v (clears r false)) ∷ []) (rules.number v r (x .owner) 0 ∷ []) (clears r false)))
+    (releasing (length (woken v (clears r false)) ∷ []) (assigned v r (x .owner) 0 ∷ []) (clears r false)))
 wanted v c r wants.Free x =
     need (mayFree c (x .owner) (x .lock)) 9 0
-    (releasing (length (woken v (clears r true)) ∷ []) (rules.number v r 0 0 ∷ []) (clears r true))
+    (releasing (length (woken v (clears r true)) ∷ []) (assigned v r 0 0 ∷ []) (clears r true))
 
 unfoldable pub ofNumber : View → ℕ → ℕ → Wanted → Plan
 ofNumber v c r q = need (leb (waitingOf q) 1) 3 0 (allocated v r (wanted v c r q))

@@ -88,7 +88,7 @@ noted-same N a b d o e f = rw (a, b, d, o, e, f) N
 
 -- what is refused is neither marked nor noted
 refused : {c T R : ℕ} {ps : List Program} → (Roster c T R ps → ⊥) → (us ss qs : List ℕ) → Enrolled c T R ps false us ss qs
-refused f us ss qs = record { told = tells-no f; marked = λ z. clash z refl; columns = λ z. clash z refl }
+refused f us ss qs = record { verdict = tells-no f; marked = λ z. clash z refl; columns = λ z. clash z refl }
 
 module _ {c T R : ℕ} {ps : List Program} {names sons states priorities used : List ℕ} {high i : ℕ}
     (N : Noted c T R ps names sons states priorities used high i) (h : i < 32) where
@@ -166,7 +166,7 @@ module _ {c T R : ℕ} {ps : List Program} {names sons states priorities used : 
 
   pub noted-end : Distinct names → (ok : Bool) → Tells ok (Awaited sons states) → Enrolled c T R ps ok used states priorities
   noted-end D ok t = record {
-    told = record {
+    verdict = record {
       yes = λ e. let A = t .yes e in record {
         fitting = λ k l. N .fitting k (omega arith);
         names = apart-of nameKey ps names (keyed nameKey names (N .names)) D;

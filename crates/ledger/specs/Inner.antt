@@ -151,13 +151,13 @@ pub record Roster (c T R : ℕ) (ps : List Program) : Type 0 where
   pub sons : Apart sonKey ps
 
 pub record Enrolled (c T R : ℕ) (ps : List Program) (ok : Bool) (us ss qs : List ℕ) : Type 0 where
-  pub told : Tells ok (Roster c T R ps)
+  pub verdict : Tells ok (Roster c T R ps)
   pub marked : ok ≡ true → Keyed usedKey ps us
   pub columns : ok ≡ true → Columns ps ss qs
 
 -- the ledger but its chains, and what a walk along these asks of its records
 pub record Reviewed (l : Ledger) (ok : Bool) (ss qs : List ℕ) : Type 0 where
-  pub told : ok ≡ testBook l
+  pub verdict : ok ≡ testBook l
   pub columns : ok ≡ true → Columns (l .programs) ss qs
 
 -- who may hold no track: a mark for every number but 0, those of used programs, and GLOBAL

@@ -109,8 +109,9 @@ allocated v r f =
     need (upTo 1 (v .book .numbers) r) 3 0
     (need (ltb 0 (numberAt (v .book .resources) r .owner)) 10 0 (f (numberAt (v .book .resources) r)))
 
-abbrev pub number : View → ℕ → ℕ → ℕ → Event
-number v r o l = numbered (withNumber r o l (v .book .resources))
+-- number r gets another owner and lock
+abbrev pub assigned : View → ℕ → ℕ → ℕ → Event
+assigned v r o l = numbered (withNumber r o l (v .book .resources))
 
 -- what the running program c asks (OUTLINE, "Calls of the running program")
 unfoldable pub call : View → ℕ → Call → Plan
@@ -135,20 +136,20 @@ call v c (EXEC12 nm res mult off) =
 call v c (ALLOC g w) =
     need (leb w 1) 3 0
     (let r = first (λ r. eqb (numberAt (v .book .resources) r .owner) 0) (from 1 (v .book .numbers)) in
-    either (ltb 0 r) (done (r ∷ []) (number v r (cond g globally c) 0 ∷ [])) (waits c w general Number))
+    either (ltb 0 r) (done (r ∷ []) (assigned v r (cond g globally c) 0 ∷ [])) (waits c w general Number))
 call v c (LOCK r w) =
     need (leb w 1) 3 0 (allocated v r λ x.
     either (eqb (x .lock) c) (done (r ∷ []) [])
-    (either (eqb (x .lock) 0) (done (r ∷ []) (number v r (x .owner) c ∷ [])) (waits c w general (Lock r))))
+    (either (eqb (x .lock) 0) (done (r ∷ []) (assigned v r (x .owner) c ∷ [])) (waits c w general (Lock r))))
 call v c (CLEAR r) =
     allocated v r λ x.
     either (eqb (x .lock) 0) (done (0 ∷ []) [])
     (need (eqb (x .lock) c) 9 0
-    (releasing (length (woken v (clears r false)) ∷ []) (number v r (x .owner) 0 ∷ []) (clears r false)))
+    (releasing (length (woken v (clears r false)) ∷ []) (assigned v r (x .owner) 0 ∷ []) (clears r false)))
 call v c (FREE r) =
     allocated v r λ x.
     need ((eqb (x .owner) c || eqb (x .owner) globally) && (eqb (x .lock) c || eqb (x .lock) 0)) 9 0
-    (releasing (length (woken v (clears r true)) ∷ []) (number v r 0 0 ∷ []) (clears r true))
+    (releasing (length (woken v (clears r true)) ∷ []) (assigned v r 0 0 ∷ []) (clears r true))
 
 -- the caller is the head of the scheduled chain: 2 where that is empty
 abbrev pub head : List ℕ → ℕ

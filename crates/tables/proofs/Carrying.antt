@@ -23,7 +23,7 @@ use Rattle.rules.specs.declared.Answer.{Answer}
 use Rattle.rules.specs.Answers as answers
 use Rattle.rules.specs.Plans.{Event, Release, on, becomes, timed, unloaded, held, numbered, wake, woken, fromDisc, fromGeneral}
 use Rattle.rules.specs.Requests.{Request}
-use Rattle.rules.specs.Rules.{number, quit, dismissed, ends}
+use Rattle.rules.specs.Rules.{assigned, quit, dismissed, ends}
 use Rattle.rules.proofs.shared.Settling.{settle, off-events}
 use Rattle.rules.specs.Keeper.{lists, view, step}
 use Rattle.rules.specs.Engine.{madeBy}
@@ -77,7 +77,7 @@ module _ (t : Tables) (O : Orderly t) (k o l : ℕ) (n : Numbers)
   pub can-put : CanNumber t n
   can-put = record { orderly = O; fit = rw N (fit-with (t .ledger .numbers) k o l (O .numbers)); count = ap (λ (x : Numbers). x .count) N }
 
-  pub was-put : (u : Tables) → Played t (numbered (resources n) ∷ []) u → Played t (number (view lists (plain t)) k o l ∷ []) u
+  pub was-put : (u : Tables) → Played t (numbered (resources n) ∷ []) u → Played t (assigned (view lists (plain t)) k o l ∷ []) u
   was-put u =
       played-as t u _ _
       (ap (λ (xs : List Resource). numbered xs ∷ []) (ap resources N ∙ resources-with (t .ledger .numbers) k o l (O .numbers)))

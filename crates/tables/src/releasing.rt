@@ -5,7 +5,7 @@ ghost use mathlib.Core.List.{[], _∷_, _++_};
 ghost use lib.ListN.{take};
 ghost use Rattle.tracks.specs.Tracks.{nobody, holders, filled, replaced};
 ghost use Rattle.rules.specs.Plans.{held, wake, woken, fromDisc, fromGeneral};
-ghost use Rattle.rules.specs.Rules.{frees, clears, number};
+ghost use Rattle.rules.specs.Rules.{frees, clears, assigned};
 ghost use Rattle.rules.specs.Keeper.{lists, view};
 ghost use Rattle.chains.specs.Inner.{Lists};
 ghost use Rattle.ledger.specs.Inner.{Releases};
@@ -125,7 +125,7 @@ impl Tables {
     // Number r has another owner and lock.
     pub(crate) fn with_number(self, r: usize, owner: u8, lock: u8) -> Tables
         requires { ⌜ CanPut self r ⌝ }
-        ensures { λ t. ⌜ Played self (number (view lists (plain self)) r owner lock ∷ []) t ⌝ }
+        ensures { λ t. ⌜ Played self (assigned (view lists (plain self)) r owner lock ∷ []) t ⌝ }
     {
         let book = self.ledger;
         let numbers = book.numbers;
@@ -135,7 +135,7 @@ impl Tables {
     // Number r is cleared or deallocated, and those wake who waited for that; how many.
     pub(crate) fn released(self, r: usize, owner: u8, lock: u8, dealt: bool) -> Counted
         requires { ⌜ CanPut self r ⌝ }
-        ensures { λ x. ⌜ Counts self (number (view lists (plain self)) r owner lock ∷ wake (woken (view lists (plain self)) (clears r dealt))) (woken (view lists (plain self)) (clears r dealt)) (x .tables) (x .number) ⌝ }
+        ensures { λ x. ⌜ Counts self (assigned (view lists (plain self)) r owner lock ∷ wake (woken (view lists (plain self)) (clears r dealt))) (woken (view lists (plain self)) (clears r dealt)) (x .tables) (x .number) ⌝ }
     {
         let w = self.waiters(Release::of_number(r, dealt));
         let t = self.with_number(r, owner, lock);

@@ -14,10 +14,11 @@ use Rattle.blocks.proofs.turning.print_block.Statement.{statement}
 use Rattle.blocks.proofs.turning.print_block.Tie as tie
 
 abbrev Inv-loop : tie.InvT-loop
-Inv-loop block at out₀ t₀ from₀ used₀ end₀ out t from used end = (end ≡ lineEnd block from) × Going t₀ block at out₀ out t from used
+Inv-loop block at out₀ last₀ from₀ used₀ end₀ out last from used end =
+    (end ≡ lineEnd block from) × Going (last₀ .tables) block at out₀ out (last .tables) from used
 
 abbrev μ-loop : tie.MeasureT-loop
-μ-loop block at out₀ t₀ from₀ used₀ end₀ out t from used end = length block - from
+μ-loop block at out₀ last₀ from₀ used₀ end₀ out last from used end = length block - from
 
 abbrev S : tie.At-loop Inv-loop μ-loop → tie.Start Inv-loop μ-loop
 S c = c .before .before .before .before
@@ -35,13 +36,13 @@ small : (c : tie.After-slice-known Inv-loop μ-loop) → length (c .before .befo
 small c = search needs
 
 abbrev Entered : tie.After-bytes-printed Inv-loop μ-loop → tie.Else1 Inv-loop μ-loop
-Entered c = c .before .before .before .before .before .before .before
+Entered c = c .before .before .before .before .before .before
 
 fitting : (c : tie.After-bytes-printed Inv-loop μ-loop)
     → Entered c .before .before .loop .used + c .bytes-printed .result ≤ length (S (Entered c .before .before) .args .out .now)
 fitting c =
     let i = Entered c .before in
-    let p = c .before .before .before .before in
+    let p = c .before .before .before in
     going-fits (i .before .loop .inv .1) (i .before .loop .end) (ends (i .before)) (i .loop-test .taken) (room-left (Entered c))
     (p .print-line .result) (p .print-line .last .1 .1 .0) (search needs) (p .print-line .ensures) (c .bytes-printed .result)
     (c .bytes-printed .ensures)
@@ -55,12 +56,12 @@ sub-if1 : tie.Need-sub-if1 Inv-loop μ-loop
 sub-if1 c = omega (arith, going-length (c .before .loop .inv .1))
 
 same-length : tie.Need-same-length Inv-loop μ-loop
-same-length c = going-length (c .before .before .loop .inv .1)
+same-length c = going-length (c .before .before .before .loop .inv .1)
 
 returns : tie.Need-returns Inv-loop μ-loop
 returns c =
-    let l = c .before .before in
-    going-over (l .loop .inv .1) (turn-full (l .loop .t) _ (l .loop .from) _ (omega (arith, going-length (l .loop .inv .1))))
+    let l = c .before .before .before in
+    going-over (l .loop .inv .1) (turn-full (l .loop .last .tables) _ (l .loop .from) _ (omega (arith, going-length (l .loop .inv .1))))
 
 sub-print-line : tie.Need-sub-print-line Inv-loop μ-loop
 sub-print-line c = low (c .before)
@@ -83,7 +84,7 @@ loop-less c = omega (arith, low (Entered (c .before) .before))
 loop-again : tie.Need-loop-again Inv-loop μ-loop
 loop-again c =
     let i = Entered (c .before) .before in
-    let p = c .before .before .before .before .before in (
+    let p = c .before .before .before .before in (
       c .line-end2 .ensures,
       going-line (i .before .loop .inv .1) (i .before .loop .end) (ends (i .before)) (i .loop-test .taken) (room-left (Entered (c .before)))
           (p .print-line .result) (p .print-line .last .1 .1 .0) (search needs) (p .print-line .ensures) (c .before .bytes-printed .result)
@@ -91,12 +92,12 @@ loop-again c =
     )
 
 same-length-2 : tie.Need-same-length-2 Inv-loop μ-loop
-same-length-2 c = going-length (c .before .loop .inv .1)
+same-length-2 c = going-length (c .before .before .loop .inv .1)
 
 returns-2 : tie.Need-returns-2 Inv-loop μ-loop
 returns-2 c =
-    let l = c .before in
-    going-over (l .loop .inv .1) (turn-none (l .loop .t) _ (l .loop .from) _
+    let l = c .before .before in
+    going-over (l .loop .inv .1) (turn-none (l .loop .last .tables) _ (l .loop .from) _
     (no-lines (S l .args .block .now) (l .loop .from) (l .loop .end) (ends l) (omega (arith, ends l .high))))
 
 pub print-block-spec : {M : Type 1} → statement M

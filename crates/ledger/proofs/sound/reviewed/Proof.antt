@@ -20,7 +20,7 @@ use Rattle.ledger.proofs.sound.reviewed.Tie as tie
 
 -- what fails a test
 refused : (l : Ledger) (ss qs : List ℕ) → (Passed l → ⊥) → Reviewed l false ss qs
-refused l ss qs f = record { told = book-no l f; columns = λ e. clash e refl }
+refused l ss qs f = record { verdict = book-no l f; columns = λ e. clash e refl }
 
 returns : tie.Need-returns
 returns c = let r = c .before .is-sized in refused _ _ _ (λ P. r .ensures .nay (not-true (r .result) (c .if1 .taken)) (P .sizes))
@@ -37,7 +37,7 @@ abbrev sized : tie.After-struct-known → tie.Else1
 sized c = roll c .before .before
 
 returns-2 : tie.Need-returns-2
-returns-2 c = refused _ _ _ (λ P. roll (c .before) .enrolled .ensures .told .nay (not-true _ (c .if2 .taken)) (P .roster))
+returns-2 c = refused _ _ _ (λ P. roll (c .before) .enrolled .ensures .verdict .nay (not-true _ (c .if2 .taken)) (P .roster))
 
 -- the marks of the used records
 used : (c : tie.Else2) → Keyed usedKey (sized (c .before) .before .before .args .l .programs) (roll (c .before) .enrolled .result .used)
@@ -81,11 +81,11 @@ returns-4 c =
     let o = roll (e2 .before) .enrolled .ensures in
     let passed = not-false _ (e2 .if2 .left) in
     let r = c .numbers-ok in record {
-      told = yes-or-no (r .result)
+      verdict = yes-or-no (r .result)
           (λ e. e ∙ book-yes l (holders-long s) (resources-long s)
           (record {
             sizes = sizes e1;
-            roster = o .told .yes passed;
+            roster = o .verdict .yes passed;
             places = held-map (serves-user l (used e2) (m .strangers .ensures)) (k .ensures .yes (not-false (k .result) (e3 .if3 .left)));
             counts = numbered-map (serves-user l (used e2) (m .strangers .ensures)) (r .ensures .yes e);
           }))

@@ -11,14 +11,14 @@ use Rattle.tables.proofs.Tables.opened.Tie as tie
 returns : tie.Need-returns
 returns c =
     let k = c .before .before .before in
-    (book-fails (k .before .before .args .self) _ (k .reviewed .ensures .told) (c .if1 .taken), refl)
+    (book-fails (k .before .before .args .self) _ (k .reviewed .ensures .verdict) (c .if1 .taken), refl)
 
 returns-2 : tie.Need-returns-2
 returns-2 c =
     let i = c .before .before .before .before .before .before in
     let k = i .before .before .before in
     let r = k .reviewed .ensures in (
-      book-passes (k .before .before .args .self) _ (r .told) (i .if1 .left) (c .chains-sound .result)
+      book-passes (k .before .before .args .self) _ (r .verdict) (i .if1 .left) (c .chains-sound .result)
           (c .chains-sound .ensures _ (r .columns (not-false _ (i .if1 .left)))),
       refl,
     )

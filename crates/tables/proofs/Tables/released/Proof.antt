@@ -4,7 +4,7 @@ use mathlib.Core.Path.{_≡_}
 use mathlib.Core.List.{[], _∷_}
 use lib.ListN.{length}
 use Rattle.rules.specs.Plans.{wake, woken}
-use Rattle.rules.specs.Rules.{clears, number}
+use Rattle.rules.specs.Rules.{clears, assigned}
 use Rattle.rules.specs.Keeper.{lists, view}
 use Rattle.tables.specs.Tables.{plain}
 use Rattle.tables.specs.Inner.{Awaits}
@@ -37,7 +37,7 @@ returns c =
     let v = view lists (plain (s .args .self)) in
     record {
       played =
-          played-on _ _ _ (number v (s .args .r) (s .args .owner) (s .args .lock) ∷ []) (wake (woken v (clears (s .args .r) (s .args .dealt)))) (n .with-number .ensures)
+          played-on _ _ _ (assigned v (s .args .r) (s .args .owner) (s .args .lock) ∷ []) (wake (woken v (clears (s .args .r) (s .args .dealt)))) (n .with-number .ensures)
           (roused _ (s .pre .orderly) _ _ _ (those w) _ _ (r .roused .ensures));
       number = roused-number _ (s .pre .orderly) _ _ _ (those w) _ (c .how-many .ensures) (long w .0) (long w .1);
     }
