@@ -35,11 +35,13 @@ links-clause l e =
     let b = both (every (along l) (from 1 6) && eqb (getD l 0 0) 0) (every (other l) (from 0 33)) e in
     let a = both (every (along l) (from 1 6)) (eqb (getD l 0 0) 0) (b .0) in
     record {
-      along = λ s k h. leads-true l s (getD (read l) s []) (every-in (along l) (from 1 6) (a .0) s (omega (arith, count-from s 1 6 k (omega arith))));
+      along = λ s k h.
+          leads-true l s (getD (read l) s []) (every-in (along l) (from 1 6) (a .0) s (omega (arith, count-from s 1 6 k (omega arith))));
       none = eqb-true (getD l 0 0) 0 (a .1);
       others = λ p h z. eqb-true (getD l (7 + p) 0) 0
           (unless (eqb (total p (read l)) 0) (eqb (getD l (7 + p) 0) 0)
-          (every-in (other l) (from 0 33) (b .1) p (omega (arith, count-from p 0 33 (omega arith) (omega arith)))) (eq-eqb (total p (read l)) 0 z));
+          (every-in (other l) (from 0 33) (b .1) p (omega (arith, count-from p 0 33 (omega arith) (omega arith))))
+          (eq-eqb (total p (read l)) 0 z));
     }
 
 pub links-test : (l : List ℕ) → Links l → testLinks l ≡ true
@@ -47,7 +49,8 @@ unfolding testLinks along other
 links-test l L =
     and
     (and
-    (every-is (along l) (from 1 6) (λ s k. leads-is l s (getD (read l) s []) (L .along s ((from-in s 1 6 k) .0) (omega (arith, (from-in s 1 6 k) .1)))))
+    (every-is (along l) (from 1 6)
+    (λ s k. leads-is l s (getD (read l) s []) (L .along s ((from-in s 1 6 k) .0) (omega (arith, (from-in s 1 6 k) .1)))))
     (eq-eqb (getD l 0 0) 0 (L .none)))
     (every-is (other l) (from 0 33) (λ p k.
     implies (eqb (total p (read l)) 0) (eqb (getD l (7 + p) 0) 0) (λ z.

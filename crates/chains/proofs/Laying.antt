@@ -1,5 +1,6 @@
--- The links of given chains lay them out, and say them when read; links that lay chains out are the links of these; and what soundness asks of links is that they lay out
--- the chains that they say. The idea: chain after chain is laid where there was none, so that each laid before stays.
+-- The links of given chains lay them out, and say them when read; links that lay chains out are the links of these; and what
+-- soundness asks of links is that they lay out the chains that they say. The idea: chain after chain is laid where there was
+-- none, so that each laid before stays.
 -- Assumes nothing.
 use Prim.Native.Nat.{ℕ, zero, suc, _+_, _-_, _≤_, _<_}
 use native.Mathlib.Omega.{arith}
@@ -26,7 +27,8 @@ lay-other l i s [] z = getD-set-other l s i 0 0 (λ e. omega (arith, rw e at z, 
 lay-other l i s (q ∷ qs) z =
     lay-other (set l s q) i (7 + q) qs (omega arith) ∙ getD-set-other l s i q 0 (λ e. omega (arith, rw e at z, same-refl s))
 
-lay-leads : (l : List ℕ) (s : ℕ) (c : List ℕ) → ((i : ℕ) → on i s c ≤ 1) → ((i : ℕ) → 1 ≤ on i s c → i < length l) → Leads (layChain l s c) s c
+lay-leads : (l : List ℕ) (s : ℕ) (c : List ℕ) → ((i : ℕ) → on i s c ≤ 1) → ((i : ℕ) → 1 ≤ on i s c → i < length l)
+    → Leads (layChain l s c) s c
 lay-leads l s [] o b = getD-set-same l s 0 0 (b s (omega (arith, same-refl s)))
 lay-leads l s (q ∷ qs) o b = (
   lay-other (set l s q) s (7 + q) qs (omega (arith, o s, same-refl s)) ∙ getD-set-same l s q 0 (b s (omega (arith, same-refl s))),
@@ -34,7 +36,8 @@ lay-leads l s (q ∷ qs) o b = (
 )
 
 -- one chain more, where there was none
-laid-lay : (l : List ℕ) (m : List (List ℕ)) (k : ℕ) (c : List ℕ) → Laid l m → k < 7 → getD m k [] ≡ [] → ((p : ℕ) → total p m + count p c ≤ 1)
+laid-lay : (l : List ℕ) (m : List (List ℕ)) (k : ℕ) (c : List ℕ) → Laid l m → k < 7 → getD m k [] ≡ []
+    → ((p : ℕ) → total p m + count p c ≤ 1)
     → ((p : ℕ) → 1 ≤ count p c → (1 ≤ p) × (p ≤ 32)) → Laid (layChain l k c) (set m k c)
 laid-lay l m k c L hk none most rng = record {
   long = length-lay l k c ∙ L .long;
@@ -42,14 +45,16 @@ laid-lay l m k c L hk none most rng = record {
   chain = λ t h. chain-of t h (ℕ-discrete t k);
   once = λ p. omega (arith, tot p, most p);
   within = λ p h. within-of p h (count p c) refl;
-  free = λ p z. lay-other l (7 + p) k c (omega (arith, same-ne (7 + p) k (λ e. omega arith), inner-count p c, tot p)) ∙ L .free p (omega (arith, tot p));
+  free = λ p z. lay-other l (7 + p) k c (omega (arith, same-ne (7 + p) k (λ e. omega arith), inner-count p c, tot p))
+      ∙ L .free p (omega (arith, tot p));
 }
   where
     tot : (p : ℕ) → total p (set m k c) ≡ total p m + count p c
     tot p = omega (arith, total-set p m k c (omega (arith, L .seven)), ap (count p) none)
 
     anew : Leads (layChain l k c) k c
-    anew = lay-leads l k c (on-once c (λ p. omega (arith, most p)) k hk) (λ i b. omega (arith, L .long, on-range c (λ p h. (rng p h) .1) k hk i b))
+    anew = lay-leads l k c (on-once c (λ p. omega (arith, most p)) k hk)
+        (λ i b. omega (arith, L .long, on-range c (λ p h. (rng p h) .1) k hk i b))
 
     chain-of : (t : ℕ) → t < 7 → Dec (t ≡ k) → Leads (layChain l k c) t (getD (set m k c) t [])
     chain-of t h (yes e) = rw (e, getD-set-same m k c [] (omega (arith, L .seven))) anew
@@ -83,12 +88,14 @@ laid-none = record {
 }
 
 -- all of them
-laid-all : (m pre : List (List ℕ)) (l : List ℕ) → Laid l (pre ++ replicate (length m) []) → length pre + length m ≤ 7 → ((p : ℕ) → total p pre + total p m ≤ 1)
+laid-all : (m pre : List (List ℕ)) (l : List ℕ) → Laid l (pre ++ replicate (length m) []) → length pre + length m ≤ 7
+    → ((p : ℕ) → total p pre + total p m ≤ 1)
     → ((p : ℕ) → 1 ≤ total p m → (1 ≤ p) × (p ≤ 32)) → Laid (layAll l (length pre) m) (pre ++ m)
 laid-all [] pre l L h most rng = L
 laid-all (c ∷ m) pre l L h most rng =
     let more : Laid (layChain l (length pre) c) (pre ++ c ∷ replicate (length m) []) =
-    rw set-append-seam at (laid-lay l (pre ++ [] ∷ replicate (length m) []) (length pre) c L (omega arith) (getD-append-seam pre [] (replicate (length m) []) [])
+    rw set-append-seam at
+    (laid-lay l (pre ++ [] ∷ replicate (length m) []) (length pre) c L (omega arith) (getD-append-seam pre [] (replicate (length m) []) [])
     (λ p. omega (arith, total-append p pre ([] ∷ replicate (length m) []), total-empty p (length m), most p))
     (λ p b. rng p (omega arith))) in
     let len : length (pre ++ c ∷ []) ≡ suc (length pre) = length-append pre (c ∷ []) ∙ omega arith in
@@ -98,7 +105,8 @@ laid-all (c ∷ m) pre l L h most rng =
     rw (append-snoc, len) at r
 
 -- chains that can be laid out: seven, no program twice, and none but 1 to 32
-module _ (m : List (List ℕ)) (seven : length m ≡ 7) (once : (p : ℕ) → total p m ≤ 1) (within : (p : ℕ) → 1 ≤ total p m → (1 ≤ p) × (p ≤ 32)) where
+module _ (m : List (List ℕ)) (seven : length m ≡ 7) (once : (p : ℕ) → total p m ≤ 1)
+    (within : (p : ℕ) → 1 ≤ total p m → (1 ≤ p) × (p ≤ 32)) where
   pub laid-linksOf : Laid (linksOf m) m
   unfolding linksOf
   laid-linksOf = laid-all m [] (replicate 40 0) (rw seven laid-none) (omega (arith, seven)) (λ p. omega (arith, once p)) within
@@ -110,8 +118,10 @@ module _ (m : List (List ℕ)) (seven : length m ≡ 7) (once : (p : ℕ) → to
 pub laid-is : {l : List ℕ} {m : List (List ℕ)} → Laid l m → l ≡ linksOf m
 laid-is {l} {m} L = laid-unique L (laid-linksOf m (L .seven) (L .once) (L .within))
 
--- the clause of soundness, where no program stands twice, says that links lay out what they say; and it holds of links that lay out chains, that of state 0 empty
-pub links-laid : (l : List ℕ) → length l ≡ 40 → Links l → ((p : ℕ) → total p (read l) ≤ 1) → ((p : ℕ) → 1 ≤ total p (read l) → (1 ≤ p) × (p ≤ 32))
+-- the clause of soundness, where no program stands twice, says that links lay out what they say; and it holds of links that
+-- lay out chains, that of state 0 empty
+pub links-laid : (l : List ℕ) → length l ≡ 40 → Links l → ((p : ℕ) → total p (read l) ≤ 1)
+    → ((p : ℕ) → 1 ≤ total p (read l) → (1 ≤ p) × (p ≤ 32))
     → Laid l (read l)
 links-laid l long L once within = record {
   long = long;

@@ -1,4 +1,5 @@
--- The loop that reads a chain out into an array: what is in the array, and the walk from where the loop stands, are together the walk from the start.
+-- The loop that reads a chain out into an array: what is in the array, and the walk from where the loop stands,
+-- are together the walk from the start.
 -- Assumes nothing.
 use Prim.Native.Nat.{ℕ, suc, _+_, _-_, _≤_, _<_}
 use native.Mathlib.Omega.{arith}

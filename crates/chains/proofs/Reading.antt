@@ -1,5 +1,5 @@
--- What links say of the chains that they lay out. They say just those chains, and links that say the same are the same; a chain has at most 32 programs, since each stands in it
--- at most once, so that the walk finds its end.
+-- What links say of the chains that they lay out. They say just those chains, and links that say the same are the same; a chain has at most
+-- 32 programs, since each stands in it at most once, so that the walk finds its end.
 -- Assumes nothing.
 use Prim.Native.Nat.{ℕ, zero, suc, _+_, _-_, _≤_, _<_}
 use native.Mathlib.Omega.{arith}
@@ -117,14 +117,16 @@ laid-unique {l} {l′} {m} L M = ext-getD 0 l l′ (L .long ∙ sym (M .long)) (
     prog p (suc n) e =
         let w = total-some p m (omega arith) in
         let b : w .0 < 7 = omega (arith, w .1, L .seven) in
-        chain-at l l′ (7 + p) (w .0) (getD m (w .0) []) (L .chain (w .0) b) (M .chain (w .0) b) (omega (arith, inner-count p (getD m (w .0) []), w .2))
+        chain-at l l′ (7 + p) (w .0) (getD m (w .0) []) (L .chain (w .0) b) (M .chain (w .0) b)
+        (omega (arith, inner-count p (getD m (w .0) []), w .2))
 
     at : (i : ℕ) → Dec (i < 7) → getD l i 0 ≡ getD l′ i 0
     at i (yes b) = chain-at l l′ i i (getD m i []) (L .chain i b) (M .chain i b) (omega (arith, same-refl i))
     at i (no n) = let e : i ≡ 7 + (i - 7) = omega arith in rw e (prog (i - 7) (total (i - 7) m) refl)
 
 -- a head is the first of its chain, and 0 where the chain is empty
-pub head-first : {l : List ℕ} {m : List (List ℕ)} → Laid l m → (s : ℕ) → s < 7 → getD l s 0 ≢ 0 → (ps : List ℕ) × (getD m s [] ≡ getD l s 0 ∷ ps)
+pub head-first : {l : List ℕ} {m : List (List ℕ)} → Laid l m → (s : ℕ) → s < 7 → getD l s 0 ≢ 0
+    → (ps : List ℕ) × (getD m s [] ≡ getD l s 0 ∷ ps)
 head-first {l} {m} L s h n = go (getD m s []) (L .chain s h)
   where
     go : (c : List ℕ) → Leads l s c → (ps : List ℕ) × (c ≡ getD l s 0 ∷ ps)

@@ -79,7 +79,8 @@ module _ {l : List ℕ} {g : ℕ → List ℕ → ℕ} {goal at n : ℕ} (S : Se
         let r = more in
         let before : walk l at 32 ≡ S .rest = chain-walk l 32 at (S .rest) (S .lies) (S .short) (S .no-zero) in
         let after : walk l (7 + n) 32 ≡ r .0 =
-        chain-walk l 32 (7 + n) (r .0) ((rw (r .1) at (S .lies)) .1) (omega (arith, rw (r .1) at (S .short))) (omega (arith, rw (r .1) at (S .no-zero))) in
+        chain-walk l 32 (7 + n) (r .0) ((rw (r .1) at (S .lies)) .1) (omega (arith, rw (r .1) at (S .short)))
+        (omega (arith, rw (r .1) at (S .no-zero))) in
         omega (arith, ap length after, ap length before, ap length (r .1))
 
     -- it stops where the next is as `g` wants it

@@ -1,6 +1,7 @@
--- One chain in the links: which slots it takes, that links which agree there lead along it alike, and what one more or one less program in it takes.
--- The idea: how often a slot is among a chain's is a number, `on`, so that what stands apart is told by arithmetic; and the slot where a program goes in or comes out
--- is found by recursion along the chain, as `insert` and `remove` go.
+-- One chain in the links: which slots it takes, that links which agree there lead along it alike, and what one
+-- more or one less program in it takes.
+-- The idea: how often a slot is among a chain's is a number, `on`, so that what stands apart is told by arithmetic; and the slot where a
+-- program goes in or comes out is found by recursion along the chain, as `insert` and `remove` go.
 -- Assumes nothing.
 use Prim.Native.Nat.{ℕ, _+_, _-_, _≤_, _<_}
 use native.Mathlib.Omega.{arith}
@@ -72,7 +73,8 @@ on-once c once k h i = go (decLt i 7)
     go (no n) = omega (arith, on-link i k c h n, once (i - 7))
 
 -- nor in two chains
-pub on-apart : (c d : List ℕ) → ((p : ℕ) → count p c + count p d ≤ 1) → (t k : ℕ) → t < 7 → k < 7 → t ≢ k → (i : ℕ) → 1 ≤ on i t c → on i k d ≡ 0
+pub on-apart : (c d : List ℕ) → ((p : ℕ) → count p c + count p d ≤ 1) → (t k : ℕ) → t < 7 → k < 7 → t ≢ k → (i : ℕ) → 1 ≤ on i t c
+    → on i k d ≡ 0
 on-apart c d once t k ht hk n i b = go (decLt i 7)
   where
     go : Dec (i < 7) → on i k d ≡ 0
@@ -142,11 +144,15 @@ module _ (pr : ℕ → ℕ) (l l′ : List ℕ) (at p : ℕ) (A : getD l′ at 0
   lay-step : (b : Bool) (s q : ℕ) (qs : List ℕ) → at ≡ cond b (place pr p (7 + q) qs) s → ((i : ℕ) → on i s (q ∷ qs) ≤ 1)
       → on (7 + p) s (q ∷ qs) ≡ 0 → Leads l s (q ∷ qs) → (at ≡ place pr p (7 + q) qs → Leads l′ (7 + q) (insert pr p qs))
       → Leads l′ s (cond b (q ∷ insert pr p qs) (p ∷ q ∷ qs))
-  lay-step true s q qs e o z h ih =
-      (C s (λ k. omega (arith, o s, same-refl s, rw (← e, ← k) at (place-on pr p (7 + q) qs))) (λ k. omega (arith, rw (← k) at z, same-refl s)) ∙ h .0, ih e)
+  lay-step true s q qs e o z h ih = (
+    C s (λ k. omega (arith, o s, same-refl s, rw (← e, ← k) at (place-on pr p (7 + q) qs)))
+        (λ k. omega (arith, rw (← k) at z, same-refl s)) ∙ h .0,
+    ih e,
+  )
   lay-step false s q qs e o z h ih = subst (λ (x : ℕ). Leads l′ x (p ∷ q ∷ qs)) e (put (q ∷ qs) (rw e o) (rw e z) (rw e h))
 
-  pub lay-in : (s : ℕ) (c : List ℕ) → at ≡ place pr p s c → ((i : ℕ) → on i s c ≤ 1) → on (7 + p) s c ≡ 0 → Leads l s c → Leads l′ s (insert pr p c)
+  pub lay-in : (s : ℕ) (c : List ℕ) → at ≡ place pr p s c → ((i : ℕ) → on i s c ≤ 1) → on (7 + p) s c ≡ 0 → Leads l s c
+      → Leads l′ s (insert pr p c)
   lay-in s [] e o z h = subst (λ (x : ℕ). Leads l′ x (p ∷ [])) e (put [] (rw e o) (rw e z) (rw e h))
   lay-in s (q ∷ qs) e o z h =
       lay-step (leb (pr q) (pr p)) s q qs e o z h (λ k. lay-in (7 + q) qs k (λ i. omega (arith, o i)) (omega arith) (h .1))
@@ -159,7 +165,8 @@ module _ (l l′ : List ℕ) (at p : ℕ) (A : getD l′ at 0 ≡ getD l (7 + p)
   cut (r ∷ rs) o h = (
     A ∙ h .1 .0,
     frame l l′ (7 + r) rs
-        (λ i b. C i (λ e. omega (arith, rw e at b, o at, same-refl at)) (λ e. omega (arith, rw e at b, o (7 + p), same-refl (7 + p)))) (h .1 .1),
+        (λ i b. C i (λ e. omega (arith, rw e at b, o at, same-refl at)) (λ e. omega (arith, rw e at b, o (7 + p), same-refl (7 + p))))
+        (h .1 .1),
   )
 
   take-step : (b : Bool) (s q : ℕ) (qs : List ℕ) → eqb q p ≡ b → at ≡ cond b s (before p (7 + q) qs) → ((i : ℕ) → on i s (q ∷ qs) ≤ 1)
@@ -169,11 +176,13 @@ module _ (l l′ : List ℕ) (at p : ℕ) (A : getD l′ at 0 ≡ getD l (7 + p)
       let k : q ≡ p = eqb-true q p t in
       subst (λ (x : ℕ). Leads l′ x qs) e (cut qs (rw (e, ← k) o) (rw (e, ← k) h))
   take-step false s q qs t e o z h ih = (
-    C s (λ k. omega (arith, o s, same-refl s, rw (← e, ← k) at (before-on p (7 + q) qs))) (λ k. omega (arith, rw (← k) at z, o s, same-refl s)) ∙ h .0,
+    C s (λ k. omega (arith, o s, same-refl s, rw (← e, ← k) at (before-on p (7 + q) qs)))
+        (λ k. omega (arith, rw (← k) at z, o s, same-refl s)) ∙ h .0,
     ih e (omega (arith, same-ne (7 + p) (7 + q) (λ k. eqb-false q p t (omega arith)))),
   )
 
-  pub take-out : (s : ℕ) (c : List ℕ) → at ≡ before p s c → ((i : ℕ) → on i s c ≤ 1) → 1 ≤ inner (7 + p) c → Leads l s c → Leads l′ s (remove p c)
+  pub take-out : (s : ℕ) (c : List ℕ) → at ≡ before p s c → ((i : ℕ) → on i s c ≤ 1) → 1 ≤ inner (7 + p) c → Leads l s c
+      → Leads l′ s (remove p c)
   take-out s [] e o z h = omega arith
   take-out s (q ∷ qs) e o z h =
       take-step (eqb q p) s q qs refl e o z h (λ k z′. take-out (7 + q) qs k (λ i. omega (arith, o i)) z′ (h .1))

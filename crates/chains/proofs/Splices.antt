@@ -1,5 +1,5 @@
--- The links after a program has entered or left a chain lay out the chains so changed. One law, `relaid`, serves both: links that differ only at the program's slot and on
--- one chain, which they lay out anew.
+-- The links after a program has entered or left a chain lay out the chains so changed. One law, `relaid`, serves both: links that differ
+-- only at the program's slot and on one chain, which they lay out anew.
 -- Assumes nothing.
 use Prim.Native.Nat.{ℕ, _+_, _-_, _≤_, _<_}
 use native.Mathlib.Omega.{arith}
@@ -13,10 +13,12 @@ use Rattle.lists.specs.Lists.{count, insert, remove}
 use Rattle.lists.proofs.Laws.{same-refl, same-ne, same-le, count-insert, count-remove}
 use Rattle.chains.specs.Links.{read, Leads, total}
 use Rattle.chains.specs.Inner.{Laid, entered, left, place, before, CanEnter, CanLeave}
-use Rattle.chains.proofs.Slots.{on, inner-count, frame, on-once, on-apart, on-range, place-on, before-on, before-ne, lay-in, take-out}
+use Rattle.chains.proofs.Slots.{on, inner-count, frame, on-once, on-apart, on-range, place-on}
+use Rattle.chains.proofs.Slots.{before-on, before-ne, lay-in, take-out}
 use Rattle.chains.proofs.Totals.{total-set, total-in, total-two}
 
--- links that differ from l only at p's slot and on the chain of state k, which they lay out anew with p more or less in it, lay out the chains so changed
+-- links that differ from l only at p's slot and on the chain of state k, which they lay out anew with p more or
+-- less in it, lay out the chains so changed
 relaid : (l l′ : List ℕ) (m : List (List ℕ)) (k p : ℕ) (c : List ℕ) → Laid l m → k < 7 → 1 ≤ p → p ≤ 32 → length l′ ≡ 40
     → total p m ≤ count p (getD m k []) → ((i : ℕ) → i ≢ 7 + p → on i k (getD m k []) ≡ 0 → getD l′ i 0 ≡ getD l i 0)
     → ((q : ℕ) → q ≢ p → count q c ≡ count q (getD m k [])) → count p c ≤ 1 → (count p c ≡ 0 → getD l′ (7 + p) 0 ≡ 0)
@@ -52,7 +54,9 @@ relaid l l′ m k p c L hk lo hi len alone keep others most gone lies = record {
     free-of q z (yes e) = rw e (gone (omega (arith, tot p, total-in p m k, rw e at z)))
     free-of q z (no n) =
         let none : total q m ≡ 0 = omega (arith, tot q, others q n) in
-        keep (7 + q) (λ e. n (omega arith)) (omega (arith, same-ne (7 + q) k (λ e. omega arith), inner-count q (getD m k []), total-in q m k)) ∙ L .free q none
+        keep (7 + q) (λ e. n (omega arith))
+        (omega (arith, same-ne (7 + q) k (λ e. omega arith), inner-count q (getD m k []), total-in q m k))
+        ∙ L .free q none
 
 -- the slots of a chain that is laid out are in the array, and none stands twice
 slot-in : (l : List ℕ) (m : List (List ℕ)) (k i : ℕ) → Laid l m → k < 7 → 1 ≤ on i k (getD m k []) → i < 40
@@ -145,7 +149,8 @@ laid-leave l m k p at L hk z e =
 
 -- what a caller of `enter` and `leave` knows of the slots
 pub enter-at : (pr : ℕ → ℕ) {l : List ℕ} {s p : ℕ} → CanEnter l s p → place pr p s (getD (read l) s []) < 40
-enter-at pr {l} {s} {p} C = slot-in l (read l) s (place pr p s (getD (read l) s [])) (C .laid) (C .state) (place-on pr p s (getD (read l) s []))
+enter-at pr {l} {s} {p} C =
+    slot-in l (read l) s (place pr p s (getD (read l) s [])) (C .laid) (C .state) (place-on pr p s (getD (read l) s []))
 
 pub leave-at : {l : List ℕ} {s p : ℕ} → CanLeave l s p → before p s (getD (read l) s []) < 40
 leave-at {l} {s} {p} C = slot-in l (read l) s (before p s (getD (read l) s [])) (C .laid) (C .state) (before-on p s (getD (read l) s []))

@@ -1,5 +1,5 @@
--- Who stands in which chain: how often a program stands in all of them, and in one. `total` is the sum of the counts, so that to be in no chain, or in one and once, is
--- an equation or a bound.
+-- Who stands in which chain: how often a program stands in all of them, and in one. `total` is the sum of the counts, so that to be in no
+-- chain, or in one and once, is an equation or a bound.
 -- Assumes nothing.
 use Prim.Native.Nat.{ℕ, zero, suc, _+_, _≤_, _<_}
 use native.Mathlib.Omega.{arith}
@@ -11,7 +11,8 @@ use Rattle.lists.specs.Lists.{count}
 use Rattle.chains.specs.Links.{total}
 
 -- with another chain in the place of one
-pub total-set : (x : ℕ) (m : List (List ℕ)) (k : ℕ) (c : List ℕ) → k < length m → total x (set m k c) + count x (getD m k []) ≡ total x m + count x c
+pub total-set : (x : ℕ) (m : List (List ℕ)) (k : ℕ) (c : List ℕ) → k < length m
+    → total x (set m k c) + count x (getD m k []) ≡ total x m + count x c
 total-set x [] k c h = omega arith
 total-set x (d ∷ m) zero c h = omega arith
 total-set x (d ∷ m) (suc k) c h = omega (arith, total-set x m k c (omega arith))

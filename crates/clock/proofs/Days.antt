@@ -1,4 +1,5 @@
--- The clock shows the parts of a day that its ticks are made of: so a day's first tick shows its midnight, and its last tick the last hundredth before the next one.
+-- The clock shows the parts of a day that its ticks are made of: so a day's first tick shows its midnight, and its last tick
+-- the last hundredth before the next one.
 -- What is left of the ticks below a unit is less than that unit, so dividing by the unit leaves just the units above.
 -- Of any clock. Assumes nothing.
 use Prim.Native.Nat.{ℕ, _+_, _*_, _/_, _%_, _<_}

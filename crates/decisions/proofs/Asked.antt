@@ -53,9 +53,11 @@ module _ (v : View) (c : ℕ) (nm : List ℕ) (q : Task) (b : Bool) (B : b ≡ p
   unfolding asking
   asked-not e = need-failed 3 0 _ (sym B ∙ not-true b e)
 
-  pub asked-of : not b ≡ false → (ps : List Program) (r x : Named) → NamedBy ps nm r → v .book .programs ≡ ps → r ≡ x → asking v c nm q ≡ onNamed x (performed v c q)
+  pub asked-of : not b ≡ false → (ps : List Program) (r x : Named) → NamedBy ps nm r → v .book .programs ≡ ps → r ≡ x
+      → asking v c nm q ≡ onNamed x (performed v c q)
   unfolding asking
-  asked-of e ps r x N O R = need-met 3 0 _ (sym B ∙ not-false b e) ∙ N .says v O (performed v c q) ∙ ap (λ (y : Named). onNamed y (performed v c q)) R
+  asked-of e ps r x N O R = need-met 3 0 _ (sym B ∙ not-false b e) ∙ N .says v O (performed v c q)
+      ∙ ap (λ (y : Named). onNamed y (performed v c q)) R
 
 -- its state
 module _ (v : View) (p s : ℕ) (S : stateOf (v .book) p ≡ s) where

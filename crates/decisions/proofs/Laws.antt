@@ -1,4 +1,5 @@
--- What every decision rests on: a plan may be told in another form, a refusal stays, and so does what is done without anything happening. And tests that fail.
+-- What every decision rests on: a plan may be told in another form, a refusal stays, and so does what is done without
+-- anything happening. And tests that fail.
 -- Assumes nothing.
 use Prim.Native.Nat.{ℕ}
 use mathlib.Core.Path.{_≡_, refl, sym, ap, subst}
@@ -21,10 +22,12 @@ module _ (v : View) (nm : List ℕ) where
   pub same : {x : Plan} {d e : Decision} → d ≡ e → Decides v nm x e → Decides v nm x d
   same {x = x} e D = subst (Decides v nm x) (sym e) D
 
-  pub stays : (a : Answer) (n : ℕ) {x : Plan} {d : Decision} → d ≡ record { answer = a; effect = Stay } → values a ≡ n ∷ [] → x ≡ refused (number a) n → Decides v nm x d
+  pub stays : (a : Answer) (n : ℕ) {x : Plan} {d : Decision} → d ≡ record { answer = a; effect = Stay } → values a ≡ n ∷ []
+      → x ≡ refused (number a) n → Decides v nm x d
   stays a n D w e = like e (same D (record { number = refl; values = w; events = refl; apt = tt }))
 
-  pub rests : (a : Answer) (vs : List ℕ) {x : Plan} {d : Decision} → d ≡ record { answer = a; effect = Stay } → number a ≡ 0 → values a ≡ vs → x ≡ done vs [] → Decides v nm x d
+  pub rests : (a : Answer) (vs : List ℕ) {x : Plan} {d : Decision} → d ≡ record { answer = a; effect = Stay } → number a ≡ 0 → values a ≡ vs
+      → x ≡ done vs [] → Decides v nm x d
   rests a vs D n w e = like e (same D (record { number = n; values = w; events = refl; apt = tt }))
 
 -- a test that cannot be passed

@@ -31,7 +31,8 @@ lowestFree xs R = first (λ r. eqb (numberAt xs r .owner) 0) (from 1 R)
 
 pub lowest-within : (x : Numbers) (r : ℕ) → r ≡ lowestFree (resources x) (x .count) → r ≢ 0 → (1 ≤ r) × (r ≤ x .count)
 lowest-within x r N z =
-    let b = from-in (lowestFree (resources x) (x .count)) 1 (x .count) (first-in (λ k. eqb (numberAt (resources x) k .owner) 0) (from 1 (x .count)) (omega (arith, N, z))) in
+    let b = from-in (lowestFree (resources x) (x .count)) 1 (x .count)
+    (first-in (λ k. eqb (numberAt (resources x) k .owner) 0) (from 1 (x .count)) (omega (arith, N, z))) in
     (omega (arith, z), omega (arith, N, b .1))
 
 module _ (v : View) (c : ℕ) (g : Bool) (w : ℕ) where
@@ -45,7 +46,8 @@ module _ (v : View) (c : ℕ) (g : Bool) (w : ℕ) where
 
     pub alloc-waits : r ≡ 0 → call v c (ALLOC g w) ≡ waits c w 3 Number
     unfolding call
-    alloc-waits z = need-met 3 0 _ (le-leb w 1 h) ∙ either-not _ _ (le-ltb 0 (lowestFree (v .book .resources) (v .book .numbers)) (omega (arith, lowest, z)))
+    alloc-waits z = need-met 3 0 _ (le-leb w 1 h)
+        ∙ either-not _ _ (le-ltb 0 (lowestFree (v .book .resources) (v .book .numbers)) (omega (arith, lowest, z)))
 
     module _ (z : r ≢ 0) where
       pub alloc-done : (o : ℕ) → o ≡ cond g globally c → call v c (ALLOC g w) ≡ done (r ∷ []) (assigned v r o 0 ∷ [])
@@ -75,7 +77,8 @@ module _ (v : View) (c r : ℕ) (q : Wanted) where
     module _ (l : 1 ≤ r) (m : r ≤ v .book .numbers) (x : Resource) (X : numberAt (v .book .resources) r ≡ x) where
       pub number-free : x .owner ≡ 0 → ofNumber v c r q ≡ refused 10 0
       unfolding ofNumber
-      number-free e = need-met 3 0 _ passed ∙ allocated-free v r _ (upTo-is 1 (v .book .numbers) r l m) (ap (λ (y : Resource). y .owner) X ∙ e)
+      number-free e =
+          need-met 3 0 _ passed ∙ allocated-free v r _ (upTo-is 1 (v .book .numbers) r l m) (ap (λ (y : Resource). y .owner) X ∙ e)
 
       pub number-owned : x .owner ≢ 0 → ofNumber v c r q ≡ wanted v c r q x
       unfolding ofNumber
@@ -112,7 +115,8 @@ module _ (v : View) (c r : ℕ) (x : Resource) where
     clear-own e = either-not _ _ (ne-eqb (x .lock) 0 n) ∙ need-met 9 0 _ (eq-eqb (x .lock) c e)
 
   module _ (b : Bool) (B : b ≡ mayFree c (x .owner) (x .lock)) where
-    pub free-own : b ≡ true → wanted v c r wants.Free x ≡ releasing (length (woken v (clears r true)) ∷ []) (assigned v r 0 0 ∷ []) (clears r true)
+    pub free-own : b ≡ true
+        → wanted v c r wants.Free x ≡ releasing (length (woken v (clears r true)) ∷ []) (assigned v r 0 0 ∷ []) (clears r true)
     unfolding wanted
     free-own e = need-met 9 0 _ (sym B ∙ e)
 

@@ -41,7 +41,8 @@ module _ (v : View) (c h n w : ℕ) where
       let q = upTo-true 1 (v .book .tracks) n (p .0) in
       f (record { least = q .0; most = q .1; waits = leb-true w 1 (p .1) }))
 
-  module _ (x : table.Tracks) (O : OfTracks v x) (A : Allowed (v .book .tracks) n w) (f : Found) (F : foundIs f ≡ lowest n 0 (holders x)) where
+  module _ (x : table.Tracks) (O : OfTracks v x) (A : Allowed (v .book .tracks) n w) (f : Found)
+      (F : foundIs f ≡ lowest n 0 (holders x)) where
     allowed : (upTo 1 (v .book .tracks) n && leb w 1) ≡ true
     allowed = and (upTo-is 1 (v .book .tracks) n (A .least) (A .most)) (le-leb w 1 (A .waits))
 
@@ -74,7 +75,8 @@ module _ (v : View) (h n start : ℕ) where
       let p = both (leb 1 n) (leb (start + n) (v .book .tracks)) e in
       f (record { least = leb-true 1 n (p .0); within = leb-true (start + n) (v .book .tracks) (p .1) }))
 
-  module _ (x : table.Tracks) (O : OfTracks v x) (A : There (v .book .tracks) n start) (b : Bool) (B : b ≡ run h n (drop start (holders x))) where
+  module _ (x : table.Tracks) (O : OfTracks v x) (A : There (v .book .tracks) n start) (b : Bool)
+      (B : b ≡ run h n (drop start (holders x))) where
     inside : (leb 1 n && leb (start + n) (v .book .tracks)) ≡ true
     inside = and (le-leb 1 n (A .least)) (le-leb (start + n) (v .book .tracks) (A .within))
 
@@ -89,6 +91,7 @@ module _ (v : View) (h n start : ℕ) where
     unfolding gives
     gives-done e = need-met 3 0 _ inside ∙ need-met 9 0 _ (runs ∙ e)
 
-pub gives-all : (v : View) (c n : ℕ) → count c (v .book .holders) ≡ n → call v c EXEC5ALL ≡ releasing (n ∷ []) (held (replaced c nobody (v .book .holders)) ∷ []) (frees n)
+pub gives-all : (v : View) (c n : ℕ) → count c (v .book .holders) ≡ n
+    → call v c EXEC5ALL ≡ releasing (n ∷ []) (held (replaced c nobody (v .book .holders)) ∷ []) (frees n)
 unfolding call
 gives-all v c n e = ap (λ (k : ℕ). releasing (k ∷ []) (held (replaced c nobody (v .book .holders)) ∷ []) (frees k)) e

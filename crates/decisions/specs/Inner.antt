@@ -1,4 +1,5 @@
--- What a decision says, and what the functions that decide ask and promise each other. Nothing here need be believed for the calls: what they hand back is said by the rules.
+-- What a decision says, and what the functions that decide ask and promise each other. Nothing here need be believed for the calls:
+-- what they hand back is said by the rules.
 -- Assumes nothing.
 use Prim.Native.Nat.{ℕ, _+_, _*_, _≤_, _<_}
 use mathlib.Core.Path.{_≡_}
@@ -25,11 +26,13 @@ use Rattle.rules.specs.declared.Order.the-variants as order
 use Rattle.rules.specs.Answers.{number, values}
 use Rattle.rules.specs.Book.{Book, at, stateOf}
 use Rattle.rules.specs.Requests.{PR, OF}
-use Rattle.rules.specs.Plans.{Event, on, becomes, priced, loaded, timed, clocked, held, renewed, Plan, refused, done, releasing, waiting, View, woken, wake, need, either, numberOf, valuesOf, eventsOf}
+use Rattle.rules.specs.Plans.{Event, on, becomes, priced, loaded, timed, clocked, held, renewed, Plan, refused, done, releasing, waiting}
+use Rattle.rules.specs.Plans.{View, woken, wake, need, either, numberOf, valuesOf, eventsOf}
 use Rattle.rules.specs.Rules.{named, inside, waits, frees, clears, ends, quit, dismissed, order, dueAt, ticked, allocated, assigned}
 use Rattle.ledger.specs.declared.Ledger.{Ledger}
 use Rattle.decisions.specs.declared.Effect.{Effect}
-use Rattle.decisions.specs.declared.Effect.the-variants.{Stay, Renew, Load, Price, Time, Become, Await, Dismiss, End, Take, Give, GiveAll, Number, Release, Tick}
+use Rattle.decisions.specs.declared.Effect.the-variants.{Stay, Renew, Load, Price, Time, Become, Await, Dismiss, End}
+use Rattle.decisions.specs.declared.Effect.the-variants.{Take, Give, GiveAll, Number, Release, Tick}
 use Rattle.decisions.specs.declared.Decision.{Decision}
 use Rattle.decisions.specs.declared.naming.Task.{Task}
 use Rattle.decisions.specs.declared.naming.Task.the-variants as task
@@ -54,7 +57,8 @@ eventsFor v nm (Price p n) = on p (priced n) ∷ []
 eventsFor v nm (Time p d i) = on p (timed d i) ∷ []
 eventsFor v nm (Become p s w) = on p (becomes s w) ∷ []
 eventsFor v nm (Await p c) = on p (becomes scheduled why.Nothing) ∷ on c (becomes general (why.Son p)) ∷ []
-eventsFor v nm (Dismiss p k n) = (dismissed k p ++ (held (replaced p nobody (v .book .holders)) ∷ quit v p ∷ [])) ++ wake (woken v (ends v p n))
+eventsFor v nm (Dismiss p k n) =
+    (dismissed k p ++ (held (replaced p nobody (v .book .holders)) ∷ quit v p ∷ [])) ++ wake (woken v (ends v p n))
 eventsFor v nm (End p) = on p (becomes dormant why.Nothing) ∷ quit v p ∷ wake (woken v (ends v p 0))
 eventsFor v nm (Take i n h) = held (filled i n h (v .book .holders)) ∷ []
 eventsFor v nm (Give i n) = held (filled i n nobody (v .book .holders)) ∷ wake (woken v (frees n))

@@ -1,4 +1,5 @@
-// What a request comes to, read off the book before anything changes: its answer, and the effect that is left to be made. Nothing here knows how chains are kept.
+// What a request comes to, read off the book before anything changes: its answer, and the effect that is left to be made.
+// Nothing here knows how chains are kept.
 mod deciding;
 mod discs;
 mod naming;

@@ -12,7 +12,9 @@ ghost use Rattle.rules.specs.Requests.{LOAD};
 ghost use Rattle.rules.specs.Book.{stateOf, prioOf};
 ghost use Rattle.rules.specs.Rules.{order};
 ghost use Rattle.rules.specs.Requests.{PR, OF};
-ghost use Rattle.decisions.specs.Inner.{Decides, OfTracks, OfBook, OfParts, NamedBy, CanWait, CanAwait, CanDismiss, CanTime, CanPrice, CanPerform, CanAsk, timerAllowed, permitted, going, awaiting, winding, performed, asking};
+ghost use Rattle.decisions.specs.Inner.{Decides, OfTracks, OfBook, OfParts, NamedBy, CanWait, CanAwait};
+ghost use Rattle.decisions.specs.Inner.{CanDismiss, CanTime, CanPrice, CanPerform, CanAsk, timerAllowed};
+ghost use Rattle.decisions.specs.Inner.{permitted, going, awaiting, winding, performed, asking};
 use super::Decision;
 use super::Effect;
 use super::stay;
@@ -28,7 +30,8 @@ use records::Why;
 use rules::Answer;
 use tracks::Tracks;
 
-// What is asked of the program: to go from one state to another; a priority; to end, by OF 1 or 8; to be sent off, and awaited or not; a timer.
+// What is asked of the program: to go from one state to another; a priority; to end, by OF 1 or 8; to be
+// sent off, and awaited or not; a timer.
 pub(crate) enum Task {
     Shift(u8, u8),
     Price(u64),

@@ -76,7 +76,8 @@ pub(crate) fn allocates(numbers: Numbers, c: u8, global: bool, w: u64) -> Decisi
 // RN LOCK of a number x that is allocated.
 fn locks(c: u8, r: usize, w: u64, owner: u8, lock: u8) -> Decision
     requires { ⌜ Ours c r ⌝ }
-    ensures { λ d. ⌜ ((v : View) (nm : List ℕ) → r ≤ v .book .numbers → Decides v nm (wanted v c r (Lock w) (record { owner = owner; lock = lock })) d) ⌝ }
+    ensures { λ d. ⌜ ((v : View) (nm : List ℕ) → r ≤ v .book .numbers
+        → Decides v nm (wanted v c r (Lock w) (record { owner = owner; lock = lock })) d) ⌝ }
 {
     if lock == c {
         return stay(Answer::Done(r as u64));
@@ -93,7 +94,8 @@ fn locks(c: u8, r: usize, w: u64, owner: u8, lock: u8) -> Decision
 // RN CLEAR of it.
 fn clears(c: u8, r: usize, owner: u8, lock: u8) -> Decision
     requires { ⌜ Ours c r ⌝ }
-    ensures { λ d. ⌜ ((v : View) (nm : List ℕ) → r ≤ v .book .numbers → Decides v nm (wanted v c r Clear (record { owner = owner; lock = lock })) d) ⌝ }
+    ensures { λ d. ⌜ ((v : View) (nm : List ℕ) → r ≤ v .book .numbers
+        → Decides v nm (wanted v c r Clear (record { owner = owner; lock = lock })) d) ⌝ }
 {
     if lock == 0 {
         return stay(Answer::Done(0));
@@ -110,7 +112,8 @@ fn clears(c: u8, r: usize, owner: u8, lock: u8) -> Decision
 // RN FREE of it.
 fn frees(c: u8, r: usize, owner: u8, lock: u8) -> Decision
     requires { ⌜ Ours c r ⌝ }
-    ensures { λ d. ⌜ ((v : View) (nm : List ℕ) → r ≤ v .book .numbers → Decides v nm (wanted v c r Free (record { owner = owner; lock = lock })) d) ⌝ }
+    ensures { λ d. ⌜ ((v : View) (nm : List ℕ) → r ≤ v .book .numbers
+        → Decides v nm (wanted v c r Free (record { owner = owner; lock = lock })) d) ⌝ }
 {
     if may_free(c, owner, lock) {
         return Decision {

@@ -52,7 +52,8 @@ behind n i xs d h = getD-drop n xs (i - n) d ∙ ap (λ (k : ℕ). getD xs k d) 
 pub blank-clause : (l : Ledger) → testBlank l ≡ true → Blank l
 unfolding testBlank
 blank-clause l e =
-    let b = both (noHolders (drop (l .tracks .count) (places (l .tracks)))) (noNumbers (drop (l .numbers .count) (l .numbers .resources))) e in
+    let b = both (noHolders (drop (l .tracks .count) (places (l .tracks))))
+    (noNumbers (drop (l .numbers .count) (l .numbers .resources))) e in
     record {
       tracks = λ i h. sym (behind (l .tracks .count) i (places (l .tracks)) nobody h)
           ∙ holders-true (drop (l .tracks .count) (places (l .tracks))) (b .0) (i - l .tracks .count);

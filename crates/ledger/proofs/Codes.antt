@@ -75,7 +75,8 @@ code-name xs ys h k e =
     let e0 : getD xs 0 0 ≡ getD ys 0 0 = omega (arith, e1 .0) in
     ext-getD 0 xs ys (legal-long xs h ∙ sym (legal-long ys k)) (each e0 (e1 .1) (e2 .1) (e3 .1) (e4 .1))
   where
-    each : getD xs 0 0 ≡ getD ys 0 0 → getD xs 1 0 ≡ getD ys 1 0 → getD xs 2 0 ≡ getD ys 2 0 → getD xs 3 0 ≡ getD ys 3 0 → getD xs 4 0 ≡ getD ys 4 0
+    each : getD xs 0 0 ≡ getD ys 0 0 → getD xs 1 0 ≡ getD ys 1 0 → getD xs 2 0 ≡ getD ys 2 0 → getD xs 3 0 ≡ getD ys 3 0
+        → getD xs 4 0 ≡ getD ys 4 0
         → (i : ℕ) → i < length xs → getD xs i 0 ≡ getD ys i 0
     each a b c d f zero l = a
     each a b c d f (suc zero) l = b

@@ -111,7 +111,8 @@ pub marks-step : {t : Numbers} {p : ℕ} {marks : List Bool} {i : ℕ} (b : Bool
 marks-step {t} {p} {marks} {i} b M h m e = record {
   most = omega arith;
   full = length-set marks i b ∙ M .full;
-  so-far = below-more _ _ (λ k l. getD-set-other marks i k b false (λ z. omega arith) ∙ M .so-far k l) (getD-set-same marks i b false (omega (arith, M .full)) ∙ e);
+  so-far = below-more _ _ (λ k l. getD-set-other marks i k b false (λ z. omega arith) ∙ M .so-far k l)
+      (getD-set-same marks i b false (omega (arith, M .full)) ∙ e);
   rest = λ k l. getD-set-other marks i k b false (λ z. omega arith) ∙ M .rest k (omega arith);
 }
 

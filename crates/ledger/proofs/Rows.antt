@@ -1,4 +1,5 @@
--- The notes that the pass over the records takes: rows of keys, one of each record, and nothing from the last used one on. What distinct rows say of the records.
+-- The notes that the pass over the records takes: rows of keys, one of each record, and nothing from the last used one on.
+-- What distinct rows say of the records.
 -- Assumes nothing.
 use Prim.Native.Nat.{ℕ, zero, suc, _+_, _-_, _≤_, _<_}
 use native.Mathlib.Omega.{arith}
@@ -15,7 +16,8 @@ use Rattle.records.specs.declared.Program.{Program}
 use Rattle.records.specs.Records.{missing}
 use Rattle.rules.specs.Test.{sonOf}
 use Rattle.tracks.specs.Inner.{Tells}
-use Rattle.ledger.specs.Inner.{fits, nameCode, nameKey, sonKey, usedKey, Keyed, Fresh, Ended, Distinct, Apart, Sons, Awaited, Roster, Enrolled, slotOf, Marked}
+use Rattle.ledger.specs.Inner.{fits, nameCode, nameKey, sonKey, usedKey, Keyed, Fresh, Ended, Distinct, Apart, Sons}
+use Rattle.ledger.specs.Inner.{Awaited, Roster, Enrolled, slotOf, Marked}
 use Rattle.tracks.proofs.Tells.{tells-no}
 use Rattle.ledger.proofs.Turns.{fits-parts, unused-zeros, son-most}
 
@@ -49,7 +51,8 @@ module _ {f : Program → ℕ} {ps : List Program} {high i : ℕ} {ks : List ℕ
   row-used : (v : ℕ) → i < 32 → v ≡ f (getD ps i missing) → Row f ps (i + 1) (i + 1) (set ks i v)
   row-used v h e = record {
     long = length-set ks i v ∙ R .long;
-    each = below-more _ _ (λ k l. getD-set-other ks i k v 0 (λ z. omega arith) ∙ R .each k l) (getD-set-same ks i v 0 (omega (arith, R .long)) ∙ e);
+    each = below-more _ _ (λ k l. getD-set-other ks i k v 0 (λ z. omega arith) ∙ R .each k l)
+        (getD-set-same ks i v 0 (omega (arith, R .long)) ∙ e);
     rest = λ k l. getD-set-other ks i k v 0 (λ z. omega arith) ∙ R .rest k (omega arith);
   }
 
@@ -143,7 +146,8 @@ module _ {c T R : ℕ} {ps : List Program} {names sons states priorities used : 
 
   pub sons-ended : Sons sons high
   unfolding sonKey
-  sons-ended = record { ended = record { most = omega (arith, N .low, N .most); rest = N .sons .rest }; known = λ k. go k (decLe (suc k) 32) }
+  sons-ended =
+      record { ended = record { most = omega (arith, N .low, N .most); rest = N .sons .rest }; known = λ k. go k (decLe (suc k) 32) }
     where
       go : (k : ℕ) → Dec (k < 32) → getD sons k 0 ≤ 32
       go k (yes l) =
@@ -170,11 +174,13 @@ module _ {c T R : ℕ} {ps : List Program} {names sons states priorities used : 
       yes = λ e. let A = t .yes e in record {
         fitting = λ k l. N .fitting k (omega arith);
         names = apart-of nameKey ps names (keyed nameKey names (N .names)) D;
-        live = λ k l n z. A .live k l (λ y. n (sym (N .sons .each k (omega arith)) ∙ y)) (son-state k l (N .sons .each k (omega arith)) ∙ z);
+        live = λ k l n z.
+            A .live k l (λ y. n (sym (N .sons .each k (omega arith)) ∙ y)) (son-state k l (N .sons .each k (omega arith)) ∙ z);
         sons = apart-of sonKey ps sons (keyed sonKey sons (N .sons)) (A .once);
       };
       nay = λ e S. t .nay e (record {
-        live = λ k l n z. S .live k l (λ y. n (N .sons .each k (omega arith) ∙ y)) (sym (son-state k l (N .sons .each k (omega arith))) ∙ z);
+        live = λ k l n z.
+            S .live k l (λ y. n (N .sons .each k (omega arith) ∙ y)) (sym (son-state k l (N .sons .each k (omega arith))) ∙ z);
         once = distinct-of sonKey ps sons (keyed sonKey sons (N .sons)) (S .sons);
       });
     };
@@ -285,7 +291,8 @@ module _ {ks states met : List ℕ} {i : ℕ} (M : Meeting ks states met i) wher
         back q f (no w) = getD-set-other met p q 1 0 w ∙ M .back q (λ k l. f k (omega arith))
 
 pub meeting-end : {ks states met : List ℕ} {i high : ℕ} → Meeting ks states met i → Ended ks high → high ≤ i → Awaited ks states
-meeting-end {ks} {states} {met} {i} {high} M E h = record { live = λ k l n. live k n (decLe (suc k) i); once = λ a l n b m o e. once a n b o e (decLe (suc b) i) }
+meeting-end {ks} {states} {met} {i} {high} M E h =
+    record { live = λ k l n. live k n (decLe (suc k) i); once = λ a l n b m o e. once a n b o e (decLe (suc b) i) }
   where
     live : (k : ℕ) → getD ks k 0 ≢ 0 → Dec (k < i) → getD states (getD ks k 0 - 1) 0 ≢ 0
     live k n (yes w) = M .live k w n

@@ -1,4 +1,5 @@
--- The loop that reads a list and keeps those that pass a test: what is kept so far, and what passes of the rest, are together what passes of the list.
+-- The loop that reads a list and keeps those that pass a test: what is kept so far, and what passes of the rest,
+-- are together what passes of the list.
 -- To take out what stands at most once is to keep the others.
 -- Assumes nothing.
 use Prim.Native.Nat.{ℕ, zero, suc, _+_, _-_, _≤_, _<_}
@@ -117,7 +118,8 @@ module _ {f : ℕ → Bool} {xs : List ℕ} {n : ℕ} {ids : List ℕ} {len i : 
   sifted-end {c} h e = record {
     some = sym (e
         ∙ S .so-far
-        ∙ ap (λ (z : List ℕ). take len ids ++ keep f z) (drop-of-length-le (take n xs) {i = i} (omega (arith, length-take-le n xs (omega arith))))
+        ∙ ap (λ (z : List ℕ). take len ids ++ keep f z)
+        (drop-of-length-le (take n xs) {i = i} (omega (arith, length-take-le n xs (omega arith))))
         ∙ append-nil (take len ids));
     rest = S .rest;
     most = omega arith;

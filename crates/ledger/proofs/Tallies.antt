@@ -37,10 +37,12 @@ marking-start used = record {
   nobody = refl;
   global = refl;
   program = λ k h. absurd (omega arith);
-  other = λ h l m. getD-set-other {A = ℕ} (set (replicate 256 1) 0 0) 33 h 0 0 (λ z. omega arith) ∙ getD-set-other {A = ℕ} (replicate 256 1) 0 h 0 0 (λ z. omega arith) ∙ getD-replicate {A = ℕ} 256 h 1 0 m;
+  other = λ h l m. getD-set-other {A = ℕ} (set (replicate 256 1) 0 0) 33 h 0 0 (λ z. omega arith)
+      ∙ getD-set-other {A = ℕ} (replicate 256 1) 0 h 0 0 (λ z. omega arith) ∙ getD-replicate {A = ℕ} 256 h 1 0 m;
 }
 
-pub marking-more : {used marks : List ℕ} {i : ℕ} → Marking used marks i → i < 32 → (v : ℕ) → v ≡ strange (getD used i 0) → Marking used (set marks (i + 1) v) (i + 1)
+pub marking-more : {used marks : List ℕ} {i : ℕ} → Marking used marks i → i < 32 → (v : ℕ) → v ≡ strange (getD used i 0)
+    → Marking used (set marks (i + 1) v) (i + 1)
 marking-more {used} {marks} {i} M l v e = record {
   most = omega arith;
   long = length-set marks (i + 1) v ∙ M .long;
@@ -75,7 +77,8 @@ module _ (l : Ledger) {used marks : List ℕ} (K : Keyed usedKey (l .programs) u
       ap (λ (x : ℕ). getD marks x 0) e ∙ M .program (h - 1) (omega arith) ∙ ap strange (K .each (h - 1) (omega arith))
 
   pub serves-user : (h : ℕ) → Serves marks h → User (bookOf l) h
-  serves-user h s = record { low = go (decLe (suc h) system); used = λ P. mark-used (at (bookOf l) h) (sym (program-mark h P) ∙ s .unmarked) }
+  serves-user h s =
+      record { low = go (decLe (suc h) system); used = λ P. mark-used (at (bookOf l) h) (sym (program-mark h P) ∙ s .unmarked) }
     where
       go : Dec (h < system) → h < system
       go (yes w) = w
@@ -87,7 +90,9 @@ module _ (l : Ledger) {used marks : List ℕ} (K : Keyed usedKey (l .programs) u
       go : Dec (h ≡ 0) → Dec (h ≡ 33) → getD marks h 0 ≡ 0
       go (yes w) d = ap (λ (x : ℕ). getD marks x 0) w ∙ M .nobody
       go (no v) (yes w) = ap (λ (x : ℕ). getD marks x 0) w ∙ M .global
-      go (no v) (no w) = let P : Known h = (omega (arith, v), omega (arith, w, u .low)) in program-mark h P ∙ used-mark (at (bookOf l) h) (u .used P)
+      go (no v) (no w) =
+          let P : Known h = (omega (arith, v), omega (arith, w, u .low)) in
+          program-mark h P ∙ used-mark (at (bookOf l) h) (u .used P)
 
 -- tracks and numbers, by others who may hold them
 module _ {May Can : ℕ → Type 0} (f : (h : ℕ) → May h → Can h) where
@@ -96,6 +101,7 @@ module _ {May Can : ℕ → Type 0} (f : (h : ℕ) → May h → Can h) where
 
   pub numbered-map : {R : ℕ} {rs : List Resource} → Numbered R May rs → Numbered R Can rs
   numbered-map N = record {
-    ours = λ i h. let s = N .ours i h in record { owner = f _ (s .owner); locker = f _ (s .locker); program = s .program; clear = s .clear };
+    ours = λ i h. let s = N .ours i h in
+        record { owner = f _ (s .owner); locker = f _ (s .locker); program = s .program; clear = s .clear };
     rest = N .rest;
   }

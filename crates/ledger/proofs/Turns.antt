@@ -39,7 +39,8 @@ fits-parts c T R p r e =
     let a = both (trim c r) (stateFits (r .why) (r .state)) (b .0) in
     (a .0, a .1, b .1)
 
-pub fits-is : (c T R p : ℕ) (r : Program) → trim c r ≡ true → stateFits (r .why) (r .state) ≡ true → reasonFits T R p (r .why) ≡ true → fits c T R p r ≡ true
+pub fits-is : (c T R p : ℕ) (r : Program) → trim c r ≡ true → stateFits (r .why) (r .state) ≡ true → reasonFits T R p (r .why) ≡ true
+    → fits c T R p r ≡ true
 unfolding fits
 fits-is c T R p r t s w = and (and t s) w
 
@@ -49,7 +50,8 @@ trim-fails c T R p r e = sym (ap (λ (x : Bool). x && stateFits (r .why) (r .sta
 
 -- five zeros
 pub unnamed : (xs : List ℕ) → length xs ≡ 5
-    → (eqb (getD xs 0 0) 0 && eqb (getD xs 1 0) 0 && eqb (getD xs 2 0) 0 && eqb (getD xs 3 0) 0 && eqb (getD xs 4 0) 0) ≡ alike xs (unused .name)
+    → (eqb (getD xs 0 0) 0 && eqb (getD xs 1 0) 0 && eqb (getD xs 2 0) 0 && eqb (getD xs 3 0) 0 && eqb (getD xs 4 0) 0)
+    ≡ alike xs (unused .name)
 unnamed [] h = absurd (omega arith)
 unnamed (a ∷ []) h = absurd (omega arith)
 unnamed (a ∷ b ∷ []) h = absurd (omega arith)
@@ -84,8 +86,10 @@ pub record Zeros (r : Program) : Type 0 where
 
 zeros-true : (r : Program) → zeros r ≡ true → Zeros r
 zeros-true r e =
-    let b5 = both (alike (r .name) (unused .name) && eqb (r .priority) 0 && eqb (r .state) 0 && nothing (r .why) && eqb (r .due) 0) (eqb (r .interval) 0) e in
-    let b4 = both (alike (r .name) (unused .name) && eqb (r .priority) 0 && eqb (r .state) 0 && nothing (r .why)) (eqb (r .due) 0) (b5 .0) in
+    let b5 = both (alike (r .name) (unused .name) && eqb (r .priority) 0 && eqb (r .state) 0 && nothing (r .why) && eqb (r .due) 0)
+    (eqb (r .interval) 0) e in
+    let b4 = both (alike (r .name) (unused .name) && eqb (r .priority) 0 && eqb (r .state) 0 && nothing (r .why))
+    (eqb (r .due) 0) (b5 .0) in
     let b3 = both (alike (r .name) (unused .name) && eqb (r .priority) 0 && eqb (r .state) 0) (nothing (r .why)) (b4 .0) in
     let b2 = both (alike (r .name) (unused .name) && eqb (r .priority) 0) (eqb (r .state) 0) (b3 .0) in
     record {
@@ -105,7 +109,12 @@ zeros-fit c T R p r u e =
       named = λ v. clash v u;
       empty = λ v. e;
       priority = omega (arith, z .priority);
-      timed = record { timeless = λ n. z .interval; above = λ n. absurd (n (z .due)); near = λ n. absurd (n (z .due)); steps = omega (arith, z .interval) };
+      timed = record {
+        timeless = λ n. z .interval;
+        above = λ n. absurd (n (z .due));
+        near = λ n. absurd (n (z .due));
+        steps = omega (arith, z .interval);
+      };
     }))
     (ap (λ (x : Why). stateFits x (r .state)) (z .why) ∙ ap (stateFits Nothing) (z .state))
     (ap (reasonFits T R p) (z .why))
@@ -156,7 +165,8 @@ son-parts b p s k e =
     let b2 = both (eqb s 3 && known k) (at b k .used) (b3 .0) in
     (both (eqb s 3) (known k) (b2 .0), (b2 .1, eqb-false (stateOf b k) 0 (not-true (eqb (stateOf b k) 0) (b3 .1))), b4 .1)
 
-suits-fits : (b : Book) (p s : ℕ) (w : Why) → suits b p s w ≡ true → (stateFits w s ≡ true) × (reasonFits (b .tracks) (b .numbers) p w ≡ true)
+suits-fits : (b : Book) (p s : ℕ) (w : Why) → suits b p s w ≡ true
+    → (stateFits w s ≡ true) × (reasonFits (b .tracks) (b .numbers) p w ≡ true)
 suits-fits b p s Nothing e = (e, refl)
 suits-fits b p s (Tracks n) e = both (eqb s 5) (upTo 1 (b .tracks) n) e
 suits-fits b p s (Son k) e = let q = son-parts b p s k e in (q .0 .0, and (q .0 .1) (q .2))
@@ -194,12 +204,14 @@ module _ (l : Ledger) (S : Roster (l .clock .ticks) (l .tracks .count) (l .numbe
 
 -- and back
 pub roster-of : (l : Ledger) → ((i : ℕ) → i < 32 → Trim (l .clock .ticks) (held l i))
-    → ((i : ℕ) → i < 32 → suits (bookOf l) (i + 1) (held l i .state) (held l i .why) ≡ true) → Apart nameKey (l .programs) → Apart sonKey (l .programs)
+    → ((i : ℕ) → i < 32 → suits (bookOf l) (i + 1) (held l i .state) (held l i .why) ≡ true) → Apart nameKey (l .programs)
+    → Apart sonKey (l .programs)
     → Roster (l .clock .ticks) (l .tracks .count) (l .numbers .count) (l .programs)
 unfolding sonKey
 roster-of l t w names sons = record {
   fitting = λ i h. let f = suits-fits (bookOf l) (i + 1) (held l i .state) (held l i .why) (w i h) in
-      fits-is (l .clock .ticks) (l .tracks .count) (l .numbers .count) (i + 1) (held l i) (trim-is (l .clock .ticks) (held l i) (t i h)) (f .0) (f .1);
+      fits-is (l .clock .ticks) (l .tracks .count) (l .numbers .count) (i + 1) (held l i) (trim-is (l .clock .ticks) (held l i) (t i h))
+      (f .0) (f .1);
   names = names;
   live = λ i h n. suits-son (bookOf l) (i + 1) (held l i .state) (held l i .why) (w i h) n .1;
   sons = sons;

@@ -22,8 +22,10 @@ use Rattle.tracks.specs.Inner.{Held}
 use Rattle.rules.specs.Book.{at, stateOf, whyOf, holderOf}
 use Rattle.rules.specs.Sound.{Ours, suits, Names, Whys, System, Users, Unlocked, Limits, Dues}
 use Rattle.rules.specs.Test.{sonOf, zeros, testNames, testZeros, testWhys, testSystem, testUsers, testUnlocked, testLimits, testDues}
-use Rattle.rules.proofs.tests.Agree.{program-in, program-is, yes-or-no, names-clause, names-test, whys-clause, whys-test, dues-clause, dues-test, son-known}
-use Rattle.rules.proofs.tests.AgreeTables.{system-clause, system-test, users-clause, users-test, unlocked-clause, unlocked-test, limits-clause, limits-test}
+use Rattle.rules.proofs.tests.Agree.{program-in, program-is, yes-or-no, names-clause, names-test, whys-clause}
+use Rattle.rules.proofs.tests.Agree.{whys-test, dues-clause, dues-test, son-known}
+use Rattle.rules.proofs.tests.AgreeTables.{system-clause, system-test, users-clause, users-test, unlocked-clause}
+use Rattle.rules.proofs.tests.AgreeTables.{unlocked-test, limits-clause, limits-test}
 use Rattle.ledger.specs.declared.Ledger.{Ledger}
 use Rattle.ledger.specs.Ledger.{bookOf, Blank, testBlank}
 use Rattle.ledger.specs.Inner.{testBook, Sized, Roster, nameCode, nameKey, sonKey, Apart, User, Sits, Numbered}
@@ -55,8 +57,10 @@ clauses-of : (l : Ledger) → testBook l ≡ true → Clauses l
 unfolding testBook
 clauses-of l e =
     let b = bookOf l in
-    let b8 = both (testNames b && testZeros b && testWhys b && testSystem b && testUsers b && testUnlocked b && testBlank l && testLimits b) (testDues b) e in
-    let b7 = both (testNames b && testZeros b && testWhys b && testSystem b && testUsers b && testUnlocked b && testBlank l) (testLimits b) (b8 .0) in
+    let b8 = both (testNames b && testZeros b && testWhys b && testSystem b && testUsers b && testUnlocked b && testBlank l && testLimits b)
+    (testDues b) e in
+    let b7 = both (testNames b && testZeros b && testWhys b && testSystem b && testUsers b && testUnlocked b && testBlank l)
+    (testLimits b) (b8 .0) in
     let b6 = both (testNames b && testZeros b && testWhys b && testSystem b && testUsers b && testUnlocked b) (testBlank l) (b7 .0) in
     let b5 = both (testNames b && testZeros b && testWhys b && testSystem b && testUsers b) (testUnlocked b) (b6 .0) in
     let b4 = both (testNames b && testZeros b && testWhys b && testSystem b) (testUsers b) (b5 .0) in
@@ -130,12 +134,17 @@ module _ (l : Ledger) (c : Clauses l) where
 
   -- keys are apart that tell their programs
   apart-in : (f : Program → ℕ)
-      → ((p q : ℕ) → Known p → Known q → f (at (bookOf l) p) ≢ 0 → f (at (bookOf l) q) ≡ f (at (bookOf l) p) → p ≡ q) → Apart f (l .programs)
+      → ((p q : ℕ) → Known p → Known q → f (at (bookOf l) p) ≢ 0 → f (at (bookOf l) q) ≡ f (at (bookOf l) p) → p ≡ q)
+      → Apart f (l .programs)
   apart-in f one i h n j k m e =
       let a : i + 1 - 1 ≡ i = omega arith in
       let b : j + 1 - 1 ≡ j = omega arith in
       let x = ap (λ (y : ℕ). f (held l y)) a in
-      omega (arith, one (i + 1) (j + 1) (omega arith, omega arith) (omega arith, omega arith) (λ z. n (sym x ∙ z)) (ap (λ (y : ℕ). f (held l y)) b ∙ e ∙ sym x))
+      omega (
+        arith,
+        one (i + 1) (j + 1) (omega arith, omega arith) (omega arith, omega arith) (λ z. n (sym x ∙ z))
+            (ap (λ (y : ℕ). f (held l y)) b ∙ e ∙ sym x),
+      )
 
   names-in : Apart nameKey (l .programs)
   names-in = apart-in nameKey (λ p q P Q n e.
@@ -148,12 +157,14 @@ module _ (l : Ledger) (c : Clauses l) where
   sons-in : Apart sonKey (l .programs)
   unfolding sonKey
   sons-in = apart-in sonKey (λ p q P Q n e.
-      c .whys .once p q (sonOf (whyOf (bookOf l) p)) P Q (key-son (whyOf (bookOf l) p) n) (key-son (whyOf (bookOf l) q) (λ z. n (sym e ∙ z)) ∙ ap Son e))
+      c .whys .once p q (sonOf (whyOf (bookOf l) p)) P Q (key-son (whyOf (bookOf l) p) n)
+      (key-son (whyOf (bookOf l) q) (λ z. n (sym e ∙ z)) ∙ ap Son e))
 
   places-in : Held (User (bookOf l)) (l .tracks)
   places-in = record {
     own = λ i k. let a : i < l .tracks .count = omega (arith, c .limits .first) in sym (holder-at l i a) ∙ c .system .below i a k;
-    others = λ i a b. subst (User (bookOf l)) (holder-at l i a) (record { low = other i a b (decLe (suc (holderOf (bookOf l) i)) system); used = c .users .hold i a });
+    others = λ i a b. subst (User (bookOf l)) (holder-at l i a)
+        (record { low = other i a b (decLe (suc (holderOf (bookOf l) i)) system); used = c .users .hold i a });
     blank = λ i h k. c .blank .tracks i k;
   }
     where
@@ -200,7 +211,8 @@ module _ (l : Ledger) (H : length (places (l .tracks)) ≡ 256) (N : length (l .
   fitting : (p : ℕ) → Known p → suits (bookOf l) p (stateOf (bookOf l) p) (whyOf (bookOf l) p) ≡ true
   fitting p P =
       let e : p - 1 + 1 ≡ p = omega arith in
-      subst (λ (q : ℕ). suits (bookOf l) q (stateOf (bookOf l) p) (whyOf (bookOf l) p) ≡ true) e (roster-suits l (t .roster) (p - 1) (omega arith))
+      subst (λ (q : ℕ). suits (bookOf l) q (stateOf (bookOf l) p) (whyOf (bookOf l) p) ≡ true) e
+      (roster-suits l (t .roster) (p - 1) (omega arith))
 
   names-of : Names (bookOf l)
   names-of = record {
@@ -231,7 +243,9 @@ module _ (l : Ledger) (H : length (places (l .tracks)) ≡ 256) (N : length (l .
         (subst (λ (w : Why). suits (bookOf l) p (stateOf (bookOf l) p) w ≡ true) h (fitting p P)) in
         let sp : sonOf (whyOf (bookOf l) p) ≡ k = ap sonOf h in
         let sq : sonOf (whyOf (bookOf l) q) ≡ k = ap sonOf j in
-        let one : p - 1 ≡ q - 1 = apart-one sonKey (l .programs) (t .roster .sons) (p - 1) (q - 1) (omega arith) (omega arith) (λ z. omega (arith, K .0)) (sp ∙ sym sq) in
+        let one : p - 1 ≡ q - 1 =
+        apart-one sonKey (l .programs) (t .roster .sons) (p - 1) (q - 1) (omega arith) (omega arith) (λ z. omega (arith, K .0))
+        (sp ∙ sym sq) in
         omega arith;
   }
 
@@ -243,12 +257,16 @@ module _ (l : Ledger) (H : length (places (l .tracks)) ≡ 256) (N : length (l .
       go i h k (yes y) = y
       go i h k (no y) = absurd (omega (arith, t .places .others i h (omega (arith, y)) .low, holder-at l i h))
 
-  holder-in : (i : ℕ) → i < l .tracks .count → (holderOf (bookOf l) i ≤ system) × (Known (holderOf (bookOf l) i) → at (bookOf l) (holderOf (bookOf l) i) .used ≡ true)
+  holder-in : (i : ℕ) → i < l .tracks .count
+      → (holderOf (bookOf l) i ≤ system) × (Known (holderOf (bookOf l) i) → at (bookOf l) (holderOf (bookOf l) i) .used ≡ true)
   holder-in i h = go (decLe (suc i) (l .tracks .system))
     where
-      go : Dec (i < l .tracks .system) → (holderOf (bookOf l) i ≤ system) × (Known (holderOf (bookOf l) i) → at (bookOf l) (holderOf (bookOf l) i) .used ≡ true)
+      go : Dec (i < l .tracks .system)
+          → (holderOf (bookOf l) i ≤ system) × (Known (holderOf (bookOf l) i) → at (bookOf l) (holderOf (bookOf l) i) .used ≡ true)
       go (yes y) = let e = holder-at l i h ∙ t .places .own i y in (omega arith, λ P. absurd (omega (arith, P .1)))
-      go (no y) = let u = subst (User (bookOf l)) (sym (holder-at l i h)) (t .places .others i h (omega (arith, y))) in (omega (arith, u .low), u .used)
+      go (no y) =
+          let u = subst (User (bookOf l)) (sym (holder-at l i h)) (t .places .others i h (omega (arith, y))) in
+          (omega (arith, u .low), u .used)
 
   number : (r : ℕ) → Ours (bookOf l) r → Sits (User (bookOf l)) (numberAt (bookOf l .resources) r)
   number r o = subst (Sits (User (bookOf l))) (sym (number-of l r o)) (t .counts .ours (r - 1) (omega arith))

@@ -31,7 +31,8 @@ use Rattle.rules.specs.Rules.{endsIn}
 -- the tests of soundness that do not concern chains
 unfoldable pub testBook : Ledger → Bool
 testBook l =
-    testNames (bookOf l) && testZeros (bookOf l) && testWhys (bookOf l) && testSystem (bookOf l) && testUsers (bookOf l) && testUnlocked (bookOf l)
+    testNames (bookOf l) && testZeros (bookOf l) && testWhys (bookOf l) && testSystem (bookOf l) && testUsers (bookOf l)
+    && testUnlocked (bookOf l)
     && testBlank l && testLimits (bookOf l) && testDues (bookOf l)
 
 -- what a release of the code says, and that it says what one of the rules says: number 0 is none
@@ -132,7 +133,8 @@ abbrev pub Distinct : List ℕ → Type 0
 Distinct ks = (i : ℕ) → i < mostPrograms → getD ks i 0 ≢ 0 → (j : ℕ) → j < mostPrograms → i < j → getD ks j 0 ≢ getD ks i 0
 
 abbrev pub Apart : (Program → ℕ) → List Program → Type 0
-Apart f ps = (i : ℕ) → i < mostPrograms → f (getD ps i missing) ≢ 0 → (j : ℕ) → j < mostPrograms → i < j → f (getD ps j missing) ≢ f (getD ps i missing)
+Apart f ps = (i : ℕ) → i < mostPrograms → f (getD ps i missing) ≢ 0 → (j : ℕ) → j < mostPrograms → i < j
+    → f (getD ps j missing) ≢ f (getD ps i missing)
 
 -- sons: the numbers of programs, none from `high` on; each that is awaited has a state that is not 0, and is awaited once
 pub record Sons (ks : List ℕ) (high : ℕ) : Type 0 where

@@ -49,4 +49,5 @@ noNumbers [] = true
 noNumbers (x ∷ xs) = eqb (x .owner) 0 && eqb (x .lock) 0 && noNumbers xs
 
 unfoldable pub testBlank : Ledger → Bool
-testBlank l = noHolders (drop (l .tracks .count) (tracks.places (l .tracks))) && noNumbers (drop (l .numbers .count) (l .numbers .resources))
+testBlank l =
+    noHolders (drop (l .tracks .count) (tracks.places (l .tracks))) && noNumbers (drop (l .numbers .count) (l .numbers .resources))

@@ -114,7 +114,8 @@ pub fn without(list: Listing, p: u8) -> Listing
 // Those of the list whose reason to wait is gone.
 pub fn sift(programs: [Program; MOST_PROGRAMS], list: Listing, release: Release) -> Listing
     requires { ⌜ Listed (list .ids) (list .len) ⌝ }
-    ensures { λ r. ⌜ ((y : Rattle.rules.specs.Plans.Release) → Releases release y → Lists (r .ids) (r .len) (keep (λ q. awaits y (recordAt programs q .why)) (take (list .len) (list .ids)))) ⌝ }
+    ensures { λ r. ⌜ ((y : Rattle.rules.specs.Plans.Release) → Releases release y
+        → Lists (r .ids) (r .len) (keep (λ q. awaits y (recordAt programs q .why)) (take (list .len) (list .ids)))) ⌝ }
 {
     let n = list.len;
     let mut ids: [u8; MOST_PROGRAMS] = [0; MOST_PROGRAMS];

@@ -23,8 +23,8 @@ pub struct Ledger {
     pub numbers: Numbers,
 }
 
-// What a call sets free: the program that ended, or 0; how many tracks; which numbers were cleared or deallocated, number r at r - 1; whether one
-// was deallocated.
+// What a call sets free: the program that ended, or 0; how many tracks; which numbers were cleared or deallocated, number r
+// at r - 1; whether one was deallocated.
 pub struct Release {
     pub ended: u8,
     pub tracks: usize,

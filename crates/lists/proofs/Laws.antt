@@ -1,4 +1,5 @@
--- Laws of counts, of lists in order, of what passes a test. A number's place in a list is taken by how often it stands there, so that nearly all is arithmetic.
+-- Laws of counts, of lists in order, of what passes a test. A number's place in a list is taken by how often it stands
+-- there, so that nearly all is arithmetic.
 -- Assumes nothing.
 use Prim.Native.Nat.{ℕ, zero, suc, _+_, _-_, _≤_, _<_}
 use native.Mathlib.Omega.{arith}
@@ -42,7 +43,8 @@ count-cond false x n c d h k = k
 pub count-insert : (pr : ℕ → ℕ) (x p : ℕ) (c : List ℕ) → count x (insert pr p c) ≡ same x p + count x c
 count-insert pr x p [] = refl
 count-insert pr x p (q ∷ qs) =
-    count-cond (leb (pr q) (pr p)) x (same x p + count x (q ∷ qs)) (q ∷ insert pr p qs) (p ∷ q ∷ qs) (omega (arith, count-insert pr x p qs)) refl
+    count-cond (leb (pr q) (pr p)) x (same x p + count x (q ∷ qs)) (q ∷ insert pr p qs) (p ∷ q ∷ qs)
+    (omega (arith, count-insert pr x p qs)) refl
 
 remove-step : (b : Bool) (x p q : ℕ) (qs : List ℕ) → eqb q p ≡ b → (1 ≤ count p qs → count x (remove p qs) + same x p ≡ count x qs)
     → 1 ≤ count p (q ∷ qs) → count x (cond b qs (q ∷ remove p qs)) + same x p ≡ count x (q ∷ qs)
@@ -103,10 +105,13 @@ among P q r qs here there h = go (ℕ-discrete r q)
     go (yes e) = rw e here
     go (no n) = there (omega (arith, same-ne r q n))
 
-pub ascending-map : (R S : ℕ → ℕ → Type 0) (c : List ℕ) → ((x y : ℕ) → 1 ≤ count x c → 1 ≤ count y c → R x y → S x y) → Ascending R c → Ascending S c
+pub ascending-map : (R S : ℕ → ℕ → Type 0) (c : List ℕ) → ((x y : ℕ) → 1 ≤ count x c → 1 ≤ count y c → R x y → S x y) → Ascending R c
+    → Ascending S c
 ascending-map R S [] f A = tt
-ascending-map R S (q ∷ qs) f A =
-    (λ r h. f q r (omega (arith, same-refl q)) (omega arith) (A .0 r h), ascending-map R S qs (λ x y h k. f x y (omega arith) (omega arith)) (A .1))
+ascending-map R S (q ∷ qs) f A = (
+  λ r h. f q r (omega (arith, same-refl q)) (omega arith) (A .0 r h),
+  ascending-map R S qs (λ x y h k. f x y (omega arith) (omega arith)) (A .1),
+)
 
 pub remove-ascending : (R : ℕ → ℕ → Type 0) (p : ℕ) (c : List ℕ) → Ascending R c → Ascending R (remove p c)
 remove-ascending R p [] S = tt
@@ -118,7 +123,8 @@ remove-ascending R p (q ∷ qs) S = go (eqb q p) (remove-ascending R p qs (S .1)
 
 -- two ascending lists of the same members are one
 module _ (R : ℕ → ℕ → Type 0) (asym : (x y : ℕ) → R x y → R y x → ⊥) where
-  same-head : (x y : ℕ) (xs ys : List ℕ) → Ascending R (x ∷ xs) → Ascending R (y ∷ ys) → ((z : ℕ) → count z (x ∷ xs) ≡ count z (y ∷ ys)) → x ≡ y
+  same-head : (x y : ℕ) (xs ys : List ℕ) → Ascending R (x ∷ xs) → Ascending R (y ∷ ys)
+      → ((z : ℕ) → count z (x ∷ xs) ≡ count z (y ∷ ys)) → x ≡ y
   same-head x y xs ys S T e = go (ℕ-discrete x y)
     where
       go : Dec (x ≡ y) → x ≡ y

@@ -55,16 +55,19 @@ every-is f [] h = refl
 every-is f (q ∷ qs) h = and (h q (omega (arith, same-refl q))) (every-is f qs (λ x k. h x (omega arith)))
 
 -- n places from i on
-pub along-in : {A : Type 0} (d : A) (f : ℕ → A → Bool) (i n : ℕ) (xs : List A) → along d f i n xs ≡ true → (k : ℕ) → k < n → f (k + i) (getD xs k d) ≡ true
+pub along-in : {A : Type 0} (d : A) (f : ℕ → A → Bool) (i n : ℕ) (xs : List A) → along d f i n xs ≡ true → (k : ℕ) → k < n
+    → f (k + i) (getD xs k d) ≡ true
 along-in d f i zero xs e k h = absurd (omega arith)
 along-in d f i (suc n) [] e zero h = ap (λ (x : ℕ). f x d) (omega arith) ∙ (both (f i d) (along d f (suc i) n []) e) .0
 along-in d f i (suc n) [] e (suc k) h =
     ap (λ (x : ℕ). f x d) (omega arith) ∙ along-in d f (suc i) n [] ((both (f i d) (along d f (suc i) n []) e) .1) k (omega arith)
 along-in d f i (suc n) (x ∷ xs) e zero h = ap (λ (y : ℕ). f y x) (omega arith) ∙ (both (f i x) (along d f (suc i) n xs) e) .0
 along-in d f i (suc n) (x ∷ xs) e (suc k) h =
-    ap (λ (y : ℕ). f y (getD xs k d)) (omega arith) ∙ along-in d f (suc i) n xs ((both (f i x) (along d f (suc i) n xs) e) .1) k (omega arith)
+    ap (λ (y : ℕ). f y (getD xs k d)) (omega arith)
+    ∙ along-in d f (suc i) n xs ((both (f i x) (along d f (suc i) n xs) e) .1) k (omega arith)
 
-pub along-is : {A : Type 0} (d : A) (f : ℕ → A → Bool) (i n : ℕ) (xs : List A) → ((k : ℕ) → k < n → f (k + i) (getD xs k d) ≡ true) → along d f i n xs ≡ true
+pub along-is : {A : Type 0} (d : A) (f : ℕ → A → Bool) (i n : ℕ) (xs : List A) → ((k : ℕ) → k < n → f (k + i) (getD xs k d) ≡ true)
+    → along d f i n xs ≡ true
 along-is d f i zero xs h = refl
 along-is d f i (suc n) [] h =
     and (ap (λ (x : ℕ). f x d) (omega arith) ∙ h 0 (omega arith))

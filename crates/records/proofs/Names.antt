@@ -44,10 +44,12 @@ rest-cons : (x : ℕ) (xs : List ℕ) → (letter x || digit x) ≡ true → res
 rest-cons x xs h =
     ap₂ (λ (s b : Bool). (s && rest xs) || (b && every blank xs)) h (not-blank x h) ∙ or-false (rest xs)
 
-pub rest-on : (xs : List ℕ) (i : ℕ) → i < length xs → (letter (getD xs i 0) || digit (getD xs i 0)) ≡ true → rest (drop i xs) ≡ rest (drop (i + 1) xs)
+pub rest-on : (xs : List ℕ) (i : ℕ) → i < length xs → (letter (getD xs i 0) || digit (getD xs i 0)) ≡ true
+    → rest (drop i xs) ≡ rest (drop (i + 1) xs)
 rest-on xs i h e = ap rest (next xs i h) ∙ rest-cons (getD xs i 0) (drop (i + 1) xs) e
 
-pub rest-blank : (xs : List ℕ) (i : ℕ) → i < length xs → (letter (getD xs i 0) || digit (getD xs i 0)) ≡ false → rest (drop i xs) ≡ every blank (drop i xs)
+pub rest-blank : (xs : List ℕ) (i : ℕ) → i < length xs → (letter (getD xs i 0) || digit (getD xs i 0)) ≡ false
+    → rest (drop i xs) ≡ every blank (drop i xs)
 rest-blank xs i h e =
     ap rest (next xs i h)
     ∙ ap (λ (s : Bool). (s && rest (drop (i + 1) xs)) || every blank (getD xs i 0 ∷ drop (i + 1) xs)) e

@@ -8,7 +8,8 @@ use mathlib.Core.Path.{_≡_, refl, sym, ap, _∙_}
 use mathlib.Core.Bool.{Bool, true, false, _||_}
 use mathlib.Core.List.{List, [], _∷_, _++_, map, append-nil, append-cancel-left}
 use lib.Dec.{eqb}
-use lib.ListN.{length, getD, set, take, drop, replicate, length-append, length-take, length-set, length-map, length-replicate, take-append-drop, replicate-append-replicate, List·getD-eq-default}
+use lib.ListN.{length, getD, set, take, drop, replicate, length-append, length-take, length-set, length-map, length-replicate}
+use lib.ListN.{take-append-drop, replicate-append-replicate, List·getD-eq-default}
 use lib.Seq.{take-at, take-all, getD-take, take-set-lt, drop-set-lt}
 use borrow.Author.Tests.{eq-eqb, ne-eqb}
 use Rattle.records.specs.declared.Resource.{Resource}
@@ -26,7 +27,8 @@ number-at t r k e h = sym (getD-take (t .count) (t .resources) k free h) ∙ ap 
 
 pub number-past : (t : Numbers) (r k : ℕ) → k ≡ r - 1 → t .count ≤ k → free ≡ numberAt (resources t) r
 number-past t r k e h =
-    sym (List·getD-eq-default (resources t) free {n = r - 1} (omega (arith, length-take (t .count) (t .resources), min-le-left (t .count) (length (t .resources)))))
+    sym (List·getD-eq-default (resources t) free {n = r - 1}
+    (omega (arith, length-take (t .count) (t .resources), min-le-left (t .count) (length (t .resources)))))
 
 pub concerns-free : (p : ℕ) → 1 ≤ p → concerns p free ≡ false
 concerns-free p h = ap (λ (b : Bool). b || b) (ne-eqb 0 p (λ e. omega arith))
@@ -84,7 +86,8 @@ fresh-list n h =
     ap (λ (m : ℕ). replicate m free) (sym e) ∙ sym (replicate-append-replicate n (16 - n) free)
 
 -- another number in r's place
-pub set-list : (t : Numbers) (i : ℕ) (x : Resource) → Fit t → i < t .count → set (t .resources) i x ≡ set (resources t) i x ++ behind (t .count)
+pub set-list : (t : Numbers) (i : ℕ) (x : Resource) → Fit t → i < t .count
+    → set (t .resources) i x ≡ set (resources t) i x ++ behind (t .count)
 set-list t i x F h =
     sym (take-append-drop (t .count) (set (t .resources) i x))
     ∙ ap (λ (ys : List Resource). ys ++ drop (t .count) (set (t .resources) i x)) (take-set-lt (t .count) (t .resources) i x h)
@@ -104,7 +107,8 @@ module _ (t : Numbers) (r o l : ℕ) (F : Fit t) where
 abbrev pub changed : (Resource → Resource) → ℕ → List Resource → List Resource
 changed f i xs = map f (take i xs) ++ drop i xs
 
-changed-suc : (f : Resource → Resource) (i : ℕ) (xs : List Resource) → set (changed f i xs) i (f (getD (changed f i xs) i free)) ≡ changed f (suc i) xs
+changed-suc : (f : Resource → Resource) (i : ℕ) (xs : List Resource)
+    → set (changed f i xs) i (f (getD (changed f i xs) i free)) ≡ changed f (suc i) xs
 changed-suc f zero [] = refl
 changed-suc f (suc i) [] = refl
 changed-suc f zero (x ∷ xs) = refl

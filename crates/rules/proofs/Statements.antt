@@ -1,5 +1,5 @@
--- What is shown of the rules, in any plain state and under any keeper: refusals, claims, counts, and the replay of runs of requests. The theorems about the tables say the same of the tables
--- themselves, in words of their own; nothing here need be read for them.
+-- What is shown of the rules, in any plain state and under any keeper: refusals, claims, counts, and the replay of runs of requests. The
+-- theorems about the tables say the same of the tables themselves, in words of their own; nothing here need be read for them.
 -- Assumes nothing.
 use Prim.Native.Nat.{ℕ, _≤_, _<_}
 use mathlib.Core.Path.{_≡_}
@@ -26,8 +26,8 @@ pub record Answered (K : Keeper) (t : State K) (q : Request) : Type 0 where
   pub nothing : 2 ≤ numberOf (asks K t q) → eventsOf (view K t) (asks K t q) ≡ []
   pub stays : 2 ≤ numberOf (asks K t q) → after K t q ≡ t
 
--- CLAIMS
--- A plan x for caller c, who asks n tracks for holder h, w being 0 to wait and 1 to be told, is the outline's where xs are the holders: the lowest run, or state 5, or 8; and each of the three only then.
+-- CLAIMS A plan x for caller c, who asks n tracks for holder h, w being 0 to wait and 1 to be told, is the outline's where xs are the
+-- holders: the lowest run, or state 5, or 8; and each of the three only then.
 pub record Claims (xs : List ℕ) (c h n w : ℕ) (x : Plan) : Type 0 where
   pub granted : (i : ℕ) → LowestRun xs i n → x ≡ done (i ∷ []) (held (filled i n h xs) ∷ [])
   pub waits : NoRun xs n → w ≡ 0 → x ≡ waiting disc (on c (becomes disc (Tracks n)) ∷ [])
@@ -36,11 +36,13 @@ pub record Claims (xs : List ℕ) (c h n w : ℕ) (x : Plan) : Type 0 where
   pub only-waits : numberOf x ≡ 1 → (w ≡ 0) × NoRun xs n
   pub only-told : numberOf x ≡ 8 → (w ≡ 1) × NoRun xs n
 
--- A request q for n tracks for holder h, in the state t of a keeper K: what it comes to, and that the run is h's after it, all else being as it was.
+-- A request q for n tracks for holder h, in the state t of a keeper K: what it comes to, and that the run is
+-- h's after it, all else being as it was.
 pub record Claimed (K : Keeper) (t : State K) (h n w : ℕ) (q : Request) : Type 0 where
   pub answer : Claims (t .book .holders) (head (scheduledChain K t)) h n w (asks K t q)
   pub tracks : (i : ℕ) → LowestRun (t .book .holders) i n → Gained (t .book) (after K t q .book) h i n
-  pub rest : (i : ℕ) → LowestRun (t .book .holders) i n → after K t q ≡ record { book = withHolders (after K t q .book .holders) (t .book); kept = t .kept }
+  pub rest : (i : ℕ) → LowestRun (t .book .holders) i n
+      → after K t q ≡ record { book = withHolders (after K t q .book .holders) (t .book); kept = t .kept }
   pub same : NoRun (t .book .holders) n → w ≡ 1 → after K t q ≡ t
 
 -- COUNTS
@@ -48,7 +50,8 @@ pub record Claimed (K : Keeper) (t : State K) (h n w : ℕ) (q : Request) : Type
 abbrev pub Done : State lists → Request → Type 0
 Done a q = numberOf (asks lists a q) ≡ 0
 
--- its one value is the count of tracks freed by it; of programs that waited and are scheduled by it; of programs that were dormant and are scheduled by it
+-- its one value is the count of tracks freed by it; of programs that waited and are scheduled by it; of programs
+-- that were dormant and are scheduled by it
 abbrev pub TellsFreed : State lists → Request → Type 0
 TellsFreed a q = Freed (a .book) (after lists a q .book) (valuesOf (asks lists a q))
 

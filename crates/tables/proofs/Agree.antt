@@ -6,7 +6,8 @@ use mathlib.Core.Bool.{true, _&&_}
 use Rattle.lists.proofs.Tests.{both, and}
 use Rattle.rules.specs.Test.{testNames, testZeros, testChains, testWhys, testSystem, testUsers, testUnlocked, testLimits, testDues}
 use Rattle.rules.proofs.tests.Agree.{names-clause, names-test, zeros-clause, zeros-test, whys-clause, whys-test, dues-clause, dues-test}
-use Rattle.rules.proofs.tests.AgreeTables.{chains-clause, chains-test, system-clause, system-test, users-clause, users-test, unlocked-clause, unlocked-test, limits-clause, limits-test}
+use Rattle.rules.proofs.tests.AgreeTables.{chains-clause, chains-test, system-clause, system-test, users-clause, users-test}
+use Rattle.rules.proofs.tests.AgreeTables.{unlocked-clause, unlocked-test, limits-clause, limits-test}
 use Rattle.chains.specs.Links.{testLinks}
 use Rattle.chains.proofs.Agree.{links-clause, links-test}
 use Rattle.ledger.specs.Ledger.{testBlank}

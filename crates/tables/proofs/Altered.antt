@@ -21,7 +21,8 @@ use Rattle.tables.specs.Inner.{Orderly, Played, CanHold, CanNumber}
 abbrev pub altered : Clock → Tracks → Numbers → Tables → Tables
 altered k x n t = record { ledger = record { programs = t .ledger .programs; clock = k; tracks = x; numbers = n }; links = t .links }
 
-altered-orderly : (t : Tables) → Orderly t → (k : Clock) (x : Tracks) (n : Numbers) → tracks.Fit x → numbers.Fit n → Orderly (altered k x n t)
+altered-orderly : (t : Tables) → Orderly t → (k : Clock) (x : Tracks) (n : Numbers) → tracks.Fit x → numbers.Fit n
+    → Orderly (altered k x n t)
 altered-orderly t O k x n X N = record {
   laid = O .laid;
   dormant = O .dormant;
@@ -37,7 +38,8 @@ altered-orderly t O k x n X N = record {
   };
 }
 
-pub was-held : (t : Tables) (x : Tracks) → CanHold t x → Played t (held (holders x) ∷ []) (altered (t .ledger .clock) x (t .ledger .numbers) t)
+pub was-held : (t : Tables) (x : Tracks) → CanHold t x
+    → Played t (held (holders x) ∷ []) (altered (t .ledger .clock) x (t .ledger .numbers) t)
 unfolding step
 was-held t x C = record {
   orderly = altered-orderly t (C .orderly) (t .ledger .clock) x (t .ledger .numbers) (C .fit) (C .orderly .numbers);
@@ -58,7 +60,8 @@ was-held t x C = record {
       };
 }
 
-pub was-numbered : (t : Tables) (x : Numbers) → CanNumber t x → Played t (numbered (resources x) ∷ []) (altered (t .ledger .clock) (t .ledger .tracks) x t)
+pub was-numbered : (t : Tables) (x : Numbers) → CanNumber t x
+    → Played t (numbered (resources x) ∷ []) (altered (t .ledger .clock) (t .ledger .tracks) x t)
 unfolding step
 was-numbered t x C = record {
   orderly = altered-orderly t (C .orderly) (t .ledger .clock) (t .ledger .tracks) x (C .orderly .tracks) (C .fit);
@@ -78,7 +81,8 @@ was-numbered t x C = record {
       };
 }
 
-pub was-clocked : (t : Tables) (k : Clock) (n : ℕ) → Orderly t → k .ticks ≡ n → Played t (clocked n ∷ []) (altered k (t .ledger .tracks) (t .ledger .numbers) t)
+pub was-clocked : (t : Tables) (k : Clock) (n : ℕ) → Orderly t → k .ticks ≡ n
+    → Played t (clocked n ∷ []) (altered k (t .ledger .tracks) (t .ledger .numbers) t)
 unfolding step
 was-clocked t k n O e = record {
   orderly = altered-orderly t O k (t .ledger .tracks) (t .ledger .numbers) (O .tracks) (O .numbers);

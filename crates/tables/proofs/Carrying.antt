@@ -1,4 +1,5 @@
--- What is decided is made: the effects that need more than one move, or another table of tracks or numbers; and the answer and the tables that every effect hands back.
+-- What is decided is made: the effects that need more than one move, or another table of tracks or numbers; and the answer and
+-- the tables that every effect hands back.
 -- Assumes nothing.
 use Prim.Native.Nat.{ℕ, _+_}
 use native.Mathlib.Omega.{arith}
@@ -46,10 +47,12 @@ module _ (t : Tables) (O : Orderly t) (y : Release) (d g : Listing) (A : Awaits 
   pub can-rouse : (u : Tables) → Orderly u → CanSettle u (d .ids) (d .len) (g .ids) (g .len)
   can-rouse u U = can-settle t O y d g (A .disc) (A .general) u U
 
-  pub roused : (u r : Tables) → Played u (wake (take (d .len) (d .ids)) ++ wake (take (g .len) (g .ids))) r → Played u (wake (woken (view lists (plain t)) y)) r
+  pub roused : (u r : Tables) → Played u (wake (take (d .len) (d .ids)) ++ wake (take (g .len) (g .ids))) r
+      → Played u (wake (woken (view lists (plain t)) y)) r
   roused u r = played-as u r _ _ (wake-both t y d g (A .disc) (A .general))
 
-  pub roused-number : (n : ℕ) → n ≡ d .len + g .len → length (d .ids) ≡ 32 → length (g .ids) ≡ 32 → n ≡ length (woken (view lists (plain t)) y)
+  pub roused-number : (n : ℕ) → n ≡ d .len + g .len → length (d .ids) ≡ 32 → length (g .ids) ≡ 32
+      → n ≡ length (woken (view lists (plain t)) y)
   unfolding woken
   roused-number n N D G =
       let v = view lists (plain t) in
@@ -85,11 +88,13 @@ module _ (t : Tables) (O : Orderly t) (k o l : ℕ) (n : Numbers)
 -- what is handed back: the answer as it was decided, or a count
 module _ (t : Tables) (nm : List ℕ) (a : Answer) (e : Effect) (u : Tables) (h : Happens (eventsFor (view lists (plain t)) nm e))
     (S : Played t (eventsFor (view lists (plain t)) nm e) u) where
-  pub moved : replyFor (view lists (plain t)) a e ≡ (answers.number a, answers.values a) → told (record { answer = a; tables = u }) ≡ carried t nm a e
+  pub moved : replyFor (view lists (plain t)) a e ≡ (answers.number a, answers.values a)
+      → told (record { answer = a; tables = u }) ≡ carried t nm a e
   moved w = λ i. record { number = sym w i .0; values = sym w i .1; tables = laid-says t u (eventsFor (view lists (plain t)) nm e) h S i }
 
   pub made-counted : (n : ℕ) → replyFor (view lists (plain t)) a e ≡ (0, n ∷ []) → counted n u ≡ carried t nm a e
-  made-counted n w = λ i. record { number = sym w i .0; values = sym w i .1; tables = laid-says t u (eventsFor (view lists (plain t)) nm e) h S i }
+  made-counted n w =
+      λ i. record { number = sym w i .0; values = sym w i .1; tables = laid-says t u (eventsFor (view lists (plain t)) nm e) h S i }
 
 pub made-anew : (t : Tables) (nm : List ℕ) (a : Answer) (T S R : ℕ) → Sizes T S R → made T S R ≡ carried t nm a (Renew T S R)
 unfolding step madeBy
@@ -97,10 +102,13 @@ made-anew t nm a T S R Z = rw (and (and (upTo-is 1 256 T (Z .least) (Z .most)) (
 
 -- OF
 pub dismissal : (t : Tables) (p k n : ℕ) (u : Tables)
-    → Played t (dismissed k p ++ (held (replaced p nobody (plain t .book .holders)) ∷ settle (view lists (plain t)) p (ends (view lists (plain t)) p n))) u
-    → Played t ((dismissed k p ++ (held (replaced p nobody (plain t .book .holders)) ∷ quit (view lists (plain t)) p ∷ [])) ++ wake (woken (view lists (plain t)) (ends (view lists (plain t)) p n))) u
+    → Played t (dismissed k p
+    ++ (held (replaced p nobody (plain t .book .holders)) ∷ settle (view lists (plain t)) p (ends (view lists (plain t)) p n))) u
+    → Played t ((dismissed k p ++ (held (replaced p nobody (plain t .book .holders)) ∷ quit (view lists (plain t)) p ∷ []))
+    ++ wake (woken (view lists (plain t)) (ends (view lists (plain t)) p n))) u
 dismissal t p k n u =
-    played-as t u _ _ (sym (off-events (view lists (plain t)) p k (replaced p nobody (plain t .book .holders)) (ends (view lists (plain t)) p n)))
+    played-as t u _ _
+    (sym (off-events (view lists (plain t)) p k (replaced p nobody (plain t .book .holders)) (ends (view lists (plain t)) p n)))
 
 pub dismissal-happens : (k p : ℕ) (es fs : List Event) → Happens ((dismissed k p ++ es) ++ fs)
 dismissal-happens k p es fs = go (eqb k 8)
@@ -110,7 +118,8 @@ dismissal-happens k p es fs = go (eqb k 8)
     go false = tt
 
 -- a decision that is the plan's, made, is what was asked for
-pub as-asked : (t : Tables) → Ready t → (q : Request) (nm : List ℕ) (d : Decision) → Decides (view lists (plain t)) nm (keeper.asks lists (plain t) q) d
+pub as-asked : (t : Tables) → Ready t → (q : Request) (nm : List ℕ) (d : Decision)
+    → Decides (view lists (plain t)) nm (keeper.asks lists (plain t) q) d
     → carried t nm (d .answer) (d .effect) ≡ asked t q
 as-asked t R q nm d D =
     (λ i. record { number = D .number i; values = D .values i; tables = laid t (D .events i) })

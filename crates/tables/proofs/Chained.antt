@@ -1,5 +1,5 @@
--- Chains and links are as soundness asks exactly when each of the six walks is in order and the rest is settled. The idea: a program's mark is how often it stands in the chains
--- walked so far, so that who has none stands in no chain.
+-- Chains and links are as soundness asks exactly when each of the six walks is in order and the rest is settled. The idea: a program's mark
+-- is how often it stands in the chains walked so far, so that who has none stands in no chain.
 -- Assumes nothing.
 use Prim.Native.Nat.{ℕ, zero, suc, _+_, _-_, _≤_, _<_}
 use native.Mathlib.Omega.{arith}
@@ -23,7 +23,8 @@ use Rattle.chains.specs.Inner.{prioIn}
 use Rattle.chains.proofs.Reading.{walk-end, getD-read, length-read}
 use Rattle.chains.proofs.Agree.{links-clause, links-test}
 use Rattle.ledger.specs.Inner.{Columns}
-use Rattle.tables.specs.Walks.{bookWith, testChained, Chained, ofProgram, Ordered, Unmet, Walk, AllOrdered, standing, Marked, Walks, settled, Rest, Rests}
+use Rattle.tables.specs.Walks.{bookWith, testChained, Chained, ofProgram, Ordered, Unmet, Walk, AllOrdered}
+use Rattle.tables.specs.Walks.{standing, Marked, Walks, settled, Rest, Rests}
 use Rattle.tables.proofs.Members.{chained-within}
 
 -- who stands in the chains of states 1 to n
@@ -123,7 +124,8 @@ module _ {st pr : ℕ → ℕ} {l : List ℕ} {state : ℕ} {met : List ℕ} (S 
 settled-true : (mark link state : ℕ) → settled mark link state ≡ true → mark ≡ 0 → (link ≡ 0) × (1 ≤ state → 6 < state)
 unfolding settled
 settled-true mark link state e z =
-    let b = both (eqb link 0) (eqb state 0 || ltb 6 state) (unless (eqb mark 0) (eqb link 0 && (eqb state 0 || ltb 6 state)) e (eq-eqb mark 0 z)) in
+    let b = both (eqb link 0) (eqb state 0 || ltb 6 state)
+    (unless (eqb mark 0) (eqb link 0 && (eqb state 0 || ltb 6 state)) e (eq-eqb mark 0 z)) in
     (eqb-true link 0 (b .0), λ h. ltb-true 6 state (otherwise (eqb state 0) (ltb 6 state) (b .1) (ne-eqb state 0 (λ w. omega arith))))
 
 settled-is : (mark link state : ℕ) → (mark ≡ 0 → (link ≡ 0) × (1 ≤ state → 6 < state)) → settled mark link state ≡ true
@@ -233,7 +235,8 @@ module _ (ps : List Program) (l : List ℕ) (met : List ℕ) (M : Marked l 6 met
         O : Ordered (stateIn ps) (prioIn ps) l s (walk l s 32)
         O = A s a (omega arith)
 
-        go : Dec (recordAt ps p .state ≡ s) → (n : ℕ) → standing l 6 p ≡ n → (k : ℕ) → count p (walk l s 32) ≡ k → count p (walk l s 32) ≡ same (recordAt ps p .state) s
+        go : Dec (recordAt ps p .state ≡ s) → (n : ℕ) → standing l 6 p ≡ n → (k : ℕ) → count p (walk l s 32) ≡ k
+            → count p (walk l s 32) ≡ same (recordAt ps p .state) s
         go (yes e) zero z k c = absurd (omega (arith, (rest-of p P z) .1 (omega arith)))
         go (yes e) (suc n) z k c =
             let r = standing-some l 6 p (omega arith) in
@@ -286,7 +289,13 @@ module _ (ps : List Program) (l : List ℕ) (met : List ℕ) (M : Marked l 6 met
             high h (no w) = omega arith
             high h (yes k) =
                 let s = recordAt ps p .state in
-                absurd (omega (arith, C .member s p h (omega arith) P, same-refl s, ap (count p) (getD-read l s (omega arith)), standing-in l 6 p s h k))
+                absurd (omega (
+                  arith,
+                  C .member s p h (omega arith) P,
+                  same-refl s,
+                  ap (count p) (getD-read l s (omega arith)),
+                  standing-in l 6 p s h k,
+                ))
 
 module _ (ps : List Program) (l : List ℕ) where
   chains-ordered : Chains (bookWith ps) (read l) → Links l → AllOrdered (stateIn ps) (prioIn ps) l 6
@@ -300,7 +309,8 @@ module _ (ps : List Program) (l : List ℕ) where
     where
       once : (p n : ℕ) → count p (getD (read l) s []) ≡ n → count p (getD (read l) s []) ≤ 1
       once p zero e = omega arith
-      once p (suc n) e = omega (arith, C .member s p a (omega arith) (C .within s p a (omega arith) (omega arith)), same-le (recordAt ps p .state) s)
+      once p (suc n) e =
+          omega (arith, C .member s p a (omega arith) (C .within s p a (omega arith) (omega arith)), same-le (recordAt ps p .state) s)
 
   no-test : (Chains (bookWith ps) (read l) → Links l → ⊥) → false ≡ testChained ps l
   unfolding testChained

@@ -1,4 +1,5 @@
--- Claims and counts of the tables themselves. On sound tables a call's plain state after it is the rule's, so what holds of the rules holds of the tables.
+-- Claims and counts of the tables themselves. On sound tables a call's plain state after it is the rule's, so what
+-- holds of the rules holds of the tables.
 -- Assumes nothing.
 use Prim.Native.Nat.{ℕ, _≤_}
 use mathlib.Core.Path.{_≡_, sym, ap, _∙_, subst}
@@ -39,7 +40,8 @@ module _ (t : Tables) (A : Arrays t) (e : sound t ≡ true) where
 
   pub after-is : (q : Request) → plain (asked t q .tables) ≡ after lists (plain t) q
   unfolding served
-  after-is q = ap (λ (r : Result). plain (r .tables)) (asked-sound t q e) ∙ laid-is t (eventsOf (view lists (plain t)) (asks lists (plain t) q)) (sound-after (plain t) plainly q)
+  after-is q = ap (λ (r : Result). plain (r .tables)) (asked-sound t q e)
+      ∙ laid-is t (eventsOf (view lists (plain t)) (asks lists (plain t) q)) (sound-after (plain t) plainly q)
 
   -- a refusal hands back the tables
   stays : (q : Request) (a v : ℕ) → asks lists (plain t) q ≡ refused a v → asked t q .tables ≡ t
@@ -52,15 +54,21 @@ module _ (t : Tables) (A : Arrays t) (e : sound t ≡ true) where
     granted = λ i L. (number-is q ∙ ap numberOf (C .answer .granted i L), values-is q ∙ ap valuesOf (C .answer .granted i L));
     gained = λ i L. subst (λ (a : State lists). Gained (plain t .book) (a .book) h i n) (sym (after-is q)) (C .tracks i L);
     waits = λ N z. (number-is q ∙ ap numberOf (C .answer .waits N z), values-is q ∙ ap valuesOf (C .answer .waits N z));
-    told = λ N z. (number-is q ∙ ap numberOf (C .answer .told N z), values-is q ∙ ap valuesOf (C .answer .told N z), stays q 8 0 (C .answer .told N z));
+    told = λ N z. (
+      number-is q ∙ ap numberOf (C .answer .told N z),
+      values-is q ∙ ap valuesOf (C .answer .told N z),
+      stays q 8 0 (C .answer .told N z),
+    );
     only-waits = λ z. C .answer .only-waits (sym (number-is q) ∙ z) .1;
     only-told = λ z. C .answer .only-told (sym (number-is q) ∙ z) .1;
   }
 
-  pub own-claim : (n w : ℕ) → 1 ≤ callerOf t → 1 ≤ n → n ≤ plain t .book .tracks → w ≤ 1 → Claim t (callerOf t) n w (asked t (running (EXEC4 n w)))
+  pub own-claim : (n w : ℕ) → 1 ≤ callerOf t → 1 ≤ n → n ≤ plain t .book .tracks → w ≤ 1
+      → Claim t (callerOf t) n w (asked t (running (EXEC4 n w)))
   own-claim n w c l h k = claim (callerOf t) n w (running (EXEC4 n w)) (exec4-claims lists (plain t) n w c l h k)
 
-  pub global-claim : (n w : ℕ) → 1 ≤ callerOf t → 1 ≤ n → n ≤ plain t .book .tracks → w ≤ 1 → Claim t everybody n w (asked t (running (EXEC15 n w)))
+  pub global-claim : (n w : ℕ) → 1 ≤ callerOf t → 1 ≤ n → n ≤ plain t .book .tracks → w ≤ 1
+      → Claim t everybody n w (asked t (running (EXEC15 n w)))
   global-claim n w c l h k = claim everybody n w (running (EXEC15 n w)) (exec15-claims lists (plain t) n w c l h k)
 
   -- counts

@@ -1,6 +1,6 @@
 -- Endings: events one after the other, what is left of a program's numbers when it ends, and the whole of an ending.
--- The idea: tables after some events, and those after others from there on, are the tables after all of them; and no deed alters what stands beside the records, so
--- the tracks and numbers in between are those of the start.
+-- The idea: tables after some events, and those after others from there on, are the tables after all of them; and no deed alters what
+-- stands beside the records, so the tracks and numbers in between are those of the start.
 -- Assumes nothing.
 use Prim.Native.Nat.{ℕ}
 use mathlib.Core.Path.{_≡_, refl, sym, ap, _∙_}
@@ -22,7 +22,8 @@ use Rattle.tracks.specs.Tracks.{nobody, holders, replaced}
 use Rattle.tracks.specs.Tracks as tracks
 use Rattle.tracks.proofs.Fits.{Holds, replaced-holds}
 use Rattle.rules.specs.Book.{Book}
-use Rattle.rules.specs.Plans.{Deed, becomes, wakes, priced, loaded, unloaded, timed, Event, on, held, numbered, wake, woken, fromDisc, fromGeneral}
+use Rattle.rules.specs.Plans.{Deed, becomes, wakes, priced, loaded, unloaded, timed, Event, on, held}
+use Rattle.rules.specs.Plans.{numbered, wake, woken, fromDisc, fromGeneral}
 use Rattle.rules.specs.Rules.{ends, dismissed, endsIn}
 use Rattle.rules.proofs.shared.Settling.{settle}
 use Rattle.rules.specs.Plans as rules
@@ -41,19 +42,23 @@ pub played-as : (t r : Tables) (es fs : List Event) → es ≡ fs → Played t e
 played-as t r es fs e S = record { orderly = S .orderly; state = S .state ∙ ap (λ (x : List Event). play lists x (plain t)) e }
 
 pub played-on : (t u r : Tables) (es fs : List Event) → Played t es u → Played u fs r → Played t (es ++ fs) r
-played-on t u r es fs S R = record { orderly = R .orderly; state = R .state ∙ ap (play lists fs) (S .state) ∙ sym (play-append es fs (plain t)) }
+played-on t u r es fs S R =
+    record { orderly = R .orderly; state = R .state ∙ ap (play lists fs) (S .state) ∙ sym (play-append es fs (plain t)) }
 
 -- OF 8, and OF 1
 pub dismissed-gone : (t r : Tables) (k p : ℕ) → k ≡ 8 → Played t (on p unloaded ∷ []) r → Played t (dismissed k p) r
 dismissed-gone t r k p e S = rw (eq-eqb k 8 e) S
 
-pub dismissed-idle : (t u r : Tables) (k p : ℕ) → k ≢ 8 → Played t (on p (becomes 0 Nothing) ∷ []) u → Played u (on p (timed 0 0) ∷ []) r → Played t (dismissed k p) r
+pub dismissed-idle : (t u r : Tables) (k p : ℕ) → k ≢ 8 → Played t (on p (becomes 0 Nothing) ∷ []) u → Played u (on p (timed 0 0) ∷ []) r
+    → Played t (dismissed k p) r
 dismissed-idle t u r k p n S R = rw (ne-eqb k 8 n) (played-on t u r (on p (becomes 0 Nothing) ∷ []) (on p (timed 0 0) ∷ []) S R)
 
 -- the numbers when p ends
-module _ (t : Tables) (p : ℕ) (n : Numbers) (O : Orderly t) (e : n ≡ numbers.tableOf (t .ledger .numbers .count) (map (without p) (resources (t .ledger .numbers)))) where
+module _ (t : Tables) (p : ℕ) (n : Numbers) (O : Orderly t)
+    (e : n ≡ numbers.tableOf (t .ledger .numbers .count) (map (without p) (resources (t .ledger .numbers)))) where
   pub can-number : CanNumber t n
-  can-number = record { orderly = O; fit = rw e (fit-without (t .ledger .numbers) p (O .numbers)); count = ap (λ (x : Numbers). x .count) e }
+  can-number =
+      record { orderly = O; fit = rw e (fit-without (t .ledger .numbers) p (O .numbers)); count = ap (λ (x : Numbers). x .count) e }
 
   numbers-left : resources n ≡ map (without p) (resources (t .ledger .numbers))
   numbers-left = ap resources e ∙ resources-without (t .ledger .numbers) p (O .numbers)
@@ -107,7 +112,8 @@ wake-append : (a b : List ℕ) → wake (a ++ b) ≡ wake a ++ wake b
 wake-append = map-append (λ q. on q wakes)
 
 -- what an ending sets free, as the view has it
-pub ends-is : (t : Tables) (p n : ℕ) (x : Release) → Releases x (endingOf (t .ledger .numbers) p n) → Releases x (ends (view lists (plain t)) p n)
+pub ends-is : (t : Tables) (p n : ℕ) (x : Release) → Releases x (endingOf (t .ledger .numbers) p n)
+    → Releases x (ends (view lists (plain t)) p n)
 unfolding endsIn
 ends-is t p n x R = R
 
@@ -123,7 +129,8 @@ module _ (t : Tables) (y : rules.Release) (d g : Listing) (D : Lists (d .ids) (d
 
   -- the tables u, with the numbers of t, are settled
   pub settles : (p : ℕ) (u r : Tables) → resources (u .ledger .numbers) ≡ resources (t .ledger .numbers)
-      → Played u (numbered (map (without p) (resources (u .ledger .numbers))) ∷ (wake (take (d .len) (d .ids)) ++ wake (take (g .len) (g .ids)))) r
+      → Played u
+      (numbered (map (without p) (resources (u .ledger .numbers))) ∷ (wake (take (d .len) (d .ids)) ++ wake (take (g .len) (g .ids)))) r
       → Played u (settle (view lists (plain t)) p y) r
   settles p u r e =
       played-as u r _ _
@@ -132,11 +139,13 @@ module _ (t : Tables) (y : rules.Release) (d g : Listing) (D : Lists (d .ids) (d
 
   -- p ends itself
   pub ended-itself : (p : ℕ) (u r : Tables) → Played t (on p (becomes 0 Nothing) ∷ []) u
-      → Played u (numbered (map (without p) (resources (u .ledger .numbers))) ∷ (wake (take (d .len) (d .ids)) ++ wake (take (g .len) (g .ids)))) r
+      → Played u
+      (numbered (map (without p) (resources (u .ledger .numbers))) ∷ (wake (take (d .len) (d .ids)) ++ wake (take (g .len) (g .ids)))) r
       → Played t (on p (becomes 0 Nothing) ∷ settle (view lists (plain t)) p y) r
   ended-itself p u r S R =
       played-on t u r (on p (becomes 0 Nothing) ∷ []) (settle (view lists (plain t)) p y) S
-      (settles p u r (ap (λ (a : State lists). a .book .resources) (S .state) ∙ ap (λ (b : Book). b .resources) (step-aside p (becomes 0 Nothing) (plain t))) R)
+      (settles p u r (ap (λ (a : State lists). a .book .resources) (S .state)
+      ∙ ap (λ (b : Book). b .resources) (step-aside p (becomes 0 Nothing) (plain t))) R)
 
 -- p is dismissed, and its tracks are freed
 module _ (t : Tables) (k p : ℕ) (O : Orderly t) (x : Tracks)
@@ -158,7 +167,8 @@ module _ (t : Tables) (k p : ℕ) (O : Orderly t) (x : Tracks)
 
   pub ended-off : (y : rules.Release) (d g : Listing) → Lists (d .ids) (d .len) (fromDisc (view lists (plain t)) y)
       → Lists (g .ids) (g .len) (fromGeneral (view lists (plain t)) y) → (f r : Tables) → Played u (held (holders x) ∷ []) f
-      → Played f (numbered (map (without p) (resources (f .ledger .numbers))) ∷ (wake (take (d .len) (d .ids)) ++ wake (take (g .len) (g .ids)))) r
+      → Played f
+      (numbered (map (without p) (resources (f .ledger .numbers))) ∷ (wake (take (d .len) (d .ids)) ++ wake (take (g .len) (g .ids)))) r
       → Played t (dismissed k p ++ (held (replaced p nobody (plain t .book .holders)) ∷ settle (view lists (plain t)) p y)) r
   unfolding step
   ended-off y d g D G f r H R =

@@ -25,7 +25,8 @@ use Rattle.tables.specs.Calls.{told, made}
 
 -- what FRESH hands back
 module _ (T S R : ℕ) where
-  pub made-done : (t : Tables) → sizes T S R ≡ true → t ≡ lay (fresh lists T S R) → told (record { answer = Done 0; tables = t }) ≡ made T S R
+  pub made-done : (t : Tables) → sizes T S R ≡ true → t ≡ lay (fresh lists T S R)
+      → told (record { answer = Done 0; tables = t }) ≡ made T S R
   unfolding madeBy
   made-done t e f = rw (e, madeBy) (λ i. record { number = 0; values = 0 ∷ []; tables = f i })
 
@@ -40,7 +41,9 @@ no-links = refl
 
 pub fresh-laid : (T S R : ℕ) (u : Program) (c : Clock) (x : Tracks) (y : Numbers) → u ≡ unused → c .ticks ≡ 0
     → x ≡ tracks.tableOf T S (replicate S system ++ replicate (T - S) nobody) → y ≡ numbers.tableOf R (replicate R free)
-    → _≡_ {A = Tables} (record { ledger = record { programs = replicate 32 u; clock = c; tracks = x; numbers = y }; links = replicate 40 0 }) (lay (fresh lists T S R))
+    → _≡_ {A = Tables}
+    (record { ledger = record { programs = replicate 32 u; clock = c; tracks = x; numbers = y }; links = replicate 40 0 })
+    (lay (fresh lists T S R))
 fresh-laid T S R u c x y U C X Y = λ i. record {
   ledger = record { programs = replicate 32 (U i); clock = record { ticks = C i }; tracks = X i; numbers = Y i };
   links = no-links i;

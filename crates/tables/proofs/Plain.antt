@@ -1,4 +1,5 @@
--- Sound plain states laid out are sound tables, which say them again; sound tables have a sound plain state. So what a call hands back on sound tables is sound.
+-- Sound plain states laid out are sound tables, which say them again; sound tables have a sound plain state. So what a
+-- call hands back on sound tables is sound.
 -- Assumes nothing.
 use Prim.Native.Nat.{ℕ, zero, suc, _-_, _≤_}
 use native.Mathlib.Omega.{arith}
@@ -123,4 +124,5 @@ pub sound-asked : (t : Tables) → Arrays t → (q : Request) → sound t ≡ tr
 unfolding asked served
 sound-asked t A q e =
     rw (e, asked)
-    (laid-sound t (eventsOf (view lists (plain t)) (asks lists (plain t) q)) e (sound-after (plain t) (sound-plain t A (sound-clauses t e)) q))
+    (laid-sound t (eventsOf (view lists (plain t)) (asks lists (plain t) q)) e
+    (sound-after (plain t) (sound-plain t A (sound-clauses t e)) q))

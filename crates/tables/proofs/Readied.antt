@@ -1,4 +1,5 @@
--- What the test of the tables gives to a call, and where the caller stands: sound tables are in order, and slot 1 leads to the head of the scheduled chain.
+-- What the test of the tables gives to a call, and where the caller stands: sound tables are in order, and slot 1
+-- leads to the head of the scheduled chain.
 -- Assumes nothing.
 use Prim.Native.Nat.{ℕ, _≤_}
 use native.Mathlib.Omega.{arith}

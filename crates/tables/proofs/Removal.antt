@@ -1,6 +1,7 @@
--- A program is removed while another waits for it: after OF 8 the one that waited is scheduled and waits for nothing, the name is free, and no why names the record.
--- The waking comes last among the events of OF. Who waited stands in chain 3 for a reason that is gone, so it is among the woken. The others keep their names, of which
--- no two were alike; and the record is unused, while sound tables ask of every son that it is used.
+-- A program is removed while another waits for it: after OF 8 the one that waited is scheduled and waits for nothing, the name
+-- is free, and no why names the record.
+-- The waking comes last among the events of OF. Who waited stands in chain 3 for a reason that is gone, so it is among the woken. The
+-- others keep their names, of which no two were alike; and the record is unused, while sound tables ask of every son that it is used.
 -- Of any sound tables. Assumes nothing.
 use Prim.Native.Nat.{ℕ, _≤_}
 use native.Mathlib.Omega.{arith}
@@ -42,7 +43,8 @@ use Rattle.tables.proofs.Plain.{sound-plain}
 use Rattle.tables.proofs.Serving.{asked-sound}
 use Rattle.tables.proofs.Demanded.{after-is}
 
--- what the ending of p sets free, who wakes, and the state at which they wake: p's record is unused, its tracks and numbers have passed to nobody
+-- what the ending of p sets free, who wakes, and the state at which they wake: p's record is unused, its
+-- tracks and numbers have passed to nobody
 abbrev released : State lists → ℕ → Release
 released a p = ends (view lists a) p (count p (a .book .holders))
 
@@ -107,7 +109,8 @@ module _ (a : State lists) (S : rules.Sound a) (nm : List ℕ) (h : 1 ≤ find (
 
   -- nobody bears the name
   bears-none : (z : ℕ) → Bears (after lists a q .book .programs) nm z → Dec (z ≡ p) → ⊥
-  bears-none z Z (yes e) = clash {t = false} (ap (λ (x : Program). x .used) (sym off-unused) ∙ ap (λ (x : ℕ). at (after lists a q .book) x .used) (sym e) ∙ Z .used) refl
+  bears-none z Z (yes e) = clash {t = false}
+      (ap (λ (x : Program). x .used) (sym off-unused) ∙ ap (λ (x : ℕ). at (after lists a q .book) x .used) (sym e) ∙ Z .used) refl
   bears-none z Z (no n) =
       let s = stirred-name (at (a .book) z) (at (after lists a q .book) z) (stirred lists a q z (Z .known) other apart) in
       n (S .names .distinct z p (Z .known) (B .known) (sym (s .0) ∙ Z .used) (B .used) (sym (s .1) ∙ Z .name ∙ sym (B .name)))
@@ -155,7 +158,8 @@ pub removed : (t : Tables) → Arrays t → sound t ≡ true → (nm : List ℕ)
 unfolding served
 removed t A e nm f X h w =
     let S : rules.Sound (plain t) = sound-plain t A (sound-clauses t e) in
-    let i : plain (asked t (operator (OF 8) nm) .tables) ≡ after lists (plain t) (operator (OF 8) nm) = after-is t A e (operator (OF 8) nm) in
+    let i : plain (asked t (operator (OF 8) nm) .tables) ≡ after lists (plain t) (operator (OF 8) nm) =
+    after-is t A e (operator (OF 8) nm) in
     record {
       done = ap (λ (r : Result). r .number) (asked-sound t (operator (OF 8) nm) e) ∙ off-number (plain t) S nm h;
       scheduled = ap (λ (x : State lists). stateOf (x .book) f) i ∙ off-scheduled (plain t) S nm h f X w;

@@ -1,5 +1,5 @@
--- What a call that keeps to a plan hands back: the plan's number and values, and the plan's events played on the plain state, laid out. Where nothing happens
--- the tables come back as they are. And the test of soundness decides between 14 and the rule.
+-- What a call that keeps to a plan hands back: the plan's number and values, and the plan's events played on the plain state, laid out.
+-- Where nothing happens the tables come back as they are. And the test of soundness decides between 14 and the rule.
 -- Assumes nothing.
 use Prim.Native.Nat.{ℕ}
 use mathlib.Core.Path.{_≡_, refl, sym, ap, _∙_}
@@ -28,17 +28,20 @@ laid-says t r [] h S = absurd h
 laid-says t r (e ∷ es) h S = sym (orderly-lay r (S .orderly)) ∙ ap lay (S .state)
 
 -- the call keeps to plan x
-pub keeps : (t r : Tables) (a : Answer) (x : Plan) → number a ≡ numberOf x → values a ≡ valuesOf x → Happens (eventsOf (view lists (plain t)) x)
+pub keeps : (t r : Tables) (a : Answer) (x : Plan) → number a ≡ numberOf x → values a ≡ valuesOf x
+    → Happens (eventsOf (view lists (plain t)) x)
     → Says r (play lists (eventsOf (view lists (plain t)) x) (plain t)) → told (record { answer = a; tables = r }) ≡ planned t x
 keeps t r a x n v h S =
     let l : r ≡ laid t (eventsOf (view lists (plain t)) x) = laid-says t r (eventsOf (view lists (plain t)) x) h S in
     λ i. record { number = n i; values = v i; tables = l i }
 
 -- a refusal hands the tables back as they came; and so does what is done without anything happening
-pub refuses : (t : Tables) (a : Answer) (v : ℕ) → values a ≡ v ∷ [] → told (record { answer = a; tables = t }) ≡ planned t (refused (number a) v)
+pub refuses : (t : Tables) (a : Answer) (v : ℕ) → values a ≡ v ∷ []
+    → told (record { answer = a; tables = t }) ≡ planned t (refused (number a) v)
 refuses t a v w = λ i. record { number = number a; values = w i; tables = t }
 
-pub rests : (t : Tables) (a : Answer) (vs : List ℕ) → number a ≡ 0 → values a ≡ vs → told (record { answer = a; tables = t }) ≡ planned t (done vs [])
+pub rests : (t : Tables) (a : Answer) (vs : List ℕ) → number a ≡ 0 → values a ≡ vs
+    → told (record { answer = a; tables = t }) ≡ planned t (done vs [])
 rests t a vs n w = λ i. record { number = n i; values = w i; tables = t }
 
 -- plans that are one

@@ -1,6 +1,7 @@
--- What a tick makes of every record, at any clock below the ceiling: where the timer is due now it moves on or goes, and a dormant program is scheduled; else the record stays.
--- The clock is one further, and tracks and numbers stay. A tick walks once over those whose timer is due. Each event of the walk names its program and alters its record alone,
--- so a program that stands once among them is treated once, and all others stay.
+-- What a tick makes of every record, at any clock below the ceiling: where the timer is due now it moves on or goes, and a dormant
+-- program is scheduled; else the record stays.
+-- The clock is one further, and tracks and numbers stay. A tick walks once over those whose timer is due. Each event of the walk names its
+-- program and alters its record alone, so a program that stands once among them is treated once, and all others stay.
 -- Of any sound tables. Assumes nothing.
 use Prim.Native.Nat.{ℕ, _+_, _≤_, _<_}
 use native.Mathlib.Omega.{arith}
@@ -103,7 +104,8 @@ module _ (b : Book) where
       long = S .turned .long;
       known = λ z h. A .known z (omega arith);
       once = λ z. omega (arith, A .once z);
-      still = λ z h. S .turned .rest z (A .known z (omega arith)) (λ e. omega (arith, A .once z, same-refl z, ap (same z) e)) ∙ A .still z (omega arith);
+      still = λ z h. S .turned .rest z (A .known z (omega arith)) (λ e. omega (arith, A .once z, same-refl z, ap (same z) e))
+          ∙ A .still z (omega arith);
     }
 
     walked-next : (v : State lists) → Walked l u v → Walked (p ∷ l) t v
@@ -137,7 +139,8 @@ module _ (a : State lists) (S : rules.Sound a) (h : a .book .clock < ceiling) wh
   start = step lists (clocked (a .book .clock + 1)) a
 
   abbrev ticking : Plan
-  ticking = done (length (keep (λ p. dueAt (a .book) p && eqb (stateOf (a .book) p) 0) all) ∷ []) (clocked (a .book .clock + 1) ∷ walk (a .book) due)
+  ticking = done (length (keep (λ p. dueAt (a .book) p && eqb (stateOf (a .book) p) 0) all) ∷ [])
+      (clocked (a .book .clock + 1) ∷ walk (a .book) due)
 
   tick-plan : asks lists a TICK ≡ ticking
   unfolding plan

@@ -46,10 +46,12 @@ module _ (t : Tables) (p : ℕ) (r : Program) (now : ℕ) (O : Orderly t) where
     pub due-only : r .state ≢ 0 → Played t (cond (eqb (r .due) now) (ticked p r) []) u
     due-only n = rw (eq-eqb (r .due) now here, ne-eqb (r .state) 0 n) moved
 
-    pub due-starts : (w : Tables) → r .state ≡ 0 → Played u (on p (becomes 1 Nothing) ∷ []) w → Played t (cond (eqb (r .due) now) (ticked p r) []) w
+    pub due-starts : (w : Tables) → r .state ≡ 0 → Played u (on p (becomes 1 Nothing) ∷ []) w
+        → Played t (cond (eqb (r .due) now) (ticked p r) []) w
     due-starts w e W =
         rw (eq-eqb (r .due) now here, eq-eqb (r .state) 0 e)
-        (played-on t u w (on p (timed (cond (eqb (r .interval) 0) 0 (r .due + r .interval)) (r .interval)) ∷ []) (on p (becomes 1 Nothing) ∷ []) moved W)
+        (played-on t u w (on p (timed (cond (eqb (r .interval) 0) 0 (r .due + r .interval)) (r .interval)) ∷ [])
+        (on p (becomes 1 Nothing) ∷ []) moved W)
 
 -- the programs from p on
 from-step : (p : ℕ) → p ≤ 32 → from p (33 - p) ≡ p ∷ from (p + 1) (33 - (p + 1))
@@ -115,7 +117,8 @@ pub record Ticking (ps : List Program) (now : ℕ) (s t : Tables) (n p : ℕ) : 
   pub high : p ≤ 33
   pub few : n < p
   pub orderly : Orderly t
-  pub left : play lists (tickedAll ps (keep (dueIn ps now) (from p (33 - p)))) (plain t) ≡ play lists (tickedAll ps (keep (dueIn ps now) all)) (plain s)
+  pub left : play lists (tickedAll ps (keep (dueIn ps now) (from p (33 - p)))) (plain t)
+      ≡ play lists (tickedAll ps (keep (dueIn ps now) all)) (plain s)
   pub number : n + length (keep (startsIn ps now) (from p (33 - p))) ≡ length (keep (startsIn ps now) all)
 
 module _ (ps : List Program) (now : ℕ) (s : Tables) where
@@ -130,7 +133,8 @@ module _ (ps : List Program) (now : ℕ) (s : Tables) where
   }
 
   pub ticking-step : (n p : ℕ) (t : Tables) (r : Program) → r ≡ recordAt ps p → Ticking ps now s t n p → p ≤ 32 → (k : ℕ) (u : Tables)
-      → k ≡ hit (eqb (r .due) now && eqb (r .state) 0) → Played t (cond (eqb (r .due) now) (ticked p r) []) u → Ticking ps now s u (n + k) (p + 1)
+      → k ≡ hit (eqb (r .due) now && eqb (r .state) 0) → Played t (cond (eqb (r .due) now) (ticked p r) []) u
+      → Ticking ps now s u (n + k) (p + 1)
   ticking-step n p t r X T h k u K S =
       let q = dueIn ps now p in
       let ks = keep (dueIn ps now) (from (p + 1) (33 - (p + 1))) in
@@ -154,7 +158,8 @@ module _ (ps : List Program) (now : ℕ) (s : Tables) where
       }
 
 -- all are done, and before them the clock
-pub tick-done : (s u t : Tables) (n p : ℕ) → Played s (clocked (plain s .book .clock + 1) ∷ []) u → Ticking (s .ledger .programs) (plain s .book .clock + 1) u t n p → 32 < p
+pub tick-done : (s u t : Tables) (n p : ℕ) → Played s (clocked (plain s .book .clock + 1) ∷ []) u
+    → Ticking (s .ledger .programs) (plain s .book .clock + 1) u t n p → 32 < p
     → Counts s (tickEvents (plain s .book)) (keep (startsNow (plain s .book)) all) t n
 unfolding dueAt
 tick-done s u t n p S T l =
@@ -176,7 +181,8 @@ near : (c d : ℕ) → c < ceiling → (d ≢ 0 → d ≤ c + farthest) → Dec 
 near c d h f (yes e) = omega arith
 near c d h f (no n) = omega (arith, f n)
 
-pub due-fits : (s : Tables) (p : ℕ) (r : Program) → Ready s → Known p → r ≡ at (plain s .book) p → plain s .book .clock < ceiling → r .due + r .interval ≤ 18446744073709551615
+pub due-fits : (s : Tables) (p : ℕ) (r : Program) → Ready s → Known p → r ≡ at (plain s .book) p → plain s .book .clock < ceiling
+    → r .due + r .interval ≤ 18446744073709551615
 due-fits s p r R P X h =
     let D = sound-clauses s (R .sound) .dues in
     let d = near (plain s .book .clock) (at (plain s .book) p .due) h (D .near p P) (ℕ-discrete (at (plain s .book) p .due) 0) in

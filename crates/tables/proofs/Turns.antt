@@ -1,4 +1,5 @@
--- What the steps of a call make of tables in order: a program's record replaced, with links that lay out the chains of the step, says what the step says.
+-- What the steps of a call make of tables in order: a program's record replaced, with links that lay out the chains
+-- of the step, says what the step says.
 -- That tables stay in order is the two keepers' likeness, taken over step by step; the deeds follow by computation.
 -- Assumes nothing.
 use Prim.Native.Nat.{ℕ, zero, suc, _<_}
@@ -55,7 +56,8 @@ module _ (t : Tables) (O : Orderly t) (p : ℕ) (P : Known p) (x : Program) (h :
       go (yes e) = rw e (omega (arith, state-same (plain t .book) (O .long) p P x))
       go (no n) = omega (arith, state-other (plain t .book) (O .long) p P x z Z n, O .states z Z)
 
-  turn-says : (l : List ℕ) (k : List (List ℕ)) (u : State entries) → Laid l k → getD k 0 [] ≡ [] → Alike (turn k) u → Says (relinked l (withRecord p x t)) (turn k)
+  turn-says : (l : List ℕ) (k : List (List ℕ)) (u : State entries) → Laid l k → getD k 0 [] ≡ [] → Alike (turn k) u
+      → Says (relinked l (withRecord p x t)) (turn k)
   turn-says l k u L d A = record {
     orderly = record {
       laid = laid-self L;
@@ -82,7 +84,8 @@ cond-dormant m s c d = go (eqb s 0) refl
 pub amended-says : (t : Tables) (p : ℕ) (x : Program) → CanAmend t p x → Says (withRecord p x t) (amend lists p x (plain t))
 amended-says t p x C =
     let O = C .orderly in
-    turn-says t O p (C .known) x (omega (arith, C .state, O .states p (C .known))) (t .links) (read (t .links)) (amend entries p x (replay t O))
+    turn-says t O p (C .known) x (omega (arith, C .state, O .states p (C .known))) (t .links) (read (t .links))
+    (amend entries p x (replay t O))
     (O .laid) (O .dormant) (amend-alike p (C .known) (plain t) (O .notes) x (replay-alike t O) (C .state) (C .priority))
 
 -- p leaves
@@ -90,8 +93,10 @@ left-says : (t : Tables) (p : ℕ) → CanTurn t p → (l : List ℕ) → Laid l
     → Says (relinked l (withRecord p (inState 0 Nothing (at (plain t .book) p)) t)) (leave lists p (plain t))
 left-says t p C l L =
     let O = C .orderly in
-    turn-says t O p (C .known) (inState 0 Nothing (at (plain t .book) p)) (omega arith) l (leave lists p (plain t) .kept) (leave entries p (replay t O)) L
-    (cond-dormant (read (t .links)) (stateOf (plain t .book) p) (remove p (getD (read (t .links)) (stateOf (plain t .book) p) [])) (O .dormant))
+    turn-says t O p (C .known) (inState 0 Nothing (at (plain t .book) p)) (omega arith) l (leave lists p (plain t) .kept)
+    (leave entries p (replay t O)) L
+    (cond-dormant (read (t .links)) (stateOf (plain t .book) p) (remove p (getD (read (t .links)) (stateOf (plain t .book) p) []))
+    (O .dormant))
     (leave-alike p (C .known) (plain t) (O .notes) (replay-alike t O))
 
 module _ (t : Tables) (p : ℕ) (C : CanTurn t p) where
@@ -127,7 +132,8 @@ can-enter t p s C = record { laid = O .laid; state = C .state; low = C .known .0
 
     none : (k : ℕ) → k < 7 → Dec (k ≡ 0) → count p (getD m k []) ≡ 0
     none k h (yes e) = rw (e, O .dormant)
-    none k h (no n) = O .accounts .fits k (omega arith) h .member p (C .known) ∙ ap (λ (x : ℕ). same x k) (C .out) ∙ same-ne 0 k (λ e. n (sym e))
+    none k h (no n) = O .accounts .fits k (omega arith) h .member p (C .known) ∙ ap (λ (x : ℕ). same x k) (C .out)
+        ∙ same-ne 0 k (λ e. n (sym e))
 
     out : (n : ℕ) → total p m ≡ n → total p m ≡ 0
     out zero e = e
@@ -153,7 +159,8 @@ module _ (t : Tables) (p s : ℕ) (w : Why) (C : CanJoin t p s) (g : Program) (G
   pub entered-some : (l : List ℕ) → s ≢ 0 → Laid l (entered (prioIn (withRecord p g t .ledger .programs)) s p (read (t .links)))
       → Says (relinked l (withRecord p g t)) (enter lists p s w (plain t))
   entered-some l n =
-      subst (λ (y : Program). Laid l (entered (prioIn (withRecord p y t .ledger .programs)) s p (read (t .links))) → Says (relinked l (withRecord p y t)) (enter lists p s w (plain t))) (sym G)
+      subst (λ (y : Program). Laid l (entered (prioIn (withRecord p y t .ledger .programs)) s p (read (t .links)))
+      → Says (relinked l (withRecord p y t)) (enter lists p s w (plain t))) (sym G)
       (λ M. entered-says t p s w C l (rw (ne-eqb s 0 n) M))
 
 -- the deeds: a step on a known program is its act
@@ -179,15 +186,18 @@ module _ (t u : Tables) (p : ℕ) (C : CanTurn t p) (S : Says u (leave lists p (
   unfolding act
   became r s w = says-as (ap (enter lists p s w) (S .state) ∙ act-step p (C .known) (becomes s w) (plain t))
 
-  pub was-loaded : (r : Tables) (x : Program) (nm : List ℕ) (n : ℕ) → x ≡ newcomer nm n → Says r (amend lists p x (plain u)) → Played t (on p (loaded nm n) ∷ []) r
+  pub was-loaded : (r : Tables) (x : Program) (nm : List ℕ) (n : ℕ) → x ≡ newcomer nm n → Says r (amend lists p x (plain u))
+      → Played t (on p (loaded nm n) ∷ []) r
   unfolding act
   was-loaded r x nm n e =
-      says-as (ap (λ (y : Program). amend lists p y (plain u)) e ∙ ap (amend lists p (newcomer nm n)) (S .state) ∙ act-step p (C .known) (loaded nm n) (plain t))
+      says-as (ap (λ (y : Program). amend lists p y (plain u)) e ∙ ap (amend lists p (newcomer nm n)) (S .state)
+      ∙ act-step p (C .known) (loaded nm n) (plain t))
 
   pub was-unloaded : (r : Tables) (x : Program) → x ≡ unused → Says r (amend lists p x (plain u)) → Played t (on p unloaded ∷ []) r
   unfolding act
   was-unloaded r x e =
-      says-as (ap (λ (y : Program). amend lists p y (plain u)) e ∙ ap (amend lists p unused) (S .state) ∙ act-step p (C .known) unloaded (plain t))
+      says-as
+      (ap (λ (y : Program). amend lists p y (plain u)) e ∙ ap (amend lists p unused) (S .state) ∙ act-step p (C .known) unloaded (plain t))
 
   -- its record takes a priority, and it enters its chain anew
   module _ (y x : Program) (n : ℕ) (Y : y ≡ at (plain u .book) p) (X : x ≡ withPriority n y) where
@@ -200,7 +210,8 @@ module _ (t u : Tables) (p : ℕ) (C : CanTurn t p) (S : Says u (leave lists p (
         orderly = A .orderly;
         known = C .known;
         state = omega (arith, ap (λ (z : Program). z .state) B, C .orderly .states p (C .known));
-        out = ap (λ (a : State lists). stateOf (a .book) p) (A .state) ∙ state-same (plain u .book) (S .orderly .long) p (C .known) x ∙ can-price .state ∙ out;
+        out = ap (λ (a : State lists). stateOf (a .book) p) (A .state) ∙ state-same (plain u .book) (S .orderly .long) p (C .known) x
+            ∙ can-price .state ∙ out;
       }
 
       pub was-priced : (r : Tables) → Says r (enter lists p (b .state) (b .why) (plain v)) → Played t (on p (priced n) ∷ []) r

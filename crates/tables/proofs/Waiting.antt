@@ -1,5 +1,5 @@
--- Who waits, and who of them wakes: a chain read out lists known programs, each once, and so does what is left of it without one; what is taken of these is what
--- the rules take of the chains in their view.
+-- Who waits, and who of them wakes: a chain read out lists known programs, each once, and so does what is left of it without one; what is
+-- taken of these is what the rules take of the chains in their view.
 -- Assumes nothing.
 use Prim.Native.Nat.{ℕ, _≤_, _<_}
 use native.Mathlib.Omega.{arith}
@@ -41,7 +41,8 @@ listed-less {ids} {rest} {len} {n} p L R = record {
 }
 
 -- the chain of state s, read out
-module _ (t : Tables) (O : Orderly t) (s : ℕ) (l : 1 ≤ s) (h : s < 7) (ids : List ℕ) (len : ℕ) (L : Lists ids len (walk (t .links) s 32)) where
+module _ (t : Tables) (O : Orderly t) (s : ℕ) (l : 1 ≤ s) (h : s < 7) (ids : List ℕ) (len : ℕ)
+    (L : Lists ids len (walk (t .links) s 32)) where
   chain-is : take len ids ≡ getD (read (t .links)) s []
   chain-is = L .some ∙ sym (getD-read (t .links) s h)
 
@@ -57,7 +58,8 @@ module _ (t : Tables) (x : Release) where
   pub disc-none : x .tracks ≡ 0 → (y : rules.Release) → Releases x y → Lists (replicate 32 0) 0 (fromDisc (view lists (plain t)) y)
   disc-none e y R = rw (sym (R .tracks) ∙ e) (record { some = refl; rest = refl; most = omega arith })
 
-  pub disc-all : (ids rest : List ℕ) (len n : ℕ) → Orderly t → x .tracks ≢ 0 → Lists ids len (walk (t .links) 5 32) → Lists rest n (remove (x .ended) (take len ids))
+  pub disc-all : (ids rest : List ℕ) (len n : ℕ) → Orderly t → x .tracks ≢ 0 → Lists ids len (walk (t .links) 5 32)
+      → Lists rest n (remove (x .ended) (take len ids))
       → (y : rules.Release) → Releases x y → Lists rest n (fromDisc (view lists (plain t)) y)
   disc-all ids rest len n O h L W y R =
       rw (lt-ltb 0 (y .tracks) (omega (arith, h, R .tracks)))
@@ -67,7 +69,8 @@ module _ (t : Tables) (x : Release) where
       W)
 
   -- chain 3: those whose reason is gone
-  pub general-all : (ids rest out : List ℕ) (len n m : ℕ) → Orderly t → Lists ids len (walk (t .links) 3 32) → Lists rest n (remove (x .ended) (take len ids))
+  pub general-all : (ids rest out : List ℕ) (len n m : ℕ) → Orderly t → Lists ids len (walk (t .links) 3 32)
+      → Lists rest n (remove (x .ended) (take len ids))
       → ((y : rules.Release) → Releases x y → Lists out m (keep (λ q. awaits y (recordAt (t .ledger .programs) q .why)) (take n rest)))
       → (y : rules.Release) → Releases x y → Lists out m (fromGeneral (view lists (plain t)) y)
   general-all ids rest out len n m O L W S y R =
@@ -84,7 +87,8 @@ module _ (t : Tables) (O : Orderly t) (y : rules.Release) where
   disc-known z = go (ltb 0 (y .tracks))
     where
       go : (b : Bool) → 1 ≤ count z (cond b (remove (y .ended) (getD (read (t .links)) 5 [])) []) → Known z
-      go true h = O .accounts .fits 5 (omega arith) (omega arith) .within z (omega (arith, count-remove-le z (y .ended) (getD (read (t .links)) 5 [])))
+      go true h = O .accounts .fits 5 (omega arith) (omega arith) .within z
+          (omega (arith, count-remove-le z (y .ended) (getD (read (t .links)) 5 [])))
       go false h = absurd (omega arith)
 
   pub general-known : (z : ℕ) → 1 ≤ count z (fromGeneral (view lists (plain t)) y) → Known z
@@ -94,7 +98,8 @@ module _ (t : Tables) (O : Orderly t) (y : rules.Release) where
       (omega (arith, keep-le (λ q. awaits y (whyOf (plain t .book) q)) z (remove (y .ended) c), count-remove-le z (y .ended) c))
 
   -- so the two lists can wake, in whatever tables are in order
-  pub can-settle : (d g : Listing) → Lists (d .ids) (d .len) (fromDisc (view lists (plain t)) y) → Lists (g .ids) (g .len) (fromGeneral (view lists (plain t)) y)
+  pub can-settle : (d g : Listing) → Lists (d .ids) (d .len) (fromDisc (view lists (plain t)) y)
+      → Lists (g .ids) (g .len) (fromGeneral (view lists (plain t)) y)
       → (u : Tables) → Orderly u → CanSettle u (d .ids) (d .len) (g .ids) (g .len)
   can-settle d g D G u U = record {
     first = record { orderly = U; most = D .most; known = λ z h. disc-known z (omega (arith, ap (count z) (D .some))) };

@@ -40,7 +40,8 @@ module _ (t : Tables) (ids : List ℕ) (len : ℕ) (C : CanWake t ids len) where
     pub waking-end : len ≤ i → Played t (wake (take len ids)) r
     waking-end h = record {
       orderly = W .orderly;
-      state = ap (λ (c : List ℕ). play lists (wake c) (plain r)) (sym (drop-of-length-le (take len ids) {i = i} (omega (arith, long)))) ∙ W .plays;
+      state = ap (λ (c : List ℕ). play lists (wake c) (plain r)) (sym (drop-of-length-le (take len ids) {i = i} (omega (arith, long))))
+          ∙ W .plays;
     }
 
     module _ (h : i < len) where
@@ -65,7 +66,8 @@ module _ (t : Tables) (ids : List ℕ) (len : ℕ) (C : CanWake t ids len) where
         orderly = S .orderly;
         within = omega arith;
         plays =
-            ap (λ (a : State lists). play lists (wake (drop (i + 1) (take len ids))) a) (S .state ∙ sym (wakes-becomes lists (getD ids i 0) (plain r)))
+            ap (λ (a : State lists). play lists (wake (drop (i + 1) (take len ids))) a)
+            (S .state ∙ sym (wakes-becomes lists (getD ids i 0) (plain r)))
             ∙ ap (λ (c : List ℕ). play lists (wake c) (plain r)) (sym left-over)
             ∙ W .plays;
       }

@@ -1,5 +1,6 @@
--- The walk along one chain. The loop has passed the programs `done`, which the links lead along from slot s to slot `at`, and reads n there; it has marked them all, and each mark
--- takes one of at most 32 unmarked places, so that it ends. Where it refuses, the next program is one that no chain in order has there.
+-- The walk along one chain. The loop has passed the programs `done`, which the links lead along from slot s to slot `at`, and reads n
+-- there; it has marked them all, and each mark takes one of at most 32 unmarked places, so that it ends. Where it refuses, the next program
+-- is one that no chain in order has there.
 -- Assumes nothing.
 use Prim.Native.Nat.{ℕ, zero, suc, _+_, _-_, _≤_, _<_}
 use native.Mathlib.Omega.{arith}
@@ -32,7 +33,8 @@ trail-end l s [] at t e = ap (λ (x : ℕ). getD l x 0) t ∙ e
 trail-end l s (q ∷ qs) at t e = (t .0, trail-end l (7 + q) qs at (t .1) e)
 
 -- a chain that begins along the trail goes on with what stands at its end
-trail-on : (l : List ℕ) (s : ℕ) (c : List ℕ) (at n : ℕ) (d : List ℕ) → Trail l s c at → n ≡ getD l at 0 → n ≢ 0 → count 0 c ≡ 0 → Leads l s d
+trail-on : (l : List ℕ) (s : ℕ) (c : List ℕ) (at n : ℕ) (d : List ℕ) → Trail l s c at → n ≡ getD l at 0 → n ≢ 0 → count 0 c ≡ 0
+    → Leads l s d
     → (rest : List ℕ) × (d ≡ c ++ n ∷ rest)
 trail-on l s [] at n [] t e h z w = absurd (h (e ∙ ap (λ (x : ℕ). getD l x 0) (sym t) ∙ w))
 trail-on l s [] at n (r ∷ d) t e h z w = (d, ap (λ (x : ℕ). x ∷ d) (sym (w .0) ∙ ap (λ (x : ℕ). getD l x 0) t ∙ sym e))
@@ -86,7 +88,8 @@ pub record Going (st pr : ℕ → ℕ) (l : List ℕ) (s : ℕ) (met marks : Lis
   pub long : length marks ≡ 32
   pub room : length done + count 0 marks ≤ 32
 
-pub going-start : (st pr : ℕ → ℕ) (l : List ℕ) (s : ℕ) (met : List ℕ) (n : ℕ) → length met ≡ 32 → n ≡ getD l s 0 → Going st pr l s met met 0 n
+pub going-start : (st pr : ℕ → ℕ) (l : List ℕ) (s : ℕ) (met : List ℕ) (n : ℕ) → length met ≡ 32 → n ≡ getD l s 0
+    → Going st pr l s met met 0 n
 going-start st pr l s met n long e = record {
   done = [];
   at = s;
@@ -120,7 +123,8 @@ module _ {st pr : ℕ → ℕ} {l : List ℕ} {s : ℕ} {met marks : List ℕ} {
 
   -- at the end the chain is what was passed
   pub going-walk : n ≡ 0 → walk l s 32 ≡ G .done
-  going-walk h = chain-walk l 32 s (G .done) (trail-end l s (G .done) (G .at) (G .trail) (sym (G .next) ∙ h)) (omega (arith, G .room)) no-zero
+  going-walk h =
+      chain-walk l 32 s (G .done) (trail-end l s (G .done) (G .at) (G .trail) (sym (G .next) ∙ h)) (omega (arith, G .room)) no-zero
 
   pub going-end : n ≡ 0 → Walk st pr l s met true marks
   going-end h = record {
@@ -141,7 +145,8 @@ module _ {st pr : ℕ → ℕ} {l : List ℕ} {s : ℕ} {met marks : List ℕ} {
   going-next : n ≢ 0 → (c : List ℕ) → Ordered st pr l s c → Unmet met c → Next st pr s marks least n
   going-next h c O U =
       let t = trail-on l s (G .done) (G .at) n c (G .trail) (G .next) h no-zero (O .lies) in
-      let counts : count n c ≡ count n (G .done) + (same n n + count n (t .0)) = ap (count n) (t .1) ∙ count-append n (G .done) (n ∷ t .0) in
+      let counts : count n c ≡ count n (G .done) + (same n n + count n (t .0)) =
+      ap (count n) (t .1) ∙ count-append n (G .done) (n ∷ t .0) in
       let here : 1 ≤ count n c = omega (arith, same-refl n) in
       let known : Known n = O .within n here in
       record {

@@ -1,4 +1,5 @@
--- What every call on tables hands back: the outline's number and values, and the tables (OUTLINE, "Answer numbers"). The calls' contracts cite these.
+-- What every call on tables hands back: the outline's number and values, and the tables (OUTLINE, "Answer
+-- numbers"). The calls' contracts cite these.
 -- Assumes nothing.
 use Prim.Native.Nat.{ℕ}
 use mathlib.Core.Bool.{true, false}

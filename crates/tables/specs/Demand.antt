@@ -19,7 +19,8 @@ use Rattle.tables.specs.declared.Tables.{Tables}
 use Rattle.tables.specs.Tables.{plain}
 use Rattle.tables.specs.Calls.{Result, asked}
 
--- what is handed back for a claim of n tracks for h: the lowest free run, or state 5, or 8 and the tables as they were; the latter two exactly where there is no run
+-- what is handed back for a claim of n tracks for h: the lowest free run, or state 5, or 8 and the tables as they were; the
+-- latter two exactly where there is no run
 pub record Claim (t : Tables) (h n w : ℕ) (r : Result) : Type 0 where
   pub granted : (i : ℕ) → LowestRun (plain t .book .holders) i n → (r .number ≡ 0) × (r .values ≡ i ∷ [])
   pub gained : (i : ℕ) → LowestRun (plain t .book .holders) i n → Gained (plain t .book) (plain (r .tables) .book) h i n
@@ -49,8 +50,8 @@ pub record Counted (t : Tables) : Type 0 where
   pub freeing : (r : ℕ) → asked t (running (FREE r)) .number ≡ 0 → ValueAwoken t (asked t (running (FREE r)))
   pub tick : asked t TICK .number ≡ 0 → ValueRoused t (asked t TICK)
 
--- A program removed while another waits for it: the program of that name is removed by OF 8, and f waited for it as its son. f is scheduled and waits for nothing, the name is free, and
--- no why names the record.
+-- A program removed while another waits for it: the program of that name is removed by OF 8, and f waited for it as its son. f is scheduled
+-- and waits for nothing, the name is free, and no why names the record.
 pub record Removed (t : Tables) (nm : List ℕ) (f : ℕ) : Type 0 where
   pub done : asked t (operator (OF 8) nm) .number ≡ 0
   pub scheduled : stateOf (plain (asked t (operator (OF 8) nm) .tables) .book) f ≡ limits.scheduled
@@ -58,7 +59,8 @@ pub record Removed (t : Tables) (nm : List ℕ) (f : ℕ) : Type 0 where
   pub unnamed : find (plain (asked t (operator (OF 8) nm) .tables) .book .programs) nm ≡ 0
   pub unawaited : (q : ℕ) → Known q → whyOf (plain (asked t (operator (OF 8) nm) .tables) .book) q ≢ Son (find (plain t .book .programs) nm)
 
--- A tick at any clock, the last of a day among them, with timers due: what becomes of a record r where the clock is now `now`. A due timer moves on, or goes; a dormant program is scheduled.
+-- A tick at any clock, the last of a day among them, with timers due: what becomes of a record r where the clock is now `now`. A due timer
+-- moves on, or goes; a dormant program is scheduled.
 abbrev pub moved : Program → Program
 moved r = withTimer (cond (eqb (r .interval) 0) 0 (r .due + r .interval)) (r .interval) r
 
@@ -69,4 +71,5 @@ pub record Ticked (t : Tables) : Type 0 where
   pub done : asked t TICK .number ≡ 0
   pub clock : plain (asked t TICK .tables) .book .clock ≡ plain t .book .clock + 1
   pub records : (p : ℕ) → Known p → at (plain (asked t TICK .tables) .book) p ≡ onTick (plain t .book .clock + 1) (at (plain t .book) p)
-  pub rest : (plain (asked t TICK .tables) .book .holders ≡ plain t .book .holders) × (plain (asked t TICK .tables) .book .resources ≡ plain t .book .resources)
+  pub rest : (plain (asked t TICK .tables) .book .holders ≡ plain t .book .holders)
+      × (plain (asked t TICK .tables) .book .resources ≡ plain t .book .resources)

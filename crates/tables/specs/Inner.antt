@@ -33,8 +33,8 @@ use Rattle.tables.specs.Tables.{plain, callerOf}
 use Rattle.tables.specs.Calls.{Result, laid}
 use Rattle.tables.specs.Sound.{sound}
 
--- Tables in order: the links lay out chains that some entries account for, and the tables of tracks and numbers are as they are made. What a call does
--- leads from such tables to such tables, also where they are not sound between two of its steps.
+-- Tables in order: the links lay out chains that some entries account for, and the tables of tracks and numbers are as they are made. What
+-- a call does leads from such tables to such tables, also where they are not sound between two of its steps.
 pub record Orderly (t : Tables) : Type 0 where
   pub laid : Laid (t .links) (read (t .links))
   pub dormant : getD (read (t .links)) limits.dormant [] ≡ []
@@ -57,7 +57,12 @@ Played t es r = Says r (play lists es (plain t))
 -- another record of p
 abbrev pub withRecord : ℕ → Program → Tables → Tables
 withRecord p r t = record {
-  ledger = record { programs = set (t .ledger .programs) (p - 1) r; clock = t .ledger .clock; tracks = t .ledger .tracks; numbers = t .ledger .numbers };
+  ledger = record {
+    programs = set (t .ledger .programs) (p - 1) r;
+    clock = t .ledger .clock;
+    tracks = t .ledger .tracks;
+    numbers = t .ledger .numbers;
+  };
   links = t .links;
 }
 

@@ -1,4 +1,5 @@
--- Tables are sound exactly when: the outline's paragraph, a field for each clause, in its order (OUTLINE, "The tables"); and the test of it that computes.
+-- Tables are sound exactly when: the outline's paragraph, a field for each clause, in its order (OUTLINE, "The
+-- tables"); and the test of it that computes.
 -- Assumes nothing.
 use mathlib.Core.Bool.{Bool, _&&_}
 use Rattle.rules.specs.Sound.{Names, Zeros, Chains, Whys, System, Users, Unlocked, Limits, Dues}

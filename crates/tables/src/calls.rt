@@ -1,6 +1,7 @@
 // The public calls, each by itself: the operator's, TICK, and those of the running program.
 ghost use mathlib.Core.Path.{_≡_};
-ghost use Rattle.rules.specs.Requests.{LOAD, RU, SS, GO, PR, OF, operator, TICK, running, EXEC4, EXEC15, EXEC5, EXEC16, EXEC5ALL, EXEC6, EXEC7, EXEC11, EXEC9, EXEC10, EXEC12, ALLOC, LOCK, CLEAR, FREE};
+ghost use Rattle.rules.specs.Requests.{LOAD, RU, SS, GO, PR, OF, operator, TICK, running, EXEC4, EXEC15, EXEC5, EXEC16, EXEC5ALL, EXEC6};
+ghost use Rattle.rules.specs.Requests.{EXEC7, EXEC11, EXEC9, EXEC10, EXEC12, ALLOC, LOCK, CLEAR, FREE};
 ghost use Rattle.rules.specs.Coded.{theCall};
 ghost use Rattle.tables.specs.Calls.{told, asked};
 use super::Outcome;

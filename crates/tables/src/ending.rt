@@ -35,7 +35,8 @@ impl Tables {
     // The rest of p's ending: its numbers are deallocated and its locks cleared, and those who waited wake.
     fn settled(self, p: u8, w: Waiters) -> Tables
         requires { ⌜ CanSettle self (w .disc .ids) (w .disc .len) (w .general .ids) (w .general .len) ⌝ }
-        ensures { λ t. ⌜ Played self (numbered (map (without p) (resources (self .ledger .numbers))) ∷ (wake (take (w .disc .len) (w .disc .ids)) ++ wake (take (w .general .len) (w .general .ids)))) t ⌝ }
+        ensures { λ t. ⌜ Played self (numbered (map (without p) (resources (self .ledger .numbers)))
+            ∷ (wake (take (w .disc .len) (w .disc .ids)) ++ wake (take (w .general .len) (w .general .ids)))) t ⌝ }
     {
         let book = self.ledger;
         let numbers = book.numbers;
@@ -46,7 +47,8 @@ impl Tables {
     // OF 1 and 8: p is dismissed, its n tracks are freed, and the rest of its ending.
     pub(crate) fn ended(self, p: u8, k: u64, n: usize) -> Tables
         requires { ⌜ CanEnd self p n ⌝ }
-        ensures { λ t. ⌜ Played self (dismissed k p ++ (held (replaced p nobody (plain self .book .holders)) ∷ settle (view lists (plain self)) p (ends (view lists (plain self)) p n))) t ⌝ }
+        ensures { λ t. ⌜ Played self (dismissed k p ++ (held (replaced p nobody (plain self .book .holders))
+            ∷ settle (view lists (plain self)) p (ends (view lists (plain self)) p n))) t ⌝ }
     {
         let book = self.ledger;
         let tracks = book.tracks;
@@ -60,7 +62,9 @@ impl Tables {
     // EXEC 6: p ends itself and keeps its tracks; how many it wakes.
     pub(crate) fn ended_self(self, p: u8) -> Counted
         requires { ⌜ CanTurn self p ⌝ }
-        ensures { λ r. ⌜ Counts self (on p (becomes dormant Nothing) ∷ settle (view lists (plain self)) p (ends (view lists (plain self)) p 0)) (woken (view lists (plain self)) (ends (view lists (plain self)) p 0)) (r .tables) (r .number) ⌝ }
+        ensures { λ r. ⌜ Counts self
+            (on p (becomes dormant Nothing) ∷ settle (view lists (plain self)) p (ends (view lists (plain self)) p 0))
+            (woken (view lists (plain self)) (ends (view lists (plain self)) p 0)) (r .tables) (r .number) ⌝ }
     {
         let book = self.ledger;
         let numbers = book.numbers;

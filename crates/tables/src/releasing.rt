@@ -35,7 +35,8 @@ impl Tables {
     // Where a track was freed, all of chain 5 but the one that ended.
     fn disc_waiters(self, release: Release) -> Listing
         requires { ⌜ Orderly self ⌝ }
-        ensures { λ r. ⌜ ((y : Rattle.rules.specs.Plans.Release) → Releases release y → Lists (r .ids) (r .len) (fromDisc (view lists (plain self)) y)) ⌝ }
+        ensures { λ r. ⌜ ((y : Rattle.rules.specs.Plans.Release) → Releases release y
+            → Lists (r .ids) (r .len) (fromDisc (view lists (plain self)) y)) ⌝ }
     {
         if release.tracks == 0 {
             return Listing {
@@ -51,7 +52,8 @@ impl Tables {
     // Those of chain 3 whose reason to wait is gone, but not the one that ended.
     fn general_waiters(self, release: Release) -> Listing
         requires { ⌜ Orderly self ⌝ }
-        ensures { λ r. ⌜ ((y : Rattle.rules.specs.Plans.Release) → Releases release y → Lists (r .ids) (r .len) (fromGeneral (view lists (plain self)) y)) ⌝ }
+        ensures { λ r. ⌜ ((y : Rattle.rules.specs.Plans.Release) → Releases release y
+            → Lists (r .ids) (r .len) (fromGeneral (view lists (plain self)) y)) ⌝ }
     {
         let links = self.links;
         let list = chains::chain_of(links, GENERAL as usize);
@@ -105,7 +107,8 @@ impl Tables {
     // n tracks from `at` on are given back.
     pub(crate) fn given(self, at: usize, n: usize) -> Tables
         requires { ⌜ CanFill self at n ⌝ }
-        ensures { λ t. ⌜ Played self (held (filled at n nobody (plain self .book .holders)) ∷ wake (woken (view lists (plain self)) (frees n))) t ⌝ }
+        ensures { λ t. ⌜ Played self
+            (held (filled at n nobody (plain self .book .holders)) ∷ wake (woken (view lists (plain self)) (frees n))) t ⌝ }
     {
         let book = self.ledger;
         let tracks = book.tracks;
@@ -115,7 +118,8 @@ impl Tables {
     // All of c's tracks, n of them, are given back.
     pub(crate) fn given_all(self, c: u8, n: usize) -> Tables
         requires { ⌜ Orderly self ⌝ }
-        ensures { λ t. ⌜ Played self (held (replaced c nobody (plain self .book .holders)) ∷ wake (woken (view lists (plain self)) (frees n))) t ⌝ }
+        ensures { λ t. ⌜ Played self
+            (held (replaced c nobody (plain self .book .holders)) ∷ wake (woken (view lists (plain self)) (frees n))) t ⌝ }
     {
         let book = self.ledger;
         let tracks = book.tracks;
@@ -135,7 +139,9 @@ impl Tables {
     // Number r is cleared or deallocated, and those wake who waited for that; how many.
     pub(crate) fn released(self, r: usize, owner: u8, lock: u8, dealt: bool) -> Counted
         requires { ⌜ CanPut self r ⌝ }
-        ensures { λ x. ⌜ Counts self (assigned (view lists (plain self)) r owner lock ∷ wake (woken (view lists (plain self)) (clears r dealt))) (woken (view lists (plain self)) (clears r dealt)) (x .tables) (x .number) ⌝ }
+        ensures { λ x. ⌜ Counts self
+            (assigned (view lists (plain self)) r owner lock ∷ wake (woken (view lists (plain self)) (clears r dealt)))
+            (woken (view lists (plain self)) (clears r dealt)) (x .tables) (x .number) ⌝ }
     {
         let w = self.waiters(Release::of_number(r, dealt));
         let t = self.with_number(r, owner, lock);

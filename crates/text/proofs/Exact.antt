@@ -45,7 +45,8 @@ horner-exact (x ∷ s) a n p b e =
     let le : a * 10 + (x - 48) ≤ n = horner-le s (a * 10 + (x - 48)) n (i .2) in
     let d : a′ / 10 ≡ a = omega (arith, i .0, i .1) in
     let m : 48 + a′ % 10 ≡ x = omega (arith, i .0, i .1) in
-    let w : decimal a′ ≡ decimal a ++ (x ∷ []) = decimal-step a′ (omega arith) (omega arith) ∙ ap₂ (λ (q r : ℕ). decimal q ++ (r ∷ [])) d m in
+    let w : decimal a′ ≡ decimal a ++ (x ∷ []) =
+    decimal-step a′ (omega arith) (omega arith) ∙ ap₂ (λ (q r : ℕ). decimal q ++ (r ∷ [])) d m in
     sym (append-assoc (decimal a) (x ∷ []) s) ∙ ap (λ (l : List ℕ). l ++ s) (sym w) ∙ horner-exact s a′ n (omega arith) b (i .2)
 
 -- what the answer says of the text
@@ -59,7 +60,8 @@ plain : (most : ℕ) (s : List ℕ) (n : ℕ) → numberOf most s ≡ some n →
 unfolding numberOf
 plain most s n = go (upTo 1 most (length s) && (eqb (length s) 1 || not (eqb (getD s 0 0) 48))) refl
   where
-    go : (t : Bool) → (upTo 1 most (length s) && (eqb (length s) 1 || not (eqb (getD s 0 0) 48))) ≡ t → cond t (horner 0 s) none ≡ some n → Plain most s n
+    go : (t : Bool) → (upTo 1 most (length s) && (eqb (length s) 1 || not (eqb (getD s 0 0) 48))) ≡ t → cond t (horner 0 s) none ≡ some n
+        → Plain most s n
     go true p e =
         let b = both (upTo 1 most (length s)) (eqb (length s) 1 || not (eqb (getD s 0 0) 48)) p in
         let u = upTo-true 1 most (length s) (b .0) in
@@ -67,7 +69,8 @@ plain most s n = go (upTo 1 most (length s) && (eqb (length s) 1 || not (eqb (ge
           low = u .0;
           high = u .1;
           said = e;
-          head = λ l. eqb-false (getD s 0 0) 48 (not-true (eqb (getD s 0 0) 48) (otherwise (eqb (length s) 1) (not (eqb (getD s 0 0) 48)) (b .1) (ne-eqb (length s) 1 (omega arith))));
+          head = λ l. eqb-false (getD s 0 0) 48 (not-true (eqb (getD s 0 0) 48)
+              (otherwise (eqb (length s) 1) (not (eqb (getD s 0 0) 48)) (b .1) (ne-eqb (length s) 1 (omega arith))));
         }
     go false p e = let z : _≡_ {A = ℕ} 0 1 = cc in absurd (omega arith)
 
@@ -94,4 +97,5 @@ numberOf-exact most s n k e = (text s (plain most s n e), small)
         let a : ℕ = 0 * 10 + (x - 48) in
         let ne : x ≡ 48 → ⊥ = i .head (omega arith) in
         let d : decimal a ≡ x ∷ [] = decimal-small a (omega (arith, j .0, j .1)) ∙ ap (λ (k : ℕ). k ∷ []) (omega (arith, j .0, j .1)) in
-        ap (λ (l : List ℕ). l ++ (y ∷ ys)) (sym d) ∙ horner-exact (y ∷ ys) a n (omega (arith, j .0, ne)) (omega (arith, small, ten-mono most 20 k)) (j .2)
+        ap (λ (l : List ℕ). l ++ (y ∷ ys)) (sym d)
+        ∙ horner-exact (y ∷ ys) a n (omega (arith, j .0, ne)) (omega (arith, small, ten-mono most 20 k)) (j .2)

@@ -1,4 +1,5 @@
--- Laws of slices, of the parts of a text, of the equality of two texts. A part ends where the next separator stands, so a search for it is a search for the first.
+-- Laws of slices, of the parts of a text, of the equality of two texts. A part ends where the next separator stands, so a
+-- search for it is a search for the first.
 -- Assumes nothing.
 use Prim.Native.Nat.{ℕ, zero, suc, _+_, _-_, _<_, _≤_}
 use native.Mathlib.Nat.{suc-add, zero-add}
@@ -50,7 +51,8 @@ parts-cut d (x ∷ xs) = go (eqb x d) (parts-cut d xs)
   where
     go : (t : Bool) → parts d xs ≡ take (until d xs) xs ∷ after d xs
         → cond t ([] ∷ parts d xs) (onFirst x (parts d xs))
-        ≡ take (cond t 0 (suc (until d xs))) (x ∷ xs) ∷ cond (eqb (cond t 0 (suc (until d xs))) (suc (length xs))) [] (parts d (drop (suc (cond t 0 (suc (until d xs)))) (x ∷ xs)))
+        ≡ take (cond t 0 (suc (until d xs))) (x ∷ xs)
+        ∷ cond (eqb (cond t 0 (suc (until d xs))) (suc (length xs))) [] (parts d (drop (suc (cond t 0 (suc (until d xs)))) (x ∷ xs)))
     go true ih = simp (eqb·zero-suc (length xs))
     go false ih = simp (eqb·suc-suc (until d xs) (length xs)) (ap (onFirst x) ih)
 
@@ -74,7 +76,8 @@ part-end d s from h =
       low = omega arith;
       high = omega arith;
       last = λ e. parts-cut d r ∙ rw (eq-eqb (until d r) (length r) (omega arith), drop-take from (until d r) s) refl;
-      more = λ l. parts-cut d r ∙ rw (ne-eqb (until d r) (length r) (omega arith), drop-take from (until d r) s, drop-drop (suc (until d r)) from s, at);
+      more = λ l. parts-cut d r
+          ∙ rw (ne-eqb (until d r) (length r) (omega arith), drop-take from (until d r) s, drop-drop (suc (until d r)) from s, at);
     }
 
 -- the code's search for it
@@ -92,7 +95,8 @@ until-end d s i h = ap (until d) (drop-of-length-le s h)
 
 -- two texts, from o and from i on
 module _ (s w : List ℕ) (o i t : ℕ) (h : o < t) (k : t ≤ length s) (l : i < length w) where
-  alike-next : (b : Bool) → eqb (getD s o 0) (getD w i 0) ≡ b → alike (slice o t s) (drop i w) ≡ (b && alike (slice (o + 1) t s) (drop (i + 1) w))
+  alike-next : (b : Bool) → eqb (getD s o 0) (getD w i 0) ≡ b
+      → alike (slice o t s) (drop i w) ≡ (b && alike (slice (o + 1) t s) (drop (i + 1) w))
   alike-next b e = ap₂ alike (slice-next s o t h k) (drop-next w i l) ∙ ap (λ (c : Bool). c && alike (slice (o + 1) t s) (drop (i + 1) w)) e
 
   pub alike-on : getD s o 0 ≡ getD w i 0 → alike (slice o t s) (drop i w) ≡ alike (slice (o + 1) t s) (drop (i + 1) w)

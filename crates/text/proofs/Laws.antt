@@ -17,7 +17,8 @@ use Rattle.text.specs.Inner.{Wrote}
 
 pub sets-append : (x y l : List ℕ) (i : ℕ) → sets l i (x ++ y) ≡ sets (sets l i x) (i + length x) y
 sets-append [] y l i = ap (λ (k : ℕ). sets l k y) (sym (add-zero i))
-sets-append (a ∷ x) y l i = sets-append x y (set l i a) (suc i) ∙ ap (λ (k : ℕ). sets (sets (set l i a) (suc i) x) k y) (suc-add i (length x) ∙ sym (add-suc i (length x)))
+sets-append (a ∷ x) y l i = sets-append x y (set l i a) (suc i)
+    ∙ ap (λ (k : ℕ). sets (sets (set l i a) (suc i) x) k y) (suc-add i (length x) ∙ sym (add-suc i (length x)))
 
 -- `all` is to be stored from at₀ on in l₀; the list is l by now, and `rest` is left, from `at` on
 pub record Left (l₀ : List ℕ) (at₀ : ℕ) (all : List ℕ) (l : List ℕ) (at : ℕ) (rest : List ℕ) : Type 0 where
@@ -29,15 +30,18 @@ pub left-start : {l : List ℕ} {at : ℕ} {all : List ℕ} → Left l at all l 
 left-start = record { whole = refl; end = refl; same = refl }
 
 -- a write of what stands first among what is left
-pub left-step : {l₀ all l l′ rest : List ℕ} {at₀ at at′ : ℕ} (x : List ℕ) → Left l₀ at₀ all l at (x ++ rest) → Wrote l at x l′ at′ → Left l₀ at₀ all l′ at′ rest
+pub left-step : {l₀ all l l′ rest : List ℕ} {at₀ at at′ : ℕ} (x : List ℕ) → Left l₀ at₀ all l at (x ++ rest) → Wrote l at x l′ at′
+    → Left l₀ at₀ all l′ at′ rest
 left-step {l₀} {all} {l} {l′} {rest} {at₀} {at} {at′} x h w = record {
-  whole = ap (λ (k : List ℕ). sets k at′ rest) (w .buffer) ∙ ap (λ (k : ℕ). sets (sets l at x) k rest) (w .place) ∙ sym (sets-append x rest l at) ∙ h .whole;
+  whole = ap (λ (k : List ℕ). sets k at′ rest) (w .buffer) ∙ ap (λ (k : ℕ). sets (sets l at x) k rest) (w .place)
+      ∙ sym (sets-append x rest l at) ∙ h .whole;
   end = omega (arith, w .place, h .end, length-append x rest);
   same = ap length (w .buffer) ∙ length-sets l at x ∙ h .same;
 }
 
 -- the last write
-pub left-last : {l₀ all l l′ : List ℕ} {at₀ at at′ : ℕ} (x : List ℕ) → Left l₀ at₀ all l at x → Wrote l at x l′ at′ → Wrote l₀ at₀ all l′ at′
+pub left-last : {l₀ all l l′ : List ℕ} {at₀ at at′ : ℕ} (x : List ℕ) → Left l₀ at₀ all l at x → Wrote l at x l′ at′
+    → Wrote l₀ at₀ all l′ at′
 left-last x h w = record { buffer = w .buffer ∙ h .whole; place = w .place ∙ h .end }
 
 -- nothing is left
@@ -48,7 +52,8 @@ pub left-end : {l₀ all l rest : List ℕ} {at₀ at : ℕ} → Left l₀ at₀
 left-end h e = left-none (rw e at h)
 
 -- there is room for what stands first
-pub left-room : {l₀ all l : List ℕ} {at₀ at : ℕ} (x rest : List ℕ) → Left l₀ at₀ all l at (x ++ rest) → at₀ + length all ≤ length l₀ → at + length x ≤ length l
+pub left-room : {l₀ all l : List ℕ} {at₀ at : ℕ} (x rest : List ℕ) → Left l₀ at₀ all l at (x ++ rest) → at₀ + length all ≤ length l₀
+    → at + length x ≤ length l
 left-room x rest h room = omega (arith, h .end, h .same, length-append x rest)
 
 -- a turn of the loop that copies
@@ -67,7 +72,8 @@ pub record Parts (l₀ : List ℕ) (at₀ : ℕ) (all : List ℕ) (l : List ℕ)
 pub parts-start : {l : List ℕ} {at : ℕ} (ps : List (List ℕ)) → Parts l at (join ps) l at ps
 parts-start ps = record { left = left-start }
 
-pub parts-step : {l₀ all l l′ : List ℕ} {at₀ at at′ : ℕ} {x : List ℕ} {ps : List (List ℕ)} → Parts l₀ at₀ all l at (x ∷ ps) → Wrote l at x l′ at′
+pub parts-step : {l₀ all l l′ : List ℕ} {at₀ at at′ : ℕ} {x : List ℕ} {ps : List (List ℕ)} → Parts l₀ at₀ all l at (x ∷ ps)
+    → Wrote l at x l′ at′
     → Parts l₀ at₀ all l′ at′ ps
 parts-step {x = x} h w = record { left = left-step x (h .left) w }
 
@@ -85,14 +91,17 @@ todo-start ps e room = rw e (record { parts = parts-start ps; room = rw e at roo
 pub todo-as : {l₀ all l : List ℕ} {at₀ at : ℕ} {ps qs : List (List ℕ)} → ps ≡ qs → Todo l₀ at₀ all l at ps → Todo l₀ at₀ all l at qs
 todo-as e h = rw e at h
 
-pub todo-at : {l₀ all l l′ : List ℕ} {at₀ at at′ : ℕ} {ps : List (List ℕ)} → l′ ≡ l → at′ ≡ at → Todo l₀ at₀ all l at ps → Todo l₀ at₀ all l′ at′ ps
+pub todo-at : {l₀ all l l′ : List ℕ} {at₀ at at′ : ℕ} {ps : List (List ℕ)} → l′ ≡ l → at′ ≡ at → Todo l₀ at₀ all l at ps
+    → Todo l₀ at₀ all l′ at′ ps
 todo-at e f h = rw (e, f) h
 
-pub todo-step : {l₀ all l l′ : List ℕ} {at₀ at at′ : ℕ} {x : List ℕ} {ps : List (List ℕ)} → Todo l₀ at₀ all l at (x ∷ ps) → Wrote l at x l′ at′
+pub todo-step : {l₀ all l l′ : List ℕ} {at₀ at at′ : ℕ} {x : List ℕ} {ps : List (List ℕ)} → Todo l₀ at₀ all l at (x ∷ ps)
+    → Wrote l at x l′ at′
     → Todo l₀ at₀ all l′ at′ ps
 todo-step h w = record { parts = parts-step (h .parts) w; room = h .room }
 
-pub todo-room : {l₀ all l : List ℕ} {at₀ at : ℕ} {x : List ℕ} {ps : List (List ℕ)} → Todo l₀ at₀ all l at (x ∷ ps) → at + length x ≤ length l
+pub todo-room : {l₀ all l : List ℕ} {at₀ at : ℕ} {x : List ℕ} {ps : List (List ℕ)} → Todo l₀ at₀ all l at (x ∷ ps)
+    → at + length x ≤ length l
 todo-room {x = x} {ps = ps} h = left-room x (join ps) (h .parts .left) (h .room)
 
 pub todo-end : {l₀ all l : List ℕ} {at₀ at : ℕ} → Todo l₀ at₀ all l at [] → Wrote l₀ at₀ all l at
@@ -105,7 +114,8 @@ todo-same h = h .parts .left .same
 pub wrote-none : {l : List ℕ} {at : ℕ} → Wrote l at [] l at
 wrote-none {at = at} = record { buffer = refl; place = sym (add-zero at) }
 
-pub wrote-then : {l₀ l₁ l₂ : List ℕ} {at₀ at₁ at₂ : ℕ} (x y : List ℕ) → Wrote l₀ at₀ x l₁ at₁ → Wrote l₁ at₁ y l₂ at₂ → Wrote l₀ at₀ (x ++ y) l₂ at₂
+pub wrote-then : {l₀ l₁ l₂ : List ℕ} {at₀ at₁ at₂ : ℕ} (x y : List ℕ) → Wrote l₀ at₀ x l₁ at₁ → Wrote l₁ at₁ y l₂ at₂
+    → Wrote l₀ at₀ (x ++ y) l₂ at₂
 wrote-then x y v w = left-last y (left-step x left-start v) w
 
 pub wrote-length : {l x l′ : List ℕ} {at n : ℕ} → Wrote l at x l′ n → length l′ ≡ length l
@@ -208,6 +218,7 @@ entry-pieces : (key value : List ℕ) → entry key value ≡ join ((key ++ (61 
 unfolding entry
 entry-pieces key value = sym (append-assoc key (61 ∷ []) (value ++ (10 ∷ [])))
 
-pub entry-todo : {l l′ : List ℕ} {at at′ : ℕ} (key value : List ℕ) → at + length (entry key value) ≤ length l → Wrote l at (key ++ (61 ∷ [])) l′ at′
+pub entry-todo : {l l′ : List ℕ} {at at′ : ℕ} (key value : List ℕ) → at + length (entry key value) ≤ length l
+    → Wrote l at (key ++ (61 ∷ [])) l′ at′
     → Todo l at (entry key value) l′ at′ (value ∷ (10 ∷ []) ∷ [])
 entry-todo key value room w = todo-step (todo-start ((key ++ (61 ∷ [])) ∷ value ∷ (10 ∷ []) ∷ []) (entry-pieces key value) room) w

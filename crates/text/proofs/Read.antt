@@ -50,10 +50,12 @@ unfolding numberOf
 answer most s t e = ap (λ (u : Bool). cond u (horner 0 s) none) e
 
 pub numberOf-none : (most : ℕ) (s : List ℕ) → length s ≡ 0 → numberOf most s ≡ none
-numberOf-none most s e = answer most s false (ap (λ (t : Bool). t && (eqb (length s) 1 || not (eqb (getD s 0 0) 48))) (upTo-under 1 most (length s) (omega arith)))
+numberOf-none most s e = answer most s false
+    (ap (λ (t : Bool). t && (eqb (length s) 1 || not (eqb (getD s 0 0) 48))) (upTo-under 1 most (length s) (omega arith)))
 
 pub numberOf-long : (most : ℕ) (s : List ℕ) → most < length s → numberOf most s ≡ none
-numberOf-long most s h = answer most s false (ap (λ (t : Bool). t && (eqb (length s) 1 || not (eqb (getD s 0 0) 48))) (upTo-over 1 most (length s) h))
+numberOf-long most s h =
+    answer most s false (ap (λ (t : Bool). t && (eqb (length s) 1 || not (eqb (getD s 0 0) 48))) (upTo-over 1 most (length s) h))
 
 pub numberOf-zero : (most : ℕ) (s : List ℕ) → 1 < length s → getD s 0 0 ≡ 48 → numberOf most s ≡ none
 numberOf-zero most s h e =
@@ -61,7 +63,8 @@ numberOf-zero most s h e =
     (ap₂ (λ (t u : Bool). t || not u) (ne-eqb (length s) 1 (omega arith)) (eq-eqb (getD s 0 0) 48 e)))
 
 -- a text of 1 to `most` bytes that is one byte long or does not begin with 0
-pub numberOf-plain : (most : ℕ) (s : List ℕ) → 0 < length s → length s ≤ most → (1 < length s → getD s 0 0 ≡ 48 → ⊥) → numberOf most s ≡ horner 0 s
+pub numberOf-plain : (most : ℕ) (s : List ℕ) → 0 < length s → length s ≤ most → (1 < length s → getD s 0 0 ≡ 48 → ⊥)
+    → numberOf most s ≡ horner 0 s
 numberOf-plain most s a b n =
     answer most s true (and (upTo-is 1 most (length s) a b)
     (or (eqb (length s) 1) (not (eqb (getD s 0 0) 48)) (λ e. ap not (ne-eqb (getD s 0 0) 48 (n (long e))))))
@@ -103,7 +106,8 @@ digits-head (suc f) n p h = go (ltb n 10) refl (λ q. digits-head f (n / 10) q (
     go true e ih = rw (digits-small (suc f) n (ltb-true n 10 e)) (omega arith)
     go false e ih =
         let b : 10 ≤ n = ltb-false n 10 e in
-        rw (digits-step (suc f) n b, List·getD-append (digits (suc f) (n / 10)) ((48 + n % 10) ∷ []) 0 0 (digits-pos f (n / 10))) (ih (omega arith))
+        rw (digits-step (suc f) n b, List·getD-append (digits (suc f) (n / 10)) ((48 + n % 10) ∷ []) 0 0 (digits-pos f (n / 10)))
+        (ih (omega arith))
 
 pub decimal-head : (n : ℕ) → 0 < n → n < ten 20 → 48 < getD (decimal n) 0 0
 unfolding decimal

@@ -1,4 +1,5 @@
--- A table of as many holders as it has tracks is a fit one, its holders are those, and what the functions make of one is so again. Only lengths matter: the table is cut where its holders end.
+-- A table of as many holders as it has tracks is a fit one, its holders are those, and what the functions make of one is so again. Only
+-- lengths matter: the table is cut where its holders end.
 -- Assumes nothing.
 use Prim.Native.Nat.{ℕ, _-_, _≤_}
 use mathlib.Core.Path.{_≡_, refl, sym, ap, _∙_}
@@ -20,7 +21,8 @@ fit T S xs e m = record { most = m; long = ap length (holders-of T S xs e) ∙ e
 pub laid : {t : Tracks} → Fit t → t .holders ≡ holders t ++ replicate (256 - t .count) nobody
 laid f = ap (λ (t : Tracks). t .holders) (f .formed)
 
-pub made : (T S : ℕ) (zs xs : List ℕ) → zs ≡ xs ++ replicate (256 - T) nobody → record { count = T; system = S; holders = zs } ≡ tableOf T S xs
+pub made : (T S : ℕ) (zs xs : List ℕ) → zs ≡ xs ++ replicate (256 - T) nobody
+    → record { count = T; system = S; holders = zs } ≡ tableOf T S xs
 made T S zs xs e = ap (λ (ys : List ℕ). record { count = T; system = S; holders = ys }) e
 
 -- what is known of a table r that a function made: T tracks, S of them the system's, and who holds them
@@ -41,8 +43,10 @@ holds r T S xs e l m =
     })
 
 module _ (r t : Tracks) (f : Fit t) where
-  pub filled-holds : (i n h : ℕ) → r ≡ tableOf (t .count) (t .system) (filled i n h (holders t)) → Holds r (t .count) (t .system) (filled i n h (holders t))
+  pub filled-holds : (i n h : ℕ) → r ≡ tableOf (t .count) (t .system) (filled i n h (holders t))
+      → Holds r (t .count) (t .system) (filled i n h (holders t))
   filled-holds i n h e = holds r (t .count) (t .system) (filled i n h (holders t)) e (filled-long i n h (holders t) ∙ f .long) (f .most)
 
-  pub replaced-holds : (p h : ℕ) → r ≡ tableOf (t .count) (t .system) (replaced p h (holders t)) → Holds r (t .count) (t .system) (replaced p h (holders t))
+  pub replaced-holds : (p h : ℕ) → r ≡ tableOf (t .count) (t .system) (replaced p h (holders t))
+      → Holds r (t .count) (t .system) (replaced p h (holders t))
   replaced-holds p h e = holds r (t .count) (t .system) (replaced p h (holders t)) e (replaced-long p h (holders t) ∙ f .long) (f .most)

@@ -16,12 +16,14 @@ pub record Runs (h start n : ℕ) (xs : List ℕ) : Type 0 where
   pub each : (i : ℕ) → start ≤ i → i < start + n → getD xs i nobody ≡ h
 
 -- what stands at start + k for each k below n stands at each track from start on
-from-start : (h start n : ℕ) (xs : List ℕ) → ((k : ℕ) → k < n → getD xs (start + k) nobody ≡ h) → (i : ℕ) → start ≤ i → i < start + n → getD xs i nobody ≡ h
+from-start : (h start n : ℕ) (xs : List ℕ) → ((k : ℕ) → k < n → getD xs (start + k) nobody ≡ h) → (i : ℕ) → start ≤ i → i < start + n
+    → getD xs i nobody ≡ h
 from-start h start n xs f i k l =
     let w : start + (i - start) ≡ i = omega arith in
     ap (λ (x : ℕ). getD xs x nobody) (sym w) ∙ f (i - start) (omega arith)
 
-pub filled-at : (start n h : ℕ) (xs : List ℕ) (i : ℕ) → start ≤ i → i < start + n → start + n ≤ length xs → getD (filled start n h xs) i nobody ≡ h
+pub filled-at : (start n h : ℕ) (xs : List ℕ) (i : ℕ) → start ≤ i → i < start + n → start + n ≤ length xs
+    → getD (filled start n h xs) i nobody ≡ h
 filled-at start n h xs i k l m = from-start h start n (filled start n h xs) (filled-in start n h xs m) i k l
 
 pub runs-drop : (h start n : ℕ) (xs : List ℕ) → 1 ≤ n → run h n (drop start xs) ≡ true → Runs h start n xs

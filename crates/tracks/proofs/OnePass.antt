@@ -1,5 +1,6 @@
--- The lowest run is found in one pass. What is known of the search at track i, `start` being where the free tracks before i begin: they are fewer than n, and no run of n begins
--- before `start`. A held track i is in every run that begins from `start` to i, so none does; and where n free tracks stand from `start` on, that run is the lowest.
+-- The lowest run is found in one pass. What is known of the search at track i, `start` being where the free tracks before i begin: they are
+-- fewer than n, and no run of n begins before `start`. A held track i is in every run that begins from `start` to i, so none does; and
+-- where n free tracks stand from `start` on, that run is the lowest.
 -- Assumes nothing.
 use Prim.Native.Nat.{ℕ, _+_, _-_, _≤_, _<_}
 use native.Mathlib.Omega.{arith}

@@ -1,4 +1,5 @@
--- Laws of the runs of one holder: the list of runs is folded from its end, and the code finds a run from its beginning. A run that grows joins the first of the runs behind it.
+-- Laws of the runs of one holder: the list of runs is folded from its end, and the code finds a run from its beginning. A run that grows
+-- joins the first of the runs behind it.
 -- Assumes nothing.
 use Prim.Native.Nat.{ℕ, _+_, _<_, _≤_}
 use native.Mathlib.Numerals.{add-one}
@@ -33,7 +34,8 @@ grown-joined : (i j k h : ℕ) (gs : List Run) → grown i j h (joined k h gs) �
 grown-joined i j k h [] = grown-at i j k k h h [] true (eq-eqb h h refl)
 grown-joined i j k h (g ∷ gs) = go (eqb h (g .holder))
   where
-    go : (b : Bool) → grown i j h (cond b (runOf k (g .last) h ∷ gs) (runOf k k h ∷ g ∷ gs)) ≡ cond b (runOf i (g .last) h ∷ gs) (runOf i k h ∷ g ∷ gs)
+    go : (b : Bool)
+        → grown i j h (cond b (runOf k (g .last) h ∷ gs) (runOf k k h ∷ g ∷ gs)) ≡ cond b (runOf i (g .last) h ∷ gs) (runOf i k h ∷ g ∷ gs)
     go true = grown-at i j k (g .last) h h gs true (eq-eqb h h refl)
     go false = grown-at i j k k h h (g ∷ gs) true (eq-eqb h h refl)
 

@@ -1,5 +1,6 @@
--- The lowest run is exactly that: it is found just where there is one, and none begins lower (demand 2). And what a run of one holder's tracks is, what giving tracks to a holder
--- does to each of them, and how many are free then. The search is told from `run` at each place, and `run` from each track; the rest is arithmetic of counts.
+-- The lowest run is exactly that: it is found just where there is one, and none begins lower (demand 2). And what a run of one holder's
+-- tracks is, what giving tracks to a holder does to each of them, and how many are free then. The search is told from `run` at each place,
+-- and `run` from each track; the rest is arithmetic of counts.
 -- Assumes nothing.
 use Prim.Native.Nat.{ℕ, zero, suc, _+_, _≤_, _<_}
 use native.Mathlib.Omega.{arith}
@@ -23,7 +24,8 @@ pub record HeldRun (xs : List ℕ) (h i n : ℕ) : Type 0 where
   pub held : (k : ℕ) → k < n → getD xs (i + k) nobody ≡ h
 
 -- what `run` means: the first n are h's
-run-step : (b : Bool) (h n x : ℕ) (xs : List ℕ) → eqb x h ≡ b → elim b [ true ↦ run h n xs | false ↦ false ] ≡ true → (x ≡ h) × (run h n xs ≡ true)
+run-step : (b : Bool) (h n x : ℕ) (xs : List ℕ) → eqb x h ≡ b → elim b [ true ↦ run h n xs | false ↦ false ] ≡ true
+    → (x ≡ h) × (run h n xs ≡ true)
 run-step true h n x xs t e = (eqb-true x h t, e)
 run-step false h n x xs t e = let z : _≡_ {A = ℕ} 0 1 = cc in absurd (omega arith)
 
@@ -86,7 +88,8 @@ hit n s (x ∷ xs) i e = hit-step (run nobody n (x ∷ xs)) n s x xs i refl (hit
 
 miss-step : (b : Bool) (n s x : ℕ) (xs : List ℕ) → run nobody n (x ∷ xs) ≡ b
     → (lowest n (suc s) xs ≡ none → (j : ℕ) → j < length xs → run nobody n (drop j xs) ≡ false)
-    → _≡_ {A = Option ℕ} (elim b [ true ↦ some s | false ↦ lowest n (suc s) xs ]) none → (j : ℕ) → j < suc (length xs) → run nobody n (drop j (x ∷ xs)) ≡ false
+    → _≡_ {A = Option ℕ} (elim b [ true ↦ some s | false ↦ lowest n (suc s) xs ]) none → (j : ℕ) → j < suc (length xs)
+    → run nobody n (drop j (x ∷ xs)) ≡ false
 miss-step true n s x xs t ih e j m = let z : _≡_ {A = ℕ} 0 1 = cc in absurd (omega arith)
 miss-step false n s x xs t ih e zero m = t
 miss-step false n s x xs t ih e (suc j) m = ih e j (omega arith)
@@ -159,7 +162,8 @@ pub replaced-long : (p h : ℕ) (xs : List ℕ) → length (replaced p h xs) ≡
 replaced-long p h [] = refl
 replaced-long p h (x ∷ xs) = ap suc (replaced-long p h xs)
 
-pub replaced-is : (p h : ℕ) (xs : List ℕ) (i : ℕ) → i < length xs → getD (replaced p h xs) i nobody ≡ cond (eqb (getD xs i nobody) p) h (getD xs i nobody)
+pub replaced-is : (p h : ℕ) (xs : List ℕ) (i : ℕ) → i < length xs
+    → getD (replaced p h xs) i nobody ≡ cond (eqb (getD xs i nobody) p) h (getD xs i nobody)
 replaced-is p h [] i l = absurd (omega arith)
 replaced-is p h (x ∷ xs) zero l = refl
 replaced-is p h (x ∷ xs) (suc i) l = replaced-is p h xs i (omega arith)
@@ -174,7 +178,8 @@ count-set x (q ∷ qs) (suc j) y l = omega (arith, count-set x qs j y (omega ari
 pub count-freed : (i n h : ℕ) (xs : List ℕ) → h ≢ nobody → HeldRun xs h i n → count nobody (filled i n nobody xs) ≡ count nobody xs + n
 count-freed i zero h xs w r = omega arith
 count-freed i (suc n) h xs w r =
-    let was : getD (filled i n nobody xs) (i + n) nobody ≡ h = filled-out i n nobody xs (i + n) (λ l. omega arith) ∙ r .held n (omega arith) in
+    let was : getD (filled i n nobody xs) (i + n) nobody ≡ h =
+    filled-out i n nobody xs (i + n) (λ l. omega arith) ∙ r .held n (omega arith) in
     omega (
       arith,
       count-set nobody (filled i n nobody xs) (i + n) nobody (omega (arith, filled-long i n nobody xs, r .within)),

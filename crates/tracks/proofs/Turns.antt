@@ -1,4 +1,5 @@
--- What a turn of each loop does, and what is there when it ends: a search and a count go on with what is left of the list, a store has changed what it passed.
+-- What a turn of each loop does, and what is there when it ends: a search and a count go on with what is left of the
+-- list, a store has changed what it passed.
 -- Assumes nothing.
 use Prim.Native.Nat.{ℕ, zero, suc, _+_, _-_, _≤_, _<_}
 use native.Mathlib.Numerals.{add-one}
@@ -26,7 +27,8 @@ left xs i l = rw add-one (drop-cons xs i nobody l)
 -- a run
 run-test : (b : Bool) (h n i : ℕ) (xs : List ℕ) → i < length xs → eqb (getD xs i nobody) h ≡ b
     → run h (suc n) (drop i xs) ≡ elim b [ true ↦ run h n (drop (i + 1) xs) | false ↦ false ]
-run-test b h n i xs l t = ap (run h (suc n)) (left xs i l) ∙ ap (λ (b : Bool). elim b [ true ↦ run h n (drop (i + 1) xs) | false ↦ false ]) t
+run-test b h n i xs l t =
+    ap (run h (suc n)) (left xs i l) ∙ ap (λ (b : Bool). elim b [ true ↦ run h n (drop (i + 1) xs) | false ↦ false ]) t
 
 pub run-past : (h n i : ℕ) (xs : List ℕ) → 0 < n → length xs ≤ i → run h n (drop i xs) ≡ false
 run-past h zero i xs m l = absurd (omega arith)
@@ -36,7 +38,8 @@ pub run-stop : (h n i : ℕ) (xs : List ℕ) → 0 < n → i < length xs → (ge
 run-stop h zero i xs m l e = absurd (omega arith)
 run-stop h (suc n) i xs m l e = run-test false h n i xs l (ne-eqb (getD xs i nobody) h e)
 
-pub run-next : (h n i : ℕ) (xs : List ℕ) → 0 < n → i < length xs → getD xs i nobody ≡ h → run h n (drop i xs) ≡ run h (n - 1) (drop (i + 1) xs)
+pub run-next : (h n i : ℕ) (xs : List ℕ) → 0 < n → i < length xs → getD xs i nobody ≡ h
+    → run h n (drop i xs) ≡ run h (n - 1) (drop (i + 1) xs)
 run-next h zero i xs m l e = absurd (omega arith)
 run-next h (suc n) i xs m l e =
     let k : n ≡ suc n - 1 = omega arith in
@@ -50,7 +53,8 @@ pub lowest-turn : (b : Bool) (n i : ℕ) (xs : List ℕ) → i < length xs → r
     → lowest n i (drop i xs) ≡ elim b [ true ↦ some i | false ↦ lowest n (i + 1) (drop (i + 1) xs) ]
 lowest-turn b n i xs l t =
     ap (lowest n i) (left xs i l)
-    ∙ ap (λ (k : ℕ). elim (run nobody n (getD xs i nobody ∷ drop (i + 1) xs)) [ true ↦ some i | false ↦ lowest n k (drop (i + 1) xs) ]) (sym (add-one i))
+    ∙ ap (λ (k : ℕ). elim (run nobody n (getD xs i nobody ∷ drop (i + 1) xs)) [ true ↦ some i | false ↦ lowest n k (drop (i + 1) xs) ])
+    (sym (add-one i))
     ∙ ap (λ (b : Bool). elim b [ true ↦ some i | false ↦ lowest n (i + 1) (drop (i + 1) xs) ]) (ap (run nobody n) (sym (left xs i l)) ∙ t)
 
 -- a count
@@ -131,7 +135,8 @@ fresh-turn a b N i zs l z =
     ∙ fresh-step a b i (N - (i + 1))
     ∙ ap (λ (k : ℕ). replicate k a ++ replicate (N - (i + 1)) b) (sym (add-one i))
 
-pub fresh-done : (a b N T S : ℕ) → S ≤ T → T ≤ N → replicate S a ++ replicate (N - S) b ≡ (replicate S a ++ replicate (T - S) b) ++ replicate (N - T) b
+pub fresh-done : (a b N T S : ℕ) → S ≤ T → T ≤ N
+    → replicate S a ++ replicate (N - S) b ≡ (replicate S a ++ replicate (T - S) b) ++ replicate (N - T) b
 fresh-done a b N T S l m =
     let e : N - S ≡ (T - S) + (N - T) = omega arith in
     ap (λ (k : ℕ). replicate S a ++ replicate k b) e

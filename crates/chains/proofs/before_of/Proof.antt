@@ -1,4 +1,5 @@
--- `chains::before_of` meets its contract. The loop's invariant: the slot before p in what is left of the chain is that in the whole. The measure is the walk that is left.
+-- `chains::before_of` meets its contract. The loop's invariant: the slot before p in what is left of the chain is that in the whole.
+-- The measure is the walk that is left.
 -- Assumes nothing.
 use native.Mathlib.Omega.{arith}
 use mathlib.Core.Path.{_≡_, refl, sym, _∙_}

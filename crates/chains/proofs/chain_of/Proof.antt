@@ -1,4 +1,5 @@
--- `chains::chain_of` meets its contract. The loop's invariant is `Part`: what is read out and what is yet to be walked. The measure is the room that is left.
+-- `chains::chain_of` meets its contract. The loop's invariant is `Part`: what is read out and what is yet to be walked.
+-- The measure is the room that is left.
 -- Assumes nothing.
 use Prim.Native.Nat.{_-_}
 use native.Mathlib.Omega.{arith}

@@ -1,4 +1,5 @@
--- `chains::place_of` meets its contract. The loop's invariant: the place in what is left of the chain is the place in the whole. The measure is the walk that is left.
+-- `chains::place_of` meets its contract. The loop's invariant: the place in what is left of the chain is the place in the whole.
+-- The measure is the walk that is left.
 -- Assumes nothing.
 use Prim.Native.Nat.{ℕ}
 use mir.Syntax.{w64}

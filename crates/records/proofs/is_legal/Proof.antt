@@ -32,7 +32,8 @@ returns-2 c =
     let b = h .before .before in
     let k = h .is-letter-or-digit in
     c .is-blank-from .ensures
-    ∙ sym (rest-blank (b .before .before .before .args .t1) (b .loop .i) (omega arith) (sym (k .ensures) ∙ not-true (k .result) (c .before .if2 .taken)))
+    ∙ sym (rest-blank (b .before .before .before .args .t1) (b .loop .i) (omega arith)
+    (sym (k .ensures) ∙ not-true (k .result) (c .before .if2 .taken)))
     ∙ sym (b .loop .inv)
 
 loop-again : tie.Need-loop-again Inv-loop μ-loop
@@ -40,7 +41,8 @@ loop-again c =
     let h = c .before in
     let b = h .before .before in
     let k = h .is-letter-or-digit in
-    b .loop .inv ∙ rest-on (b .before .before .before .args .t1) (b .loop .i) (omega arith) (sym (k .ensures) ∙ not-false (k .result) (c .if2 .left))
+    b .loop .inv
+    ∙ rest-on (b .before .before .before .args .t1) (b .loop .i) (omega arith) (sym (k .ensures) ∙ not-false (k .result) (c .if2 .left))
 
 returns-3 : tie.Need-returns-3 Inv-loop μ-loop
 returns-3 c =

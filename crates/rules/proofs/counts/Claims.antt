@@ -1,5 +1,6 @@
--- Demand 2's sentence on tracks: EXEC 4 and 15 answer with the lowest run of n free tracks exactly when there is one, and with 1 or 8 exactly when there is none. It is shown of
--- the rule that both share, by what the search for a run finds; then of the requests under any keeper, with what becomes of each track.
+-- Demand 2's sentence on tracks: EXEC 4 and 15 answer with the lowest run of n free tracks exactly when there is one, and with 1 or 8
+-- exactly when there is none. It is shown of the rule that both share, by what the search for a run finds; then of the requests under any
+-- keeper, with what becomes of each track.
 -- Assumes nothing.
 use Prim.Native.Nat.{ℕ, _+_, _-_, _≤_}
 use native.Mathlib.Omega.{arith}
@@ -75,7 +76,8 @@ module _ (v : View) (c h n w : ℕ) (low : 1 ≤ n) (high : n ≤ v .book .track
       if-told (some i) e k = absurd (omega (arith, ap numberOf (takes-some i e)))
       if-told none e k = (one (λ z. omega (arith, wait e z)), lowest-none n xs low e)
 
-module _ (K : Keeper) (t : State K) (n w : ℕ) (some : 1 ≤ head (scheduledChain K t)) (low : 1 ≤ n) (high : n ≤ t .book .tracks) (bit : w ≤ 1) where
+module _ (K : Keeper) (t : State K) (n w : ℕ) (some : 1 ≤ head (scheduledChain K t)) (low : 1 ≤ n) (high : n ≤ t .book .tracks)
+    (bit : w ≤ 1) where
   -- whoever takes tracks
   takes-claimed : (h : ℕ) (q : Request) → asks K t q ≡ takes (view K t) (head (scheduledChain K t)) h n w → Claimed K t h n w q
   unfolding step

@@ -1,6 +1,7 @@
--- Each count that a request answers is the difference of the states before and after it (OUTLINE, "What the contracts have to say"): tracks freed, programs woken, programs scheduled by a tick.
--- Tracks are counted in Freed. For programs: those who wake stand once each in a list, they alone are in state 1 after it, and a list of the programs that pass a test, each once, is as long as
--- `keep` of that test over all.
+-- Each count that a request answers is the difference of the states before and after it (OUTLINE, "What the contracts have to say"): tracks
+-- freed, programs woken, programs scheduled by a tick.
+-- Tracks are counted in Freed. For programs: those who wake stand once each in a list, they alone are in state 1 after it, and a list of
+-- the programs that pass a test, each once, is as long as `keep` of that test over all.
 -- Assumes nothing.
 use Prim.Native.Nat.{ℕ, suc, _+_, _≤_}
 use native.Mathlib.Omega.{arith}
@@ -20,7 +21,8 @@ use Rattle.records.specs.declared.Why.the-variants.{Nothing}
 use Rattle.records.specs.Records.{Known, all}
 use Rattle.rules.specs.Book.{Book, at, stateOf, whyOf}
 use Rattle.rules.specs.Requests.{EXEC6, CLEAR, FREE, TICK, running}
-use Rattle.rules.specs.Plans.{becomes, Event, on, clocked, numbered, Plan, releasing, View, valuesOf, eventsOf, Release, awaits, woken, wake}
+use Rattle.rules.specs.Plans.{becomes, Event, on, clocked, numbered, Plan, releasing, View, valuesOf}
+use Rattle.rules.specs.Plans.{eventsOf, Release, awaits, woken, wake}
 use Rattle.rules.specs.Rules.{clears, endsIn, ends, dueAt, ticked, call, head, plan}
 use Rattle.rules.specs.Keeper.{lists, State, step, play, view, scheduledChain, asks}
 use Rattle.rules.specs.Sound.{Sound}
@@ -40,7 +42,8 @@ remove-length : (p : ℕ) (c : List ℕ) → 1 ≤ count p c → suc (length (re
 remove-length p [] h = absurd (omega arith)
 remove-length p (q ∷ qs) h = go (eqb q p) refl (remove-length p qs)
   where
-    go : (b : Bool) → eqb q p ≡ b → (1 ≤ count p qs → suc (length (remove p qs)) ≡ length qs) → suc (length (cond b qs (q ∷ remove p qs))) ≡ suc (length qs)
+    go : (b : Bool) → eqb q p ≡ b → (1 ≤ count p qs → suc (length (remove p qs)) ≡ length qs)
+        → suc (length (cond b qs (q ∷ remove p qs))) ≡ suc (length qs)
     go true t ih = refl
     go false t ih = ap suc (ih (omega (arith, same-ne p q (λ e. eqb-false q p t (sym e)))))
 
@@ -51,7 +54,8 @@ same-length (x ∷ xs) d e =
     let h : 1 ≤ count x d = omega (arith, e x, same-refl x) in
     omega (arith, remove-length x d h, same-length xs (remove x d) (λ z. omega (arith, e z, count-remove z x d h)))
 
-tally : (f : ℕ → Bool) (c : List ℕ) → ((x : ℕ) → 1 ≤ count x c → Known x) → ((x : ℕ) → Known x → count x c ≡ hit (f x)) → length c ≡ length (keep f all)
+tally : (f : ℕ → Bool) (c : List ℕ) → ((x : ℕ) → 1 ≤ count x c → Known x) → ((x : ℕ) → Known x → count x c ≡ hit (f x))
+    → length c ≡ length (keep f all)
 tally f c within once = same-length c (keep f all) (λ x. go x (known-or x) (f x) refl)
   where
     go : (x : ℕ) → Dec (Known x) → (b : Bool) → f x ≡ b → count x c ≡ count x (keep f all)
@@ -68,7 +72,8 @@ keep-keep f g (q ∷ qs) = go (f q) (keep-keep f g qs)
     go true ih = ap (λ (l : List ℕ). cond (g q) (q ∷ l) l) ih
     go false ih = ih
 
--- PROGRAMS: those who rise, each once and having passed a test that none in state 1 passes, are those who passed it and are in state 1 after
+-- PROGRAMS: those who rise, each once and having passed a test that none in state 1 passes, are those
+-- who passed it and are in state 1 after
 risen : (t : State lists) → length (t .book .programs) ≡ 32 → (es : List Event) (c : List ℕ) → Rise es c → (f : ℕ → Bool)
     → ((x : ℕ) → 1 ≤ count x c → Known x × (count x c ≤ 1) × (f x ≡ true)) → ((x : ℕ) → Known x → f x ≡ true → stateOf (t .book) x ≢ 1)
     → length c ≡ length (keep (λ x. f x && eqb (stateOf (play lists es t .book) x) 1) all)
@@ -99,20 +104,29 @@ module _ (a : State lists) (S : Sound a) where
   woken-few : (R : Release) → R .tracks ≡ 0 → (x : ℕ) → count x (woken v R) ≤ count x (v .chain 3)
   woken-few R e x =
       rw (general-alone v R (omega arith))
-      (omega (arith, keep-le (λ q. awaits R (whyOf (v .book) q)) x (remove (R .ended) (v .chain 3)), count-remove-le x (R .ended) (v .chain 3)))
+      (omega (
+        arith,
+        keep-le (λ q. awaits R (whyOf (v .book) q)) x (remove (R .ended) (v .chain 3)),
+        count-remove-le x (R .ended) (v .chain 3),
+      ))
 
   woken-known : (R : Release) → R .tracks ≡ 0 → (x : ℕ) → 1 ≤ count x (woken v R) → Known x
   woken-known R e x h = S .chains .within 3 x (omega arith) (omega arith) (omega (arith, woken-few R e x))
 
-  -- they are the programs that waited in a and are scheduled after the events, if t, in which these begin, has none in state 1 that was not so in a
+  -- they are the programs that waited in a and are scheduled after the events, if t, in which these begin, has
+  -- none in state 1 that was not so in a
   woken-awoken : (R : Release) → R .tracks ≡ 0 → (t : State lists) (es : List Event) → Rise es (woken v R) → length (t .book .programs) ≡ 32
-      → ((x : ℕ) → Known x → stateOf (t .book) x ≡ 1 → stateOf (a .book) x ≡ 1) → length (woken v R) ≡ awoken (a .book) (play lists es t .book)
+      → ((x : ℕ) → Known x → stateOf (t .book) x ≡ 1 → stateOf (a .book) x ≡ 1)
+      → length (woken v R) ≡ awoken (a .book) (play lists es t .book)
   unfolding awoken
   woken-awoken R e t es r L f = risen t L es (woken v R) r (λ x. eqb (stateOf (a .book) x) 3 || eqb (stateOf (a .book) x) 5)
       (λ x h.
       let X = woken-known R e x h in
-      let m = S .chains .member 3 x (omega arith) (omega arith) X in
-      (X, omega (arith, woken-few R e x, same-le (stateOf (a .book) x) 3), rw (eq-eqb (stateOf (a .book) x) 3 (same-eq (stateOf (a .book) x) 3 (omega (arith, woken-few R e x))))))
+      let m = S .chains .member 3 x (omega arith) (omega arith) X in (
+        X,
+        omega (arith, woken-few R e x, same-le (stateOf (a .book) x) 3),
+        rw (eq-eqb (stateOf (a .book) x) 3 (same-eq (stateOf (a .book) x) 3 (omega (arith, woken-few R e x)))),
+      ))
       (λ x X w k. waits-not-1 (stateOf (a .book) x) w (f x X k))
 
   abbrev Wakes : Plan → Type 0
@@ -122,13 +136,15 @@ module _ (a : State lists) (S : Sound a) where
   none-awoken : 0 ≡ awoken (a .book) (a .book)
   unfolding awoken
   none-awoken =
-      risen a (S .shape .programs) [] [] none (λ x. eqb (stateOf (a .book) x) 3 || eqb (stateOf (a .book) x) 5) (λ x h. absurd (omega arith)) (λ x X. waits-not-1 (stateOf (a .book) x))
+      risen a (S .shape .programs) [] [] none (λ x. eqb (stateOf (a .book) x) 3 || eqb (stateOf (a .book) x) 5)
+      (λ x h. absurd (omega arith)) (λ x X. waits-not-1 (stateOf (a .book) x))
 
   -- numbers are altered, and the woken wake
   numbers-wake : (m : List Resource) (R : Release) → R .tracks ≡ 0 → Wakes (releasing (length (woken v R) ∷ []) (numbered m ∷ []) R)
   numbers-wake m R e =
       ap (λ (n : ℕ). n ∷ [])
-      (woken-awoken R e a (numbered m ∷ wake (woken v R)) (numbers (wake-rises (woken v R) (woken-known R e))) (S .shape .programs) (λ x X k. k))
+      (woken-awoken R e a (numbered m ∷ wake (woken v R)) (numbers (wake-rises (woken v R) (woken-known R e))) (S .shape .programs)
+      (λ x X k. k))
 
   ending-wakes : IfDone Wakes (asks lists a (running EXEC6))
   unfolding plan call endsIn
@@ -139,7 +155,8 @@ module _ (a : State lists) (S : Sound a) where
         so = λ z. ap (λ (n : ℕ). n ∷ [])
             (woken-awoken (ends v c 0) refl (step lists (on c (becomes 0 Nothing)) a) (settle v c (ends v c 0))
             (numbers (wake-rises (woken v (ends v c 0)) (woken-known (ends v c 0) refl)))
-            (step-turned lists c C (becomes 0 Nothing) a (S .shape .programs) .long) (turned-each (step-turned lists c C (becomes 0 Nothing) a (S .shape .programs))
+            (step-turned lists c C (becomes 0 Nothing) a (S .shape .programs) .long)
+            (turned-each (step-turned lists c C (becomes 0 Nothing) a (S .shape .programs))
             (λ x r. r .state ≡ 1 → stateOf (a .book) x ≡ 1) (λ k. absurd (omega arith)) (λ x X n k. k)));
       })
 
@@ -151,7 +168,8 @@ module _ (a : State lists) (S : Sound a) where
 
   freeing-wakes : (r : ℕ) → IfDone Wakes (asks lists a (running (FREE r)))
   unfolding plan call clears
-  freeing-wakes r = by-caller not-done _ _ (λ h. by-allocated not-done _ _ _ (λ i k l. by-need not-done _ _ _ _ refl (λ e. record { so = λ z. numbers-wake _ (clears r true) refl })))
+  freeing-wakes r = by-caller not-done _ _ (λ h.
+      by-allocated not-done _ _ _ (λ i k l. by-need not-done _ _ _ _ refl (λ e. record { so = λ z. numbers-wake _ (clears r true) refl })))
 
   -- a tick
   abbrev b : Book

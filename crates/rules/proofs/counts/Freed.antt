@@ -1,5 +1,5 @@
--- Tracks freed are the difference of the free tracks before and after: OF, EXEC 5 and 16, under any keeper and in any state. Of all that happens only `held` alters the holders, and how many
--- are free in `filled` and `replaced` is known.
+-- Tracks freed are the difference of the free tracks before and after: OF, EXEC 5 and 16, under any keeper and in any state. Of all that
+-- happens only `held` alters the holders, and how many are free in `filled` and `replaced` is known.
 -- Assumes nothing.
 use Prim.Native.Nat.{ℕ, _+_}
 use native.Mathlib.Omega.{arith}
@@ -51,12 +51,14 @@ module _ (K : Keeper) where
   quiet-holders (renewed T S R ∷ es) u t = absurd u
 
   -- whatever happened before, the holders are those that were named last
-  last-holders : (es : List Event) (h : List ℕ) (fs : List Event) → Quiet fs → (t : State K) → play K (es ++ (held h ∷ fs)) t .book .holders ≡ h
+  last-holders : (es : List Event) (h : List ℕ) (fs : List Event) → Quiet fs → (t : State K)
+      → play K (es ++ (held h ∷ fs)) t .book .holders ≡ h
   unfolding step
   last-holders [] h fs u t = quiet-holders fs u (step K (held h) t)
   last-holders (e ∷ es) h fs u t = last-holders es h fs u (step K e t)
 
-  freed-by : (t : State K) (es : List Event) (h : List ℕ) (fs : List Event) (n : ℕ) → Quiet fs → count nobody h ≡ count nobody (t .book .holders) + n
+  freed-by : (t : State K) (es : List Event) (h : List ℕ) (fs : List Event) (n : ℕ) → Quiet fs
+      → count nobody h ≡ count nobody (t .book .holders) + n
       → Freed (t .book) (play K (es ++ (held h ∷ fs)) t .book) (n ∷ [])
   unfolding freeTracks
   freed-by t es h fs n u e = record { value = n; answer = refl; difference = sym e ∙ ap (count nobody) (sym (last-holders es h fs u t)) }
@@ -69,8 +71,10 @@ module _ (K : Keeper) where
     unfolding gives
     gives-frees h n s w = by-need not-done _ _ _ _ refl (λ e. by-need not-done _ _ _ _ refl (λ r. record {
       so = λ z.
-          freed-by t [] (filled s n nobody (t .book .holders)) (wake (woken (view K t) (frees n))) n (quiet-wake (woken (view K t) (frees n)))
-          (count-freed s n h (t .book .holders) w (run-true h n s (t .book .holders) (leb-true 1 n (both (leb 1 n) (leb (s + n) (t .book .tracks)) e .0)) r));
+          freed-by t [] (filled s n nobody (t .book .holders)) (wake (woken (view K t) (frees n))) n
+          (quiet-wake (woken (view K t) (frees n)))
+          (count-freed s n h (t .book .holders) w
+          (run-true h n s (t .book .holders) (leb-true 1 n (both (leb 1 n) (leb (s + n) (t .book .tracks)) e .0)) r));
     }))
 
     pub off-frees : (k : ℕ) (nm : List ℕ) → IfDone Frees (asks K t (operator (OF k) nm))

@@ -1,5 +1,6 @@
--- The states of programs after events by which programs are scheduled: the waking of a list, and a tick. Such events name, in a list, those who take state 1; after them
--- a program is in state 1 if it is in that list, and else in the state that it was in. And what a deed of one program does to the states.
+-- The states of programs after events by which programs are scheduled: the waking of a list, and a tick. Such events name, in a list,
+-- those who take state 1; after them a program is in state 1 if it is in that list, and else in the state that it was in. And what a
+-- deed of one program does to the states.
 -- Assumes nothing.
 use Prim.Native.Nat.{ℕ, _≤_}
 use native.Mathlib.Omega.{arith}
@@ -36,8 +37,10 @@ module _ (K : Keeper) (p : ℕ) (P : Known p) (d : Deed) (t : State K) (L : leng
 -- events by which just those of a list take state 1, and none another
 pub data Rise : List Event → List ℕ → Type 0 where
   none : Rise [] []
-  rises : {p : ℕ} {d : Deed} {es : List Event} {c : List ℕ} → Known p → ((r : Program) → made d r .state ≡ 1) → Rise es c → Rise (on p d ∷ es) (p ∷ c)
-  stays : {p : ℕ} {d : Deed} {es : List Event} {c : List ℕ} → Known p → ((r : Program) → made d r .state ≡ r .state) → Rise es c → Rise (on p d ∷ es) c
+  rises : {p : ℕ} {d : Deed} {es : List Event} {c : List ℕ} → Known p → ((r : Program) → made d r .state ≡ 1) → Rise es c
+      → Rise (on p d ∷ es) (p ∷ c)
+  stays : {p : ℕ} {d : Deed} {es : List Event} {c : List ℕ} → Known p → ((r : Program) → made d r .state ≡ r .state) → Rise es c
+      → Rise (on p d ∷ es) c
   clocks : {n : ℕ} {es : List Event} {c : List ℕ} → Rise es c → Rise (clocked n ∷ es) c
   numbers : {r : List Resource} {es : List Event} {c : List ℕ} → Rise es c → Rise (numbered r ∷ es) c
 
@@ -45,7 +48,8 @@ pub wake-rises : (c : List ℕ) → ((x : ℕ) → 1 ≤ count x c → Known x) 
 wake-rises [] f = none
 wake-rises (q ∷ qs) f = rises (f q (omega (arith, same-refl q))) (λ r. refl) (wake-rises qs (λ x h. f x (omega arith)))
 
-pub tick-rises : (b : Book) (c : List ℕ) → ((x : ℕ) → 1 ≤ count x c → Known x) → Rise (join (map (λ p. ticked p (at b p)) c)) (keep (λ p. eqb (stateOf b p) 0) c)
+pub tick-rises : (b : Book) (c : List ℕ) → ((x : ℕ) → 1 ≤ count x c → Known x)
+    → Rise (join (map (λ p. ticked p (at b p)) c)) (keep (λ p. eqb (stateOf b p) 0) c)
 tick-rises b [] f = none
 tick-rises b (q ∷ qs) f = stays Q (λ r. refl) (go (eqb (stateOf b q) 0) (tick-rises b qs (λ x h. f x (omega arith))))
   where
@@ -53,7 +57,8 @@ tick-rises b (q ∷ qs) f = stays Q (λ r. refl) (go (eqb (stateOf b q) 0) (tick
     Q = f q (omega (arith, same-refl q))
 
     go : (t : Bool) → Rise (join (map (λ p. ticked p (at b p)) qs)) (keep (λ p. eqb (stateOf b p) 0) qs)
-        → Rise (cond t (on q (becomes 1 Nothing) ∷ []) [] ++ join (map (λ p. ticked p (at b p)) qs)) (cond t (q ∷ keep (λ p. eqb (stateOf b p) 0) qs) (keep (λ p. eqb (stateOf b p) 0) qs))
+        → Rise (cond t (on q (becomes 1 Nothing) ∷ []) [] ++ join (map (λ p. ticked p (at b p)) qs))
+        (cond t (q ∷ keep (λ p. eqb (stateOf b p) 0) qs) (keep (λ p. eqb (stateOf b p) 0) qs))
     go true r = rises Q (λ r. refl) r
     go false r = r
 
@@ -70,7 +75,8 @@ module _ (K : Keeper) (x : ℕ) (X : Known x) where
   rise-out (clocks {n = m} r) t L n = rise-out r (step K (clocked m) t) L n
   rise-out (numbers {r = m} r) t L n = rise-out r (step K (numbered m) t) L n
 
-  pub rise-in : {es : List Event} {c : List ℕ} → Rise es c → (t : State K) → length (t .book .programs) ≡ 32 → 1 ≤ count x c → stateOf (play K es t .book) x ≡ 1
+  pub rise-in : {es : List Event} {c : List ℕ} → Rise es c → (t : State K) → length (t .book .programs) ≡ 32 → 1 ≤ count x c
+      → stateOf (play K es t .book) x ≡ 1
   unfolding step
   rise-in none t L n = absurd (omega arith)
   rise-in (rises {p} {d} {es} {c} P f r) t L n = go (ℕ-discrete (count x c) 0) (rise-in r u M)

@@ -1,5 +1,7 @@
--- The frame (demand 3): no request but FRESH alters the record of a program that it does not concern, and one that is only woken changes in state and why alone.
--- Events name their program, so an event leaves every other record; and whom the events of a plan name is known from the walk over the rules.
+-- The frame (demand 3): no request but FRESH alters the record of a program that it does not concern, and one that is only
+-- woken changes in state and why alone.
+-- Events name their program, so an event leaves every other record; and whom the events of a plan name
+-- is known from the walk over the rules.
 -- Of any state, sound or not, under any keeper. Assumes nothing.
 use Prim.Native.Nat.{ℕ, _-_, _≤_}
 use native.Mathlib.Omega.{arith}
@@ -35,11 +37,13 @@ module _ (K : Keeper) (x : ℕ) (X : Known x) where
   on-frame p d t n = go (known p) refl
     where
       go : (b : Bool) → known p ≡ b → at (cond b (act K p d t) t .book) x ≡ at (t .book) x
-      go true h = ap (λ (u : State K). at (u .book) x) (act-put K p d t) ∙ at-other (t .book) p (known-true p h) (made d (at (t .book) p)) x X n
+      go true h = ap (λ (u : State K). at (u .book) x) (act-put K p d t)
+          ∙ at-other (t .book) p (known-true p h) (made d (at (t .book) p)) x X n
       go false h = refl
 
   -- what each event leaves of the record, all of them leave
-  play-along : (Q : Program → Program → Type 0) → ((r : Program) → Q r r) → ((r s u : Program) → Q r s → Q s u → Q r u) → (U : ℕ → Deed → Type 0)
+  play-along : (Q : Program → Program → Type 0) → ((r : Program) → Q r r) → ((r s u : Program) → Q r s → Q s u → Q r u)
+      → (U : ℕ → Deed → Type 0)
       → ((p : ℕ) (d : Deed) (t : State K) → U p d → Q (at (t .book) x) (at (step K (on p d) t .book) x))
       → (es : List Event) → Upon U ⊥ es → (t : State K) → Q (at (t .book) x) (at (play K es t .book) x)
   unfolding step
@@ -50,13 +54,16 @@ module _ (K : Keeper) (x : ℕ) (X : Known x) where
   play-along Q i j U f (numbered r ∷ es) u t = play-along Q i j U f es u (step K (numbered r) t)
   play-along Q i j U f (renewed T S R ∷ es) u t = absurd (u .0)
 
-  play-frame : (P : ℕ → Type 0) → (P x → ⊥) → (es : List Event) → Upon (λ p d. P p) ⊥ es → (t : State K) → at (play K es t .book) x ≡ at (t .book) x
-  play-frame P n = play-along (λ r s. s ≡ r) (λ r. refl) (λ r s u e f. f ∙ e) (λ p d. P p) (λ p d t h. on-frame p d t (λ e. n (subst P (sym e) h)))
+  play-frame : (P : ℕ → Type 0) → (P x → ⊥) → (es : List Event) → Upon (λ p d. P p) ⊥ es → (t : State K)
+      → at (play K es t .book) x ≡ at (t .book) x
+  play-frame P n =
+      play-along (λ r s. s ≡ r) (λ r. refl) (λ r s u e f. f ∙ e) (λ p d. P p) (λ p d t h. on-frame p d t (λ e. n (subst P (sym e) h)))
 
   -- a waking, also where the records are too few
   woken-stirred : (t : State K) → Stirred (at (t .book) x) (at (step K (on x waking) t .book) x)
   woken-stirred t =
-      subst (λ (u : State K). Stirred (at (t .book) x) (at (u .book) x)) (sym (step-put K x X waking t)) (go (decLe (length (t .book .programs)) (x - 1)))
+      subst (λ (u : State K). Stirred (at (t .book) x) (at (u .book) x)) (sym (step-put K x X waking t))
+      (go (decLe (length (t .book .programs)) (x - 1)))
     where
       r : Program
       r = made waking (at (t .book) x)
@@ -72,7 +79,8 @@ module _ (K : Keeper) (x : ℕ) (X : Known x) where
       go (no n) = stays (on-frame p d t (λ e. n (sym e)))
       go (yes e) = rw (e, h e) (woken-stirred t)
 
-  play-stirred : (es : List Event) → Upon (λ p d. p ≡ x → d ≡ waking) ⊥ es → (t : State K) → Stirred (at (t .book) x) (at (play K es t .book) x)
+  play-stirred : (es : List Event) → Upon (λ p d. p ≡ x → d ≡ waking) ⊥ es → (t : State K)
+      → Stirred (at (t .book) x) (at (play K es t .book) x)
   play-stirred = play-along Stirred (λ r. stays refl) stirred-on (λ p d. p ≡ x → d ≡ waking) on-stirred
 
 -- a list that has a first is not empty
@@ -97,15 +105,18 @@ module _ (K : Keeper) (t : State K) (q : Request) (x : ℕ) (X : Known x) where
   pub frame : (Whom x → ⊥) → at (after K t q .book) x ≡ at (t .book) x
   frame n = go (eventsOf (view K t) (asks K t q)) refl walked
     where
-      go : (es : List Event) → eventsOf (view K t) (asks K t q) ≡ es → Upon (By (view K t) (λ p d. Has p) (releaseOf (asks K t q))) Renews es
+      go : (es : List Event) → eventsOf (view K t) (asks K t q) ≡ es
+          → Upon (By (view K t) (λ p d. Has p) (releaseOf (asks K t q))) Renews es
           → at (play K es t .book) x ≡ at (t .book) x
       go [] i u = refl
       go (e ∷ es) i u =
           let some : eventsOf (view K t) (asks K t q) ≢ [] = λ j. some-happen e es (sym i ∙ j) in
           play-frame K x X Whom n (e ∷ es)
-          (upon-map (By (view K t) (λ p d. Has p) (releaseOf (asks K t q))) (λ p d. Whom p) Renews ⊥ (concerned some) (λ f. n (anew some (f .0) (f .1) (f .2) (f .3))) (e ∷ es) u) t
+          (upon-map (By (view K t) (λ p d. Has p) (releaseOf (asks K t q))) (λ p d. Whom p) Renews ⊥ (concerned some)
+          (λ f. n (anew some (f .0) (f .1) (f .2) (f .3))) (e ∷ es) u) t
         where
-          concerned : eventsOf (view K t) (asks K t q) ≢ [] → (p : ℕ) (d : Deed) → By (view K t) (λ p d. Has p) (releaseOf (asks K t q)) p d → Whom p
+          concerned : eventsOf (view K t) (asks K t q) ≢ [] → (p : ℕ) (d : Deed)
+              → By (view K t) (λ p d. Has p) (releaseOf (asks K t q)) p d → Whom p
           concerned some p d (as-party h) = party some h
           concerned some p d (as-woken e w) = woken w
 
@@ -114,7 +125,8 @@ module _ (K : Keeper) (t : State K) (q : Request) (x : ℕ) (X : Known x) where
     pub stirred : Stirred (at (t .book) x) (at (after K t q .book) x)
     stirred =
         play-stirred K x X (eventsOf (view K t) (asks K t q))
-        (upon-map (By (view K t) (λ p d. Has p) (releaseOf (asks K t q))) (λ p d. p ≡ x → d ≡ waking) Renews ⊥ others (λ f. old (f .0) (f .1) (f .2) (f .3))
+        (upon-map (By (view K t) (λ p d. Has p) (releaseOf (asks K t q))) (λ p d. p ≡ x → d ≡ waking) Renews ⊥ others
+        (λ f. old (f .0) (f .1) (f .2) (f .3))
         (eventsOf (view K t) (asks K t q)) walked) t
       where
         others : (p : ℕ) (d : Deed) → By (view K t) (λ p d. Has p) (releaseOf (asks K t q)) p d → p ≡ x → d ≡ waking

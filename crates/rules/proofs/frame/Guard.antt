@@ -1,4 +1,5 @@
--- What happens under the rules happens to programs numbered 1 to 32, where the chains hold such programs only: so the test in `step` is never failed.
+-- What happens under the rules happens to programs numbered 1 to 32, where the chains hold such programs only:
+-- so the test in `step` is never failed.
 -- A caller stands in the scheduled chain, a program named was found among all, and the woken stand in chains 3 and 5.
 -- Assumes nothing.
 use Prim.Native.Nat.{ℕ, _≤_}
@@ -48,7 +49,8 @@ module _ (v : View) (S : Seen v) where
   pub plan-known : (q : Request) → Upon (λ p d. Known p) (Unit {0}) (eventsOf v (plan v q))
   plan-known q =
       let about : About v q (λ p d. Known p) (Unit {0}) = record { fresh = λ T S R e. tt; party = λ x l y d. party-known q x l y } in
-      upon-map (By v (λ p d. Known p) (releaseOf (plan v q))) (λ p d. Known p) (Unit {0}) (Unit {0}) (deed-known (releaseOf (plan v q))) (λ f. f)
+      upon-map (By v (λ p d. Known p) (releaseOf (plan v q))) (λ p d. Known p) (Unit {0}) (Unit {0})
+      (deed-known (releaseOf (plan v q))) (λ f. f)
       (eventsOf v (plan v q)) (plan-of (λ p d. Known p) (Unit {0}) v q about .events)
 
 -- chains in order are such chains
@@ -59,5 +61,6 @@ chained-seen a C = record { within = λ s x. go s x (upTo 1 6 s) refl }
     go s x true e h = let l = upTo-true 1 6 s e in C .within s x (l .0) (omega (arith, l .1)) h
     go s x false e h = absurd (omega arith)
 
-pub asks-known : (a : State lists) → Chains (a .book) (a .kept) → (q : Request) → Upon (λ p d. Known p) (Unit {0}) (eventsOf (view lists a) (asks lists a q))
+pub asks-known : (a : State lists) → Chains (a .book) (a .kept) → (q : Request)
+    → Upon (λ p d. Known p) (Unit {0}) (eventsOf (view lists a) (asks lists a q))
 asks-known a C = plan-known (view lists a) (chained-seen a C)

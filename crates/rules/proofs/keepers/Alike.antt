@@ -21,7 +21,8 @@ use Rattle.records.specs.declared.Why.the-variants.{Nothing}
 use Rattle.records.specs.Records.{Known, known, unused, inState, withPriority, withTimer, newcomer}
 use Rattle.rules.specs.Book.{Book, at, stateOf, prioOf, whyOf, put, withClock, withHolders, withResources, freshBook}
 use Rattle.rules.specs.Requests.{Request}
-use Rattle.rules.specs.Plans.{Deed, becomes, wakes, priced, loaded, unloaded, timed, Event, on, clocked, held, numbered, renewed, numberOf, valuesOf, eventsOf}
+use Rattle.rules.specs.Plans.{Deed, becomes, wakes, priced, loaded, unloaded, timed, Event, on, clocked, held}
+use Rattle.rules.specs.Plans.{numbered, renewed, numberOf, valuesOf, eventsOf}
 use Rattle.rules.specs.Rules.{plan}
 use Rattle.rules.specs.Keeper.{lists, Entries, entries, sorted, State, leave, enter, amend, act, step, play, view, asks, after, fresh}
 use Rattle.rules.specs.Replay.{Fits}
@@ -51,7 +52,8 @@ beside a e = record { book = a .book; kept = e }
 
 -- a change of the book that leaves states, and the priorities of programs in chains
 edit-alike : (a : State lists) (e : Entries) (b : Book) → Alike a (beside a e) → length (b .programs) ≡ 32
-    → ((z : ℕ) → Known z → stateOf b z ≡ stateOf (a .book) z) → ((z : ℕ) → Known z → stateOf (a .book) z ≢ 0 → prioOf b z ≡ prioOf (a .book) z)
+    → ((z : ℕ) → Known z → stateOf b z ≡ stateOf (a .book) z)
+    → ((z : ℕ) → Known z → stateOf (a .book) z ≢ 0 → prioOf b z ≡ prioOf (a .book) z)
     → Alike (record { book = b; kept = a .kept }) (record { book = b; kept = e })
 edit-alike a e b A L f g = record {
   book = refl;
@@ -78,14 +80,17 @@ module _ (p : ℕ) (P : Known p) where
     priorities h = turned-each turned (λ z q. q .priority ≡ prioOf (a .book) z) h (λ z Z n. refl)
 
     -- of the same state
-    pub amend-alike : r .state ≡ stateOf (a .book) p → (stateOf (a .book) p ≢ 0 → r .priority ≡ prioOf (a .book) p) → Alike (amend lists p r a) (amend entries p r (beside a e))
+    pub amend-alike : r .state ≡ stateOf (a .book) p → (stateOf (a .book) p ≢ 0 → r .priority ≡ prioOf (a .book) p)
+        → Alike (amend lists p r a) (amend entries p r (beside a e))
     amend-alike h k =
         edit-alike a e (put p r (a .book)) A (turned .long) (turned-each turned (λ z q. q .state ≡ stateOf (a .book) z) h (λ z Z n. refl))
         (turned-each turned (λ z q. stateOf (a .book) z ≢ 0 → q .priority ≡ prioOf (a .book) z) k (λ z Z n m. refl))
 
     -- of the same priority, and the chain of state x is another: p is in no other chain, before and after
-    chain-alike : (x : ℕ) (c : List ℕ) (e′ : Entries) → r .priority ≡ prioOf (a .book) p → ((s : ℕ) → 1 ≤ s → s ≢ x → (stateOf (a .book) p ≢ s) × (r .state ≢ s))
-        → Noted (put p r (a .book)) e′ → ((z : ℕ) → z ≢ p → e′ .entry z ≡ e .entry z) → (1 ≤ x → x < 7 → Fits (put p r (a .book)) (e′ .entry) x c)
+    chain-alike : (x : ℕ) (c : List ℕ) (e′ : Entries) → r .priority ≡ prioOf (a .book) p
+        → ((s : ℕ) → 1 ≤ s → s ≢ x → (stateOf (a .book) p ≢ s) × (r .state ≢ s))
+        → Noted (put p r (a .book)) e′ → ((z : ℕ) → z ≢ p → e′ .entry z ≡ e .entry z)
+        → (1 ≤ x → x < 7 → Fits (put p r (a .book)) (e′ .entry) x c)
         → Alike (record { book = put p r (a .book); kept = set (a .kept) x c }) (record { book = put p r (a .book); kept = e′ })
     chain-alike x c e′ pr out N old here = record {
       book = refl;
@@ -97,7 +102,8 @@ module _ (p : ℕ) (P : Known p) where
         go : (s : ℕ) → 1 ≤ s → s < 7 → Dec (s ≡ x) → Fits (put p r (a .book)) (e′ .entry) s (getD (set (a .kept) x c) s [])
         go s l h (yes i) =
             subst (λ (y : ℕ). Fits (put p r (a .book)) (e′ .entry) y (getD (set (a .kept) x c) y [])) (sym i)
-            (subst (Fits (put p r (a .book)) (e′ .entry) x) (sym (getD-set-same (a .kept) x c [] (omega (arith, A .seven)))) (here (omega arith) (omega arith)))
+            (subst (Fits (put p r (a .book)) (e′ .entry) x) (sym (getD-set-same (a .kept) x c [] (omega (arith, A .seven))))
+            (here (omega arith) (omega arith)))
         go s l h (no n) =
             subst (Fits (put p r (a .book)) (e′ .entry) s) (sym (getD-set-other (a .kept) x s c [] n))
             (fits-edit (a .book) (put p r (a .book)) (e .entry) (e′ .entry) s (getD (a .kept) s []) (A .fits s l h)
@@ -118,13 +124,19 @@ module _ (p : ℕ) (P : Known p) where
       was : (z : ℕ) → Known z → stateOf (put p r (a .book)) z ≢ 0 → stateOf (a .book) z ≢ 0
       was = turned-each (turned a e r A) (λ z q. q .state ≢ 0 → stateOf (a .book) z ≢ 0) (λ h. absurd (h refl)) (λ z Z n h. h)
 
-      go : (d : Bool) → eqb s 0 ≡ d → Alike (record { book = put p r (a .book); kept = cond d (a .kept) (set (a .kept) s (remove p (getD (a .kept) s []))) })
+      go : (d : Bool) → eqb s 0 ≡ d
+          → Alike (record { book = put p r (a .book); kept = cond d (a .kept) (set (a .kept) s (remove p (getD (a .kept) s []))) })
           (record { book = put p r (a .book); kept = cond d e e })
       go true i = amend-alike a e r A (sym (eqb-true s 0 i)) (λ n. refl)
       go false i =
           chain-alike a e r A s (remove p (getD (a .kept) s [])) e refl (λ x l n. (λ j. n (sym j), λ j. omega (arith, j)))
-          (record { long = turned a e r A .long; early = A .noted .early; apart = λ y z Y Z h k. A .noted .apart y z Y Z (was y Y h) (was z Z k) }) (λ z n. refl)
-          (λ l h. fits-remove (a .book) (put p r (a .book)) p P (states a e r A) (priorities a e r A refl) (e .entry) s (getD (a .kept) s []) (A .fits s l h) refl
+          (record {
+            long = turned a e r A .long;
+            early = A .noted .early;
+            apart = λ y z Y Z h k. A .noted .apart y z Y Z (was y Y h) (was z Z k);
+          }) (λ z n. refl)
+          (λ l h. fits-remove (a .book) (put p r (a .book)) p P (states a e r A) (priorities a e r A refl) (e .entry) s
+          (getD (a .kept) s []) (A .fits s l h) refl
           (λ w. eqb-false s 0 i (sym w ∙ state-same (a .book) (A .noted .long) p P r)))
 
   -- p, dormant, enters
@@ -164,12 +176,15 @@ module _ (p : ℕ) (P : Known p) where
           both (no i) (no j) =
               A .noted .apart y z Y Z (λ v. h (states a e r A y Y i ∙ v)) (λ v. k (states a e r A z Z j ∙ v)) (sym (old y i) ∙ q ∙ old z j)
 
-      go : (d : Bool) → eqb s 0 ≡ d → Alike (record { book = b; kept = cond d (a .kept) (set (a .kept) s (insert (prioOf b) p (getD (a .kept) s []))) }) (record { book = b; kept = cond d e e′ })
+      go : (d : Bool) → eqb s 0 ≡ d
+          → Alike (record { book = b; kept = cond d (a .kept) (set (a .kept) s (insert (prioOf b) p (getD (a .kept) s []))) })
+          (record { book = b; kept = cond d e e′ })
       go true i = amend-alike a e r A (eqb-true s 0 i ∙ sym D) (λ n. refl)
       go false i =
           chain-alike a e r A s (insert (prioOf b) p (getD (a .kept) s [])) e′ refl (λ x l n. (λ j. omega (arith, j, D), λ j. n (sym j)))
           (record { long = turned a e r A .long; early = early; apart = apart }) old
-          (λ l h. fits-insert (a .book) b p P (states a e r A) (priorities a e r A refl) (e .entry) (e′ .entry) s (getD (a .kept) s []) (A .fits s l h)
+          (λ l h. fits-insert (a .book) b p P (states a e r A) (priorities a e r A refl) (e .entry) (e′ .entry) s (getD (a .kept) s [])
+          (A .fits s l h)
           (λ v. omega (arith, v, D)) (state-same (a .book) (A .noted .long) p P r) old (λ z. omega (arith, new, A .noted .early z)))
 
   -- p is dormant once it has left
@@ -199,7 +214,8 @@ module _ (p : ℕ) (P : Known p) where
     act-alike (priced n) =
         let r : Program = withPriority n (at (u .book) p) in
         let z : r .state ≡ 0 = left-state a (A .noted .long) in
-        enter-alike (stateOf (a .book) p) (whyOf (a .book) p) (amend lists p r u) f (put-alike r z) (state-same (u .book) (leave-alike a e A .noted .long) p P r ∙ z)
+        enter-alike (stateOf (a .book) p) (whyOf (a .book) p) (amend lists p r u) f (put-alike r z)
+        (state-same (u .book) (leave-alike a e A .noted .long) p P r ∙ z)
     act-alike (loaded nm n) = put-alike (newcomer nm n) refl
     act-alike unloaded = put-alike unused refl
     act-alike (timed d i) = amend-alike a e (withTimer d i (at (a .book) p)) A refl (λ k. refl)
@@ -246,10 +262,12 @@ play-alike [] a t A = A
 play-alike (e ∷ es) a t A = play-alike es (step lists e a) (step entries e t) (step-alike e a t A)
 
 -- so the two list the same chains
-pub order-alike : (a : State lists) (t : State entries) → Alike a t → (s : ℕ) → 1 ≤ s → s < 7 → sorted (t .book) (t .kept) s ≡ getD (a .kept) s []
+pub order-alike : (a : State lists) (t : State entries) → Alike a t → (s : ℕ) → 1 ≤ s → s < 7
+    → sorted (t .book) (t .kept) s ≡ getD (a .kept) s []
 order-alike a t A s l h =
     ap (λ (b : Book). sorted b (t .kept) s) (A .book)
-    ∙ fits-unique (a .book) (t .kept .entry) s (sorted (a .book) (t .kept) s) (getD (a .kept) s []) (sorted-fits (a .book) (t .kept) (A .noted) s l) (A .fits s l h)
+    ∙ fits-unique (a .book) (t .kept .entry) s (sorted (a .book) (t .kept) s) (getD (a .kept) s [])
+    (sorted-fits (a .book) (t .kept) (A .noted) s l) (A .fits s l h)
 
 pub view-alike : (a : State lists) (t : State entries) → Alike a t → view lists a ≡ view entries t
 view-alike a t A = λ i. record { book = sym (A .book) i; chain = λ s. chain s (upTo 1 6 s) refl i }
@@ -265,7 +283,8 @@ asks-alike a t A q = ap (λ v. plan v q) (view-alike a t A)
 pub after-alike : (a : State lists) (t : State entries) → Alike a t → (q : Request) → Alike (after lists a q) (after entries t q)
 after-alike a t A q =
     let v : view lists a ≡ view entries t = view-alike a t A in
-    let e : eventsOf (view lists a) (asks lists a q) ≡ eventsOf (view entries t) (asks entries t q) = λ i. eventsOf (v i) (asks-alike a t A q i) in
+    let e : eventsOf (view lists a) (asks lists a q) ≡ eventsOf (view entries t) (asks entries t q) =
+    λ i. eventsOf (v i) (asks-alike a t A q i) in
     subst (λ (es : List Event). Alike (after lists a q) (play entries es t)) e (play-alike (eventsOf (view lists a) (asks lists a q)) a t A)
 
 pub runs-alike : (qs : List Request) (a : State lists) (t : State entries) → Alike a t → Alike (runs lists a qs) (runs entries t qs)
@@ -276,5 +295,6 @@ pub answers-alike : (qs : List Request) (a : State lists) (t : State entries) �
 answers-alike [] a t A = refl
 answers-alike (q ∷ qs) a t A =
     let e : asks lists a q ≡ asks entries t q = asks-alike a t A q in
-    let r : answers lists (after lists a q) qs ≡ answers entries (after entries t q) qs = answers-alike qs (after lists a q) (after entries t q) (after-alike a t A q) in
+    let r : answers lists (after lists a q) qs ≡ answers entries (after entries t q) qs =
+    answers-alike qs (after lists a q) (after entries t q) (after-alike a t A q) in
     λ i. (numberOf (e i), valuesOf (e i)) ∷ r i

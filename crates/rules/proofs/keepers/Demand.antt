@@ -1,5 +1,6 @@
--- Demand 3 on chains, in one statement: from sound tables and entries that account for them, after any run of requests, refused ones among them, the kept
--- chains are what the replay says, which keeps none. States that are alike stay so at every event; that a chain is the sorted list follows, since there is one only.
+-- Demand 3 on chains, in one statement: from sound tables and entries that account for them, after any run of requests, refused ones among
+-- them, the kept chains are what the replay says, which keeps none. States that are alike stay so at every event; that a chain is the
+-- sorted list follows, since there is one only.
 -- Assumes nothing.
 use Prim.Native.Nat.{ℕ, _≤_}
 use native.Mathlib.Omega.{arith}
@@ -60,7 +61,8 @@ alike-replayed a t A qs = record {
 }
 
 -- from any sound tables on, and any entries that account for them
-pub demand : (a : State lists) (e : Entries) → Sound a → Accounts a e → (qs : List Request) → Replayed a (record { book = a .book; kept = e }) qs
+pub demand : (a : State lists) (e : Entries) → Sound a → Accounts a e → (qs : List Request)
+    → Replayed a (record { book = a .book; kept = e }) qs
 demand a e S A = alike-replayed a (record { book = a .book; kept = e }) (accounts-alike a e (S .shape .programs) (S .shape .chains) A)
 
 -- sound tables have such entries

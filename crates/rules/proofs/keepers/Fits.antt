@@ -1,5 +1,6 @@
 -- What a chain is (Fits): there is one list of that kind at most, an entering and a leaving program keep it, and `sorted` is it.
--- The replay keeps no chain, so this is where its notes give one: programs in chains have entries that differ, hence the order is strict and the list unique.
+-- The replay keeps no chain, so this is where its notes give one: programs in chains have entries that differ, hence
+-- the order is strict and the list unique.
 -- Assumes nothing.
 use Prim.Native.Nat.{ℕ, _+_, _≤_, _<_}
 use native.Mathlib.Omega.{arith}
@@ -12,7 +13,8 @@ use lib.ListN.{length}
 use lib.Dec.{eqb}
 use borrow.Author.Tests.{eqb-true}
 use Rattle.lists.specs.Lists.{hit, same, count, keep, insert, remove}
-use Rattle.lists.proofs.Laws.{same-refl, same-ne, same-le, same-eq, count-insert, count-remove, count-remove-le, count-keep, keep-in, keep-le, ascending-map, ascending-unique, remove-ascending}
+use Rattle.lists.proofs.Laws.{same-refl, same-ne, same-le, same-eq, count-insert, count-remove, count-remove-le, count-keep, keep-in}
+use Rattle.lists.proofs.Laws.{keep-le, ascending-map, ascending-unique, remove-ascending}
 use Rattle.records.specs.Records.{Known, all}
 use Rattle.rules.specs.Book.{Book, stateOf, prioOf}
 use Rattle.rules.specs.Keeper.{Entries, earlier, sort, sorted}
@@ -31,7 +33,8 @@ pub fits-state : (b : Book) (en : ℕ → ℕ) (s : ℕ) (c : List ℕ) → Fits
 fits-state b en s c F z h = same-eq (stateOf b z) s (omega (arith, F .member z (F .within z h)))
 
 pub fits-unique : (b : Book) (en : ℕ → ℕ) (s : ℕ) (c d : List ℕ) → Fits b en s c → Fits b en s d → c ≡ d
-fits-unique b en s c d F G = ascending-unique (Before (prioOf b) en) (before-asym (prioOf b) en) c d (F .ascends) (G .ascends) (λ z. go z (known-or z))
+fits-unique b en s c d F G =
+    ascending-unique (Before (prioOf b) en) (before-asym (prioOf b) en) c d (F .ascends) (G .ascends) (λ z. go z (known-or z))
   where
     go : (z : ℕ) → Dec (Known z) → count z c ≡ count z d
     go z (yes h) = F .member z h ∙ sym (G .member z h)
@@ -39,7 +42,8 @@ fits-unique b en s c d F G = ascending-unique (Before (prioOf b) en) (before-asy
 
 module _ (b b′ : Book) (en en′ : ℕ → ℕ) (s : ℕ) (c : List ℕ) (F : Fits b en s c) where
   -- a change that does not concern the chain
-  pub fits-edit : ((z : ℕ) → Known z → same (stateOf b′ z) s ≡ same (stateOf b z) s) → ((z : ℕ) → Known z → stateOf b z ≡ s → prioOf b′ z ≡ prioOf b z)
+  pub fits-edit : ((z : ℕ) → Known z → same (stateOf b′ z) s ≡ same (stateOf b z) s)
+      → ((z : ℕ) → Known z → stateOf b z ≡ s → prioOf b′ z ≡ prioOf b z)
       → ((z : ℕ) → Known z → stateOf b z ≡ s → en′ z ≡ en z) → Fits b′ en′ s c
   fits-edit f g h = record {
     member = λ z k. F .member z k ∙ sym (f z k);
@@ -47,8 +51,15 @@ module _ (b b′ : Book) (en en′ : ℕ → ℕ) (s : ℕ) (c : List ℕ) (F : 
     ascends = ascending-map (Before (prioOf b) en) (Before (prioOf b′) en′) c
         (λ x y i j r.
         let px : prioOf b′ x ≡ prioOf b x = g x (F .within x i) (fits-state b en s c F x i) in
-        let py : prioOf b′ y ≡ prioOf b y = g y (F .within y j) (fits-state b en s c F y j) in
-        (omega arith, λ l. omega (arith, r .1 (omega arith), h x (F .within x i) (fits-state b en s c F x i), h y (F .within y j) (fits-state b en s c F y j))))
+        let py : prioOf b′ y ≡ prioOf b y = g y (F .within y j) (fits-state b en s c F y j) in (
+          omega arith,
+          λ l. omega (
+            arith,
+            r .1 (omega arith),
+            h x (F .within x i) (fits-state b en s c F x i),
+            h y (F .within y j) (fits-state b en s c F y j),
+          ),
+        ))
         (F .ascends);
   }
 
@@ -59,14 +70,17 @@ module _ (b b′ : Book) (p : ℕ) (P : Known p) (O : (z : ℕ) → Known z → 
     member = λ z Z. at z Z (ℕ-discrete z p);
     within = λ z l. F .within z (omega (arith, count-remove-le z p c));
     ascends = remove-ascending (Before (prioOf b′) en) p c (ascending-map (Before (prioOf b) en) (Before (prioOf b′) en) c
-        (λ x y i j r. (omega (arith, Q x (F .within x i), Q y (F .within y j)), λ l. r .1 (omega (arith, Q x (F .within x i), Q y (F .within y j))))) (F .ascends));
+        (λ x y i j r.
+        (omega (arith, Q x (F .within x i), Q y (F .within y j)), λ l. r .1 (omega (arith, Q x (F .within x i), Q y (F .within y j)))))
+        (F .ascends));
   }
     where
       there : 1 ≤ count p c
       there = omega (arith, F .member p P, ap (λ (x : ℕ). same x s) h, same-refl s)
 
       at : (z : ℕ) → Known z → Dec (z ≡ p) → count z (remove p c) ≡ same (stateOf b′ z) s
-      at z Z (yes e) = rw e (omega (arith, count-remove p p c there, same-refl p, F .member p P, same-le (stateOf b p) s, same-ne (stateOf b′ p) s k))
+      at z Z (yes e) =
+          rw e (omega (arith, count-remove p p c there, same-refl p, F .member p P, same-le (stateOf b p) s, same-ne (stateOf b′ p) s k))
       at z Z (no n) = omega (arith, count-remove z p c there, same-ne z p n, F .member z Z, ap (λ (x : ℕ). same x s) (O z Z n))
 
   pub fits-insert : (en en′ : ℕ → ℕ) (s : ℕ) (c : List ℕ) → Fits b en s c → stateOf b p ≢ s → stateOf b′ p ≡ s
@@ -74,7 +88,8 @@ module _ (b b′ : Book) (p : ℕ) (P : Known p) (O : (z : ℕ) → Known z → 
   fits-insert en en′ s c F h k f g = record {
     member = λ z Z. omega (arith, count-insert (prioOf b′) z p c, at z Z (ℕ-discrete z p));
     within = λ z l. inn z (ℕ-discrete z p) (omega (arith, count-insert (prioOf b′) z p c));
-    ascends = insert-ascending (prioOf b′) en′ p c (λ r i. omega (arith, f r (ne r i), g r)) (ascending-map (Before (prioOf b) en) (Before (prioOf b′) en′) c
+    ascends = insert-ascending (prioOf b′) en′ p c (λ r i. omega (arith, f r (ne r i), g r))
+        (ascending-map (Before (prioOf b) en) (Before (prioOf b′) en′) c
         (λ x y i j r. (
           omega (arith, Q x (F .within x i), Q y (F .within y j)),
           λ l. omega (arith, f x (ne x i), f y (ne y j), r .1 (omega (arith, Q x (F .within x i), Q y (F .within y j)))),
@@ -107,7 +122,8 @@ module _ (b : Book) (e : Entries) (N : Noted b e) (s : ℕ) (l : 1 ≤ s) where
 
   here-count : (x : ℕ) → Known x → count x here ≡ same (stateOf b x) s
   unfolding here same
-  here-count x X = count-keep (λ p. eqb (stateOf b p) s) x all ∙ ap (λ (n : ℕ). cond (eqb (stateOf b x) s) n 0) (all-one x X) ∙ bit (eqb (stateOf b x) s)
+  here-count x X = count-keep (λ p. eqb (stateOf b p) s) x all ∙ ap (λ (n : ℕ). cond (eqb (stateOf b x) s) n 0) (all-one x X)
+      ∙ bit (eqb (stateOf b x) s)
     where
       bit : (x : Bool) → cond {A = ℕ} x 1 0 ≡ hit x
       bit true = refl
@@ -122,5 +138,6 @@ module _ (b : Book) (e : Entries) (N : Noted b e) (s : ℕ) (l : 1 ≤ s) where
     member = λ z Z. count-sort (earlier (prioOf b) (e .entry)) z here ∙ here-count z Z;
     within = λ z h. (here-in z (omega (arith, count-sort (earlier (prioOf b) (e .entry)) z here))) .1;
     ascends = sort-ascending (prioOf b) (e .entry) here here-once
-        (λ x y h k q. N .apart x y ((here-in x h) .1) ((here-in y k) .1) (λ w. omega (arith, (here-in x h) .0, w)) (λ w. omega (arith, (here-in y k) .0, w)) q);
+        (λ x y h k q. N .apart x y ((here-in x h) .1) ((here-in y k) .1) (λ w. omega (arith, (here-in x h) .0, w))
+        (λ w. omega (arith, (here-in y k) .0, w)) q);
   })

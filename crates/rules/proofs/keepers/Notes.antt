@@ -1,5 +1,7 @@
--- Chains that are in order have notes of entries that account for them: so what is shown of a run holds from any sound tables on, whatever led to them.
--- The notes: a program's place in its chain, times a stride, and its own number. They differ, since the numbers are below the stride, and in one chain they grow.
+-- Chains that are in order have notes of entries that account for them: so what is shown of a run holds from any
+-- sound tables on, whatever led to them.
+-- The notes: a program's place in its chain, times a stride, and its own number. They differ, since the numbers are below
+-- the stride, and in one chain they grow.
 -- Assumes nothing.
 use Prim.Native.Nat.{ℕ, zero, suc, _+_, _*_, _≤_, _<_}
 use native.Mathlib.Omega.{arith}
@@ -25,7 +27,8 @@ pub alike-chained : (a : State lists) (t : State entries) → Alike a t → Chai
 alike-chained a t A = record {
   member = λ s p l h P. A .fits s l h .member p P;
   within = λ s p l h k. A .fits s l h .within p k;
-  rising = λ s l h. ascending-map (Before (prioOf (a .book)) (t .kept .entry)) (λ p q. prioOf (a .book) p ≤ prioOf (a .book) q) (getD (a .kept) s [])
+  rising = λ s l h.
+      ascending-map (Before (prioOf (a .book)) (t .kept .entry)) (λ p q. prioOf (a .book) p ≤ prioOf (a .book) q) (getD (a .kept) s [])
       (λ x y i j r. r .0) (A .fits s l h .ascends);
 }
 
@@ -145,14 +148,23 @@ chained-accounts a C = record {
   fits = λ s l h. record {
     member = λ z. C .member s z l h;
     within = λ z. C .within s z l h;
-    ascends = ascending-map (λ x y. (prioOf (a .book) x ≤ prioOf (a .book) y) × (index x (getD (a .kept) s []) < index y (getD (a .kept) s [])))
+    ascends = ascending-map
+        (λ x y. (prioOf (a .book) x ≤ prioOf (a .book) y) × (index x (getD (a .kept) s []) < index y (getD (a .kept) s [])))
         (Before (prioOf (a .book)) (notes (a .book) (a .kept) .entry)) (getD (a .kept) s [])
         (λ x y i j r. (
           r .0,
           λ q.
-              omega (arith, r .1, marked (a .book) (a .kept) C s x l h i, marked (a .book) (a .kept) C s y l h j, C .within s x l h i .1, C .within s y l h j .0),
+              omega (
+                arith,
+                r .1,
+                marked (a .book) (a .kept) C s x l h i,
+                marked (a .book) (a .kept) C s y l h j,
+                C .within s x l h i .1,
+                C .within s y l h j .0,
+              ),
         ))
-        (index-ascending (λ x y. prioOf (a .book) x ≤ prioOf (a .book) y) (getD (a .kept) s []) (once (a .book) (a .kept) C s l h) (C .rising s l h));
+        (index-ascending (λ x y. prioOf (a .book) x ≤ prioOf (a .book) y) (getD (a .kept) s []) (once (a .book) (a .kept) C s l h)
+        (C .rising s l h));
   };
 }
 

@@ -1,4 +1,5 @@
--- Laws of the order that the replay gives: a program before another, a chain with one that enters last, and what sorting makes of programs that stand once each.
+-- Laws of the order that the replay gives: a program before another, a chain with one that enters last, and what sorting
+-- makes of programs that stand once each.
 -- All go by counts: what is inserted stands once more than before, and the order is checked against it and the rest.
 -- Assumes nothing.
 use Prim.Native.Nat.{ℕ, _+_, _≤_, _<_}
@@ -31,10 +32,12 @@ module _ (pr en : ℕ → ℕ) (p : ℕ) where
       let f : Before pr en p q = (omega arith, λ k. absurd (omega arith)) in
       (λ r. among (Before pr en p) q r qs f (λ h. before-trans pr en p q r f (S .0 r h)), S)
 
-  pub insert-ascending : (c : List ℕ) → ((r : ℕ) → 1 ≤ count r c → en r < en p) → Ascending (Before pr en) c → Ascending (Before pr en) (insert pr p c)
+  pub insert-ascending : (c : List ℕ) → ((r : ℕ) → 1 ≤ count r c → en r < en p) → Ascending (Before pr en) c
+      → Ascending (Before pr en) (insert pr p c)
   insert-ascending [] last S = (λ r h. absurd (omega arith), tt)
   insert-ascending (q ∷ qs) last S =
-      enter-step (leb (pr q) (pr p)) q qs refl (last q (omega (arith, same-refl q))) S (insert-ascending qs (λ r h. last r (omega arith)) (S .1))
+      enter-step (leb (pr q) (pr p)) q qs refl (last q (omega (arith, same-refl q))) S
+      (insert-ascending qs (λ r h. last r (omega arith)) (S .1))
 
 -- sorting
 pub count-insertBy : (t : ℕ → ℕ → Bool) (x p : ℕ) (c : List ℕ) → count x (insertBy t p c) ≡ same x p + count x c
@@ -62,17 +65,20 @@ module _ (pr en : ℕ → ℕ) where
       go false e t = let l : pr p < pr q = leb-false (pr q) (pr p) t in (omega arith, λ k. absurd (omega arith))
 
   sort-step : (b : Bool) (p q : ℕ) (qs : List ℕ) → earlier pr en q p ≡ b → en q ≢ en p → Ascending (Before pr en) (q ∷ qs)
-      → Ascending (Before pr en) (insertBy (earlier pr en) p qs) → Ascending (Before pr en) (cond b (q ∷ insertBy (earlier pr en) p qs) (p ∷ q ∷ qs))
+      → Ascending (Before pr en) (insertBy (earlier pr en) p qs)
+      → Ascending (Before pr en) (cond b (q ∷ insertBy (earlier pr en) p qs) (p ∷ q ∷ qs))
   sort-step true p q qs t n S ih =
       (λ r h. among (Before pr en q) p r qs (earlier-true q p n t) (S .0 r) (omega (arith, count-insertBy (earlier pr en) r p qs)), ih)
   sort-step false p q qs t n S ih =
       let f : Before pr en p q = earlier-false q p t in
       (λ r. among (Before pr en p) q r qs f (λ h. before-trans pr en p q r f (S .0 r h)), S)
 
-  insertBy-ascending : (p : ℕ) (c : List ℕ) → ((r : ℕ) → 1 ≤ count r c → en r ≢ en p) → Ascending (Before pr en) c → Ascending (Before pr en) (insertBy (earlier pr en) p c)
+  insertBy-ascending : (p : ℕ) (c : List ℕ) → ((r : ℕ) → 1 ≤ count r c → en r ≢ en p) → Ascending (Before pr en) c
+      → Ascending (Before pr en) (insertBy (earlier pr en) p c)
   insertBy-ascending p [] n S = (λ r h. absurd (omega arith), tt)
   insertBy-ascending p (q ∷ qs) n S =
-      sort-step (earlier pr en q p) p q qs refl (n q (omega (arith, same-refl q))) S (insertBy-ascending p qs (λ r h. n r (omega arith)) (S .1))
+      sort-step (earlier pr en q p) p q qs refl (n q (omega (arith, same-refl q))) S
+      (insertBy-ascending p qs (λ r h. n r (omega arith)) (S .1))
 
   -- programs that stand once each, with entries that differ, are sorted
   pub sort-ascending : (c : List ℕ) → ((x : ℕ) → count x c ≤ 1) → ((x y : ℕ) → 1 ≤ count x c → 1 ≤ count y c → en x ≡ en y → x ≡ y)

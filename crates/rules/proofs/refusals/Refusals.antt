@@ -1,4 +1,5 @@
--- A request that is refused has a number of the outline's list, 2 to 14, and leaves the state as it was: for every request, under any keeper.
+-- A request that is refused has a number of the outline's list, 2 to 14, and leaves the state as it
+-- was: for every request, under any keeper.
 -- A plan that is a refusal holds no events, so nothing can happen; its number is read off the rules by the one walk over them.
 -- Assumes nothing.
 use Prim.Native.Nat.{_≤_}

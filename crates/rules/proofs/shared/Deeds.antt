@@ -1,4 +1,5 @@
--- What a deed leaves of the book: the program's own record becomes what the deed says, and nothing else changes. A deed may put records more than once, but at one place.
+-- What a deed leaves of the book: the program's own record becomes what the deed says, and nothing else changes. A deed may put
+-- records more than once, but at one place.
 -- Assumes nothing.
 use Prim.Native.Nat.{ℕ, zero, suc, _-_}
 use native.Mathlib.Decide.{ℕ-discrete}
@@ -24,7 +25,8 @@ made unloaded r = unused
 made (timed d i) r = withTimer d i r
 
 -- a record made of the one just put
-set-again : (ps : List Program) (i : ℕ) (r : Program) (f : Program → Program) → set (set ps i r) i (f (getD (set ps i r) i missing)) ≡ set ps i (f r)
+set-again : (ps : List Program) (i : ℕ) (r : Program) (f : Program → Program)
+    → set (set ps i r) i (f (getD (set ps i r) i missing)) ≡ set ps i (f r)
 set-again [] i r f = refl
 set-again (x ∷ xs) zero r f = refl
 set-again (x ∷ xs) (suc i) r f = ap (λ (ys : List Program). x ∷ ys) (set-again xs i r f)
@@ -40,17 +42,20 @@ module _ (K : Keeper) (p : ℕ) where
       let ps : List Program = set (t .book .programs) (p - 1) (inState 0 Nothing (at (t .book) p)) in
       with t k (set ps (p - 1) (f (getD ps (p - 1) missing)))
 
-  left-made : (t : State K) (k : K .Kept) (f : Program → Program) → once-more t k f ≡ with t k (set (t .book .programs) (p - 1) (f (inState 0 Nothing (at (t .book) p))))
+  left-made : (t : State K) (k : K .Kept) (f : Program → Program)
+      → once-more t k f ≡ with t k (set (t .book .programs) (p - 1) (f (inState 0 Nothing (at (t .book) p))))
   left-made t k f = ap (with t k) (set-again (t .book .programs) (p - 1) (inState 0 Nothing (at (t .book) p)) f)
 
-  pub act-put : (d : Deed) (t : State K) → act K p d t ≡ record { book = put p (made d (at (t .book) p)) (t .book); kept = act K p d t .kept }
+  pub act-put : (d : Deed) (t : State K)
+      → act K p d t ≡ record { book = put p (made d (at (t .book) p)) (t .book); kept = act K p d t .kept }
   unfolding act
   act-put (becomes s w) t = left-made t _ (inState s w)
   act-put wakes t = left-made t _ (inState 1 Nothing)
   act-put (priced n) t =
       let s = at (t .book) p .state in
       let w = at (t .book) p .why in
-      ap (λ (u : State K). with t (act K p (priced n) t .kept) (set (u .book .programs) (p - 1) (inState s w (getD (u .book .programs) (p - 1) missing)))) (left-made t (t .kept) (withPriority n))
+      ap (λ (u : State K). with t (act K p (priced n) t .kept)
+      (set (u .book .programs) (p - 1) (inState s w (getD (u .book .programs) (p - 1) missing)))) (left-made t (t .kept) (withPriority n))
       ∙ ap (with t _) (set-again (t .book .programs) (p - 1) (withPriority n (inState 0 Nothing (at (t .book) p))) (inState s w))
   act-put (loaded nm n) t = left-made t _ (λ r. newcomer nm n)
   act-put unloaded t = left-made t _ (λ r. unused)
@@ -61,7 +66,8 @@ module _ (K : Keeper) (p : ℕ) where
   unfolding step
   step-act P d t = rw (known-is p P)
 
-  pub step-put : Known p → (d : Deed) (t : State K) → step K (on p d) t ≡ record { book = put p (made d (at (t .book) p)) (t .book); kept = act K p d t .kept }
+  pub step-put : Known p → (d : Deed) (t : State K)
+      → step K (on p d) t ≡ record { book = put p (made d (at (t .book) p)) (t .book); kept = act K p d t .kept }
   step-put P d t = step-act P d t ∙ act-put d t
 
 -- a waking comes to this
@@ -77,7 +83,8 @@ pub record Turned (p : ℕ) (r : Program) (ps qs : List Program) : Type 0 where
 
 module _ {p : ℕ} {r : Program} {ps qs : List Program} (T : Turned p r ps qs) where
   -- what is said of the new record, and of the others as they were, is said of each
-  pub turned-each : (Q : ℕ → Program → Type 0) → Q p r → ((z : ℕ) → Known z → z ≢ p → Q z (recordAt ps z)) → (z : ℕ) → Known z → Q z (recordAt qs z)
+  pub turned-each : (Q : ℕ → Program → Type 0) → Q p r → ((z : ℕ) → Known z → z ≢ p → Q z (recordAt ps z)) → (z : ℕ) → Known z
+      → Q z (recordAt qs z)
   turned-each Q h f z Z = go (ℕ-discrete z p)
     where
       go : Dec (z ≡ p) → Q z (recordAt qs z)
@@ -85,8 +92,10 @@ module _ {p : ℕ} {r : Program} {ps qs : List Program} (T : Turned p r ps qs) w
       go (no n) = subst (Q z) (sym (T .rest z Z n)) (f z Z n)
 
   -- records of which no two are alike in some way, nor is the new one to another
-  pub turned-apart : (E : Program → Program → Type 0) → ((x y : Program) → E x y → E y x) → ((z : ℕ) → Known z → z ≢ p → E r (recordAt ps z) → ⊥)
-      → ((y z : ℕ) → Known y → Known z → E (recordAt ps y) (recordAt ps z) → y ≡ z) → (y z : ℕ) → Known y → Known z → E (recordAt qs y) (recordAt qs z) → y ≡ z
+  pub turned-apart : (E : Program → Program → Type 0) → ((x y : Program) → E x y → E y x)
+      → ((z : ℕ) → Known z → z ≢ p → E r (recordAt ps z) → ⊥)
+      → ((y z : ℕ) → Known y → Known z → E (recordAt ps y) (recordAt ps z) → y ≡ z) → (y z : ℕ) → Known y → Known z
+      → E (recordAt qs y) (recordAt qs z) → y ≡ z
   turned-apart E turn new old y z Y Z =
       turned-each (λ y x. E x (recordAt qs z) → y ≡ z)
       (turned-each (λ z x. E r x → p ≡ z) (λ h. refl) (λ z Z n h. absurd (new z Z n h)) z Z)

@@ -1,5 +1,5 @@
--- The program of a name, the lowest unused record and the head of a chain are what they are called: known numbers, with records that say so. Each is the
--- first that passes a test.
+-- The program of a name, the lowest unused record and the head of a chain are what they are called: known numbers, with records that say
+-- so. Each is the first that passes a test.
 -- Assumes nothing.
 use Prim.Native.Nat.{ℕ, _≤_}
 use native.Mathlib.Omega.{arith}
@@ -39,7 +39,8 @@ find-bears ps nm h = record {
     f : ℕ → Bool
     f p = recordAt ps p .used && alike (recordAt ps p .name) nm
 
-pub find-none : (ps : List Program) (nm : List ℕ) → find ps nm ≡ 0 → (z : ℕ) → Known z → recordAt ps z .used ≡ true → recordAt ps z .name ≡ nm → ⊥
+pub find-none : (ps : List Program) (nm : List ℕ) → find ps nm ≡ 0 → (z : ℕ) → Known z → recordAt ps z .used ≡ true
+    → recordAt ps z .name ≡ nm → ⊥
 unfolding find
 find-none ps nm e z Z u n =
     clash (and u (alike-is (recordAt ps z .name) nm n))

@@ -7,7 +7,9 @@ use mathlib.Core.List.{List, [], _∷_}
 use lib.ListN.{getD}
 use lib.Dec.{eqb}
 use Rattle.rules.specs.declared.Answer.{Answer}
-use Rattle.rules.specs.declared.Answer.the-variants.{Done, Told, Waits, NoCaller, NotAllowed, NoProgram, WrongState, NameInUse, AllUsed, NoRoom, NotHolder, NotAllocated, AtCeiling, TooShort, NotUnderstood, NotSound}
+use Rattle.rules.specs.declared.Answer.the-variants.{Done, Told, Waits, NoCaller, NotAllowed, NoProgram}
+use Rattle.rules.specs.declared.Answer.the-variants.{WrongState, NameInUse, AllUsed, NoRoom, NotHolder}
+use Rattle.rules.specs.declared.Answer.the-variants.{NotAllocated, AtCeiling, TooShort, NotUnderstood, NotSound}
 use Rattle.rules.specs.Answers.{number, values}
 
 -- done with a value, or with a time

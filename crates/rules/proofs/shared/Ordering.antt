@@ -1,4 +1,5 @@
--- Who wakes, and in what order: where a track was freed all of chain 5, and then those of chain 3 whose reason is gone; where none was, those of chain 3 alone.
+-- Who wakes, and in what order: where a track was freed all of chain 5, and then those of chain 3 whose reason is gone;
+-- where none was, those of chain 3 alone.
 -- The program that ended is in neither. Assumes nothing.
 use Prim.Native.Nat.{ℕ, _≤_}
 use native.Mathlib.Omega.{arith}
@@ -22,12 +23,15 @@ pub general-alone : (v : View) (R : Release) → R .tracks ≤ 0 → woken v R �
 unfolding woken
 general-alone v R h = rw (le-ltb 0 (R .tracks) h)
 
-pub woken-from : (v : View) (R : Release) (x : ℕ) (A : Type 0) → 1 ≤ count x (woken v R) → (1 ≤ R .tracks → 1 ≤ count x (remove (R .ended) (v .chain disc)) → A)
+pub woken-from : (v : View) (R : Release) (x : ℕ) (A : Type 0) → 1 ≤ count x (woken v R)
+    → (1 ≤ R .tracks → 1 ≤ count x (remove (R .ended) (v .chain disc)) → A)
     → (awaits R (whyOf (v .book) x) ≡ true → 1 ≤ count x (remove (R .ended) (v .chain general)) → A) → A
 unfolding woken
 woken-from v R x A h f g = go (ltb 0 (R .tracks)) refl (decLe 1 (count x (fromGeneral v R))) h
   where
-    go : (b : Bool) → ltb 0 (R .tracks) ≡ b → Dec (1 ≤ count x (fromGeneral v R)) → 1 ≤ count x (cond b (remove (R .ended) (v .chain disc)) [] ++ fromGeneral v R) → A
+    go : (b : Bool) → ltb 0 (R .tracks) ≡ b → Dec (1 ≤ count x (fromGeneral v R))
+        → 1 ≤ count x (cond b (remove (R .ended) (v .chain disc)) [] ++ fromGeneral v R) → A
     go b e (yes l) k = let r = keep-in (λ q. awaits R (whyOf (v .book) q)) x (remove (R .ended) (v .chain general)) l in g (r .0) (r .1)
-    go true e (no l) k = f (ltb-true 0 (R .tracks) e) (omega (arith, l, count-append x (remove (R .ended) (v .chain disc)) (fromGeneral v R)))
+    go true e (no l) k =
+        f (ltb-true 0 (R .tracks) e) (omega (arith, l, count-append x (remove (R .ended) (v .chain disc)) (fromGeneral v R)))
     go false e (no l) k = absurd (l k)

@@ -1,5 +1,7 @@
--- Every plan, once over all rules: its events are about the caller, the program named, those due or those woken, and a refusal has a number from the list.
--- What is asked of an event, P, and of fresh tables, F, is left open; so the frame, the programs' numbers and the refusals each cite this one walk.
+-- Every plan, once over all rules: its events are about the caller, the program named, those due or those woken, and
+-- a refusal has a number from the list.
+-- What is asked of an event, P, and of fresh tables, F, is left open; so the frame, the programs' numbers and
+-- the refusals each cite this one walk.
 -- Assumes nothing.
 use Prim.Native.Nat.{ℕ, _≤_}
 use native.Mathlib.Omega.{arith}
@@ -15,8 +17,10 @@ use Rattle.records.specs.declared.Why.{Why}
 use Rattle.records.specs.declared.Why.the-variants.{Nothing}
 use Rattle.records.specs.Records.{Known, all, find, lowestUnused}
 use Rattle.rules.specs.Book.{at}
-use Rattle.rules.specs.Requests.{Order, RU, SS, GO, PR, OF, Call, EXEC4, EXEC15, EXEC5, EXEC16, EXEC5ALL, EXEC6, EXEC7, EXEC11, EXEC9, EXEC10, EXEC12, ALLOC, LOCK, CLEAR, FREE, Request, FRESH, LOAD, operator, TICK, running}
-use Rattle.rules.specs.Plans.{Deed, becomes, wakes, timed, unloaded, Event, on, clocked, held, numbered, renewed, Plan, refused, done, releasing, waiting, nothing, releaseOf, View, eventsOf, Release, woken, wake}
+use Rattle.rules.specs.Requests.{Order, RU, SS, GO, PR, OF, Call, EXEC4, EXEC15, EXEC5, EXEC16, EXEC5ALL, EXEC6, EXEC7, EXEC11, EXEC9}
+use Rattle.rules.specs.Requests.{EXEC10, EXEC12, ALLOC, LOCK, CLEAR, FREE, Request, FRESH, LOAD, operator, TICK, running}
+use Rattle.rules.specs.Plans.{Deed, becomes, wakes, timed, unloaded, Event, on, clocked, held, numbered, renewed, Plan, refused, done}
+use Rattle.rules.specs.Plans.{releasing, waiting, nothing, releaseOf, View, eventsOf, Release, woken, wake}
 use Rattle.rules.specs.Rules.{waits, dismissed, order, dueAt, ticked, takes, gives, call, head, plan}
 use Rattle.rules.specs.Frame.{Party, calls, takes-name, ordered, son, started, due, Woken, tracks-freed, reason-gone}
 use Rattle.rules.specs.Frame as party
@@ -33,7 +37,8 @@ Upon P F (held h ∷ es) = Upon P F es
 Upon P F (numbered r ∷ es) = Upon P F es
 Upon P F (renewed T S R ∷ es) = F × Upon P F es
 
-pub upon-map : (P Q : ℕ → Deed → Type 0) (F G : Type 0) → ((p : ℕ) (d : Deed) → P p d → Q p d) → (F → G) → (es : List Event) → Upon P F es → Upon Q G es
+pub upon-map : (P Q : ℕ → Deed → Type 0) (F G : Type 0) → ((p : ℕ) (d : Deed) → P p d → Q p d) → (F → G) → (es : List Event) → Upon P F es
+    → Upon Q G es
 upon-map P Q F G f g [] u = tt
 upon-map P Q F G f g (on p d ∷ es) u = (f p d (u .0), upon-map P Q F G f g es (u .1))
 upon-map P Q F G f g (clocked c ∷ es) u = upon-map P Q F G f g es u
@@ -83,7 +88,8 @@ module _ (P : ℕ → Deed → Type 0) (F : Type 0) (v : View) where
 
   upon-each : (f : ℕ → List Event) (c : List ℕ) → ((x : ℕ) → 1 ≤ count x c → Upon P F (f x)) → Upon P F (join (map f c))
   upon-each f [] g = tt
-  upon-each f (q ∷ qs) g = upon-append P F (f q) (join (map f qs)) (g q (omega (arith, same-refl q))) (upon-each f qs (λ x h. g x (omega arith)))
+  upon-each f (q ∷ qs) g =
+      upon-append P F (f q) (join (map f qs)) (g q (omega (arith, same-refl q))) (upon-each f qs (λ x h. g x (omega arith)))
 
   upon-ticked : (p : ℕ) (r : Program) → ((d : Deed) → P p d) → Upon P F (ticked p r)
   upon-ticked p r h = (h _, go (eqb (r .state) 0))
@@ -151,13 +157,18 @@ module _ (P : ℕ → Deed → Type 0) (F : Type 0) (v : View) where
   call-of EXEC6 l f = of-releasing _ _ _ (f caller l (calls _ refl) _, tt)
   call-of EXEC7 l f = of-done _ _ (f caller l (calls _ refl) _, tt)
   call-of EXEC11 l f = of-done _ _ tt
-  call-of (EXEC9 nm) l f = by-named fails _ _ _ (λ i. by-inside fails _ _ _ _ (λ s. of-waiting _ _ (f _ i (son nm refl) _, (f caller l (calls _ refl) _, tt))))
+  call-of (EXEC9 nm) l f =
+      by-named fails _ _ _ (λ i. by-inside fails _ _ _ _ (λ s. of-waiting _ _ (f _ i (son nm refl) _, (f caller l (calls _ refl) _, tt))))
   call-of (EXEC10 nm) l f = by-named fails _ _ _ (λ i. by-inside fails _ _ _ _ (λ s. of-done _ _ (f _ i (started nm refl) _, tt)))
-  call-of (EXEC12 nm r m o) l f = by-need fails _ _ _ _ refl (λ t. by-named fails _ _ _ (λ i. of-done _ _ (f _ i (party.timed nm r m o refl) _, tt)))
-  call-of (ALLOC g w) l f = by-need fails _ _ _ _ refl (λ t. by-either fails _ _ _ (λ e. of-done _ _ tt) (of-waits _ _ _ _ (f caller l (calls _ refl))))
+  call-of (EXEC12 nm r m o) l f =
+      by-need fails _ _ _ _ refl (λ t. by-named fails _ _ _ (λ i. of-done _ _ (f _ i (party.timed nm r m o refl) _, tt)))
+  call-of (ALLOC g w) l f =
+      by-need fails _ _ _ _ refl (λ t. by-either fails _ _ _ (λ e. of-done _ _ tt) (of-waits _ _ _ _ (f caller l (calls _ refl))))
   call-of (LOCK r w) l f =
-      by-need fails _ _ _ _ refl (λ t. by-allocated fails _ _ _ (λ h k m. by-either fails _ _ _ (λ e. of-done _ _ tt) (by-either fails _ _ _ (λ e. of-done _ _ tt) (of-waits _ _ _ _ (f caller l (calls _ refl))))))
-  call-of (CLEAR r) l f = by-allocated fails _ _ _ (λ h k m. by-either fails _ _ _ (λ e. of-done _ _ tt) (by-need fails _ _ _ _ refl (λ t. of-releasing _ _ _ tt)))
+      by-need fails _ _ _ _ refl (λ t. by-allocated fails _ _ _ (λ h k m. by-either fails _ _ _ (λ e. of-done _ _ tt)
+      (by-either fails _ _ _ (λ e. of-done _ _ tt) (of-waits _ _ _ _ (f caller l (calls _ refl))))))
+  call-of (CLEAR r) l f = by-allocated fails _ _ _
+      (λ h k m. by-either fails _ _ _ (λ e. of-done _ _ tt) (by-need fails _ _ _ _ refl (λ t. of-releasing _ _ _ tt)))
   call-of (FREE r) l f = by-allocated fails _ _ _ (λ h k m. by-need fails _ _ _ _ refl (λ t. of-releasing _ _ _ tt))
 
 pub plan-of : (P : ℕ → Deed → Type 0) (F : Type 0) (v : View) (q : Request) → About v q P F → Of P F v (plan v q)
@@ -167,9 +178,11 @@ plan-of P F v (LOAD nm n) A =
     by-need (fails P F v) _ _ _ _ refl (λ t. by-need (fails P F v) _ _ _ _ refl (λ t. by-need (fails P F v) _ _ _ _ refl
     (λ e. of-done P F v _ _ (A .party _ (ltb-true 0 (lowestUnused (v .book .programs)) e) (takes-name nm n refl) _, tt))))
 plan-of P F v (operator o nm) A =
-    by-need (fails P F v) _ _ _ _ refl (λ t. by-named (fails P F v) _ _ _ (λ i. order-of P F v o (find (v .book .programs) nm) (A .party _ i (ordered o nm refl))))
+    by-need (fails P F v) _ _ _ _ refl
+    (λ t. by-named (fails P F v) _ _ _ (λ i. order-of P F v o (find (v .book .programs) nm) (A .party _ i (ordered o nm refl))))
 plan-of P F v TICK A =
-    by-need (fails P F v) _ _ _ _ refl (λ t. of-done P F v _ _ (upon-each P F v (λ p. ticked p (at (v .book) p)) (keep (dueAt (v .book)) all)
+    by-need (fails P F v) _ _ _ _ refl
+    (λ t. of-done P F v _ _ (upon-each P F v (λ p. ticked p (at (v .book) p)) (keep (dueAt (v .book)) all)
     (λ x h.
     let k = keep-in (dueAt (v .book)) x all h in
     let X : Known x = all-in x (k .1) in

@@ -1,4 +1,5 @@
--- One step of each part of a rule: where its test is passed, and where it is failed. What a request comes to is read off these, test by test.
+-- One step of each part of a rule: where its test is passed, and where it is failed. What a request
+-- comes to is read off these, test by test.
 -- Assumes nothing.
 use Prim.Native.Nat.{ℕ, _≤_}
 use native.Mathlib.Omega.{arith}
@@ -97,7 +98,8 @@ module _ (v : View) (r : ℕ) (f : Resource → Plan) where
   unfolding allocated
   allocated-free u e = need-met 3 0 _ u ∙ need-failed 10 0 _ (le-ltb 0 (numberAt (v .book .resources) r .owner) (omega arith))
 
-  pub allocated-is : (x : Resource) → upTo 1 (v .book .numbers) r ≡ true → numberAt (v .book .resources) r ≡ x → x .owner ≢ 0 → allocated v r f ≡ f x
+  pub allocated-is : (x : Resource) → upTo 1 (v .book .numbers) r ≡ true → numberAt (v .book .resources) r ≡ x → x .owner ≢ 0
+      → allocated v r f ≡ f x
   unfolding allocated
   allocated-is x u e n =
       need-met 3 0 _ u

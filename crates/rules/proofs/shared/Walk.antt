@@ -1,5 +1,5 @@
--- One walk through the parts of which rules are made: what holds of the refusals of the outline's list holds of a part if it holds of what the part leads to where its tests are
--- passed. Soundness, the frame and the counts are led through the rules by it.
+-- One walk through the parts of which rules are made: what holds of the refusals of the outline's list holds of a part if it holds of what
+-- the part leads to where its tests are passed. Soundness, the frame and the counts are led through the rules by it.
 -- Assumes nothing.
 use Prim.Native.Nat.{ℕ, _≤_}
 use native.Mathlib.Omega.{arith}
@@ -48,7 +48,8 @@ module _ {P : Plan → Type 0} (N : Refuses P) where
     by-inside p s x f = by-need _ _ _ _ refl (λ e. f (eqb-true (stateOf (v .book) p) s e))
 
     pub by-allocated : (r : ℕ) (f : Resource → Plan)
-        → (1 ≤ r → r ≤ v .book .numbers → 1 ≤ numberAt (v .book .resources) r .owner → P (f (numberAt (v .book .resources) r))) → P (allocated v r f)
+        → (1 ≤ r → r ≤ v .book .numbers → 1 ≤ numberAt (v .book .resources) r .owner → P (f (numberAt (v .book .resources) r)))
+        → P (allocated v r f)
     unfolding allocated
     by-allocated r f g = by-need _ _ _ _ refl (λ d. by-need _ _ _ _ refl (λ e.
         let h = upTo-true 1 (v .book .numbers) r d in

@@ -1,5 +1,5 @@
--- A deed keeps what is fine so, where the record that it makes is apt: right by itself, of a name of its own, with a son that nobody else awaits, and
--- still used and awake if others rely on it. Shown once for a record put in another's place; every deed is that.
+-- A deed keeps what is fine so, where the record that it makes is apt: right by itself, of a name of its own, with a son that nobody else
+-- awaits, and still used and awake if others rely on it. Shown once for a record put in another's place; every deed is that.
 -- Assumes nothing.
 use Prim.Native.Nat.{ℕ}
 use mathlib.Core.Path.{_≡_, sym, subst}
@@ -31,7 +31,8 @@ pub record Apt (e : Slack) (b : Book) (p : ℕ) (r : Program) : Type 0 where
 pub tracked-map : {U W : ℕ → Type 0} {T S : ℕ} {xs : List ℕ} → ((h : ℕ) → Known h → U h → W h) → Tracked U T S xs → Tracked W T S xs
 tracked-map f t = record {
   long = t .long;
-  each = λ i l. record { below = t .each i l .below; just = t .each i l .just; user = λ h. f _ h (t .each i l .user h); most = t .each i l .most };
+  each = λ i l.
+      record { below = t .each i l .below; just = t .each i l .just; user = λ h. f _ h (t .each i l .user h); most = t .each i l .most };
 }
 
 pub owned-map : {U W : ℕ → Type 0} {x : Resource} → ((h : ℕ) → Known h → U h → W h) → Owned U x → Owned W x
@@ -64,8 +65,10 @@ module _ (e : Slack) (a : State lists) (F : Fine e a) (p : ℕ) (P : Known p) (r
   sonny z k S = record {
     known = S .known;
     other = S .other;
-    used = λ n. turned-each T (λ k r. k ≢ e .son → at (a .book) k .used ≡ true → r .used ≡ true) (A .used) (λ k K m d u. u) k (S .known) n (S .used n);
-    awake = λ n. turned-each T (λ k r. k ≢ e .son → stateOf (a .book) k ≢ 0 → r .state ≢ 0) (A .awake) (λ k K m d u. u) k (S .known) n (S .awake n);
+    used = λ n. turned-each T (λ k r. k ≢ e .son → at (a .book) k .used ≡ true → r .used ≡ true) (A .used) (λ k K m d u. u) k (S .known) n
+        (S .used n);
+    awake = λ n.
+        turned-each T (λ k r. k ≢ e .son → stateOf (a .book) k ≢ 0 → r .state ≢ 0) (A .awake) (λ k K m d u. u) k (S .known) n (S .awake n);
   }
 
   uses : (h : ℕ) → Known h → Uses (e .user) (a .book .programs) h → Uses (e .user) qs h
@@ -75,9 +78,11 @@ module _ (e : Slack) (a : State lists) (F : Fine e a) (p : ℕ) (P : Known p) (r
   fine-put k O = record {
     order = O;
     right = turned-each T (λ z r. Right (e .low) (e .high) (a .book .tracks) (a .book .numbers) r) (A .right) (λ z Z n. F .right z Z);
-    distinct = λ y z Y Z u v w. turned-apart T (λ r s. (r .used ≡ true) × (s .used ≡ true) × (r .name ≡ s .name)) (λ r s i. (i .1, i .0, sym (i .2)))
+    distinct = λ y z Y Z u v w.
+        turned-apart T (λ r s. (r .used ≡ true) × (s .used ≡ true) × (r .name ≡ s .name)) (λ r s i. (i .1, i .0, sym (i .2)))
         (λ z Z n i. A .name (i .0) z Z n (i .1) (i .2)) (λ y z Y Z i. F .distinct y z Y Z (i .0) (i .1) (i .2)) y z Y Z (u, v, w);
-    sons = λ z k Z i. sonny z k (turned-each T (λ z r. r .why ≡ Son k → Sonny (e .son) (a .book .programs) z k) (A .son k) (λ z Z n. F .sons z k Z) z Z i);
+    sons = λ z k Z i. sonny z k
+        (turned-each T (λ z r. r .why ≡ Son k → Sonny (e .son) (a .book .programs) z k) (A .son k) (λ z Z n. F .sons z k Z) z Z i);
     once = λ y z k Y Z u v. turned-apart T (λ r s. (r .why ≡ Son k) × (s .why ≡ Son k)) (λ r s i. (i .1, i .0))
         (λ z Z n i. A .only k z (i .0) Z n (i .1)) (λ y z Y Z i. F .once y z k Y Z (i .0) (i .1)) y z Y Z (u, v);
     tracked = tracked-map uses (F .tracked);
@@ -88,7 +93,8 @@ module _ (e : Slack) (a : State lists) (F : Fine e a) (p : ℕ) (P : Known p) (r
   }
 
 -- a deed puts one record, and keeps the chains in order
-pub fine-on : (e : Slack) (p : ℕ) → Known p → (d : Deed) (a : State lists) → Fine e a → Apt e (a .book) p (made d (at (a .book) p)) → Fine e (step lists (on p d) a)
+pub fine-on : (e : Slack) (p : ℕ) → Known p → (d : Deed) (a : State lists) → Fine e a → Apt e (a .book) p (made d (at (a .book) p))
+    → Fine e (step lists (on p d) a)
 fine-on e p P d a F A =
     let r : Program = made d (at (a .book) p) in
     subst (Fine e) (sym (step-put lists p P d a))

@@ -1,5 +1,5 @@
--- The chains stay in order under every deed, whatever it is: chains in order have entries that account for them, a deed keeps the two alike, and chains
--- that are accounted for are in order. No chain is ever kept of dormant programs.
+-- The chains stay in order under every deed, whatever it is: chains in order have entries that account for them, a deed keeps the two
+-- alike, and chains that are accounted for are in order. No chain is ever kept of dormant programs.
 -- Assumes nothing.
 use Prim.Native.Nat.{ℕ, _≤_, _<_}
 use native.Mathlib.Omega.{arith}
@@ -75,7 +75,8 @@ unfolding act
 act-dormant p (becomes s w) a e = enter-dormant p s w (leave lists p a) (leave-dormant p a e)
 act-dormant p wakes a e = enter-dormant p 1 Nothing (leave lists p a) (leave-dormant p a e)
 act-dormant p (priced n) a e =
-    enter-dormant p (stateOf (a .book) p) (whyOf (a .book) p) (amend lists p (withPriority n (at (leave lists p a .book) p)) (leave lists p a)) (leave-dormant p a e)
+    enter-dormant p (stateOf (a .book) p) (whyOf (a .book) p)
+    (amend lists p (withPriority n (at (leave lists p a .book) p)) (leave lists p a)) (leave-dormant p a e)
 act-dormant p (loaded nm n) a e = leave-dormant p a e
 act-dormant p unloaded a e = leave-dormant p a e
 act-dormant p (timed d i) a e = e
@@ -84,7 +85,8 @@ module _ (p : ℕ) (P : Known p) where
   pub act-order : (d : Deed) (a : State lists) → InOrder a → InOrder (act lists p d a)
   act-order d a O =
       let t : State entries = record { book = a .book; kept = notes (a .book) (a .kept) } in
-      let A : Alike (act lists p d a) (act entries p d t) = act-alike p P a (t .kept) (chained-alike a (O .long) (O .seven) (chains a O)) d in
+      let A : Alike (act lists p d a) (act entries p d t) =
+      act-alike p P a (t .kept) (chained-alike a (O .long) (O .seven) (chains a O)) d in
       let C : Chains (act lists p d a .book) (act lists p d a .kept) = alike-chained (act lists p d a) (act entries p d t) A in
       record {
         long = A .noted .long;

@@ -1,5 +1,5 @@
--- Ending keeps soundness. A program that ends is excused as a son until those that awaited it have been woken, and as a user until its tracks and numbers
--- have passed to nobody. After that no slack is left.
+-- Ending keeps soundness. A program that ends is excused as a son until those that awaited it have been woken, and as a user until its
+-- tracks and numbers have passed to nobody. After that no slack is left.
 -- Assumes nothing.
 use Prim.Native.Nat.{ℕ, _+_, _≤_}
 use native.Mathlib.Omega.{arith}
@@ -39,15 +39,22 @@ module _ (c p : ℕ) (a : State lists) where
   excused : (q u v w : ℕ) → Fine (away c q u) a → ((z k : ℕ) → Known z → whyOf (a .book) z ≡ Son k → Sonny v (a .book .programs) z k)
       → Tracked (Uses w (a .book .programs)) (a .book .tracks) (a .book .system) (a .book .holders)
       → Numbered (Uses w (a .book .programs)) (a .book .numbers) (a .book .resources) → Fine (away c v w) a
-  excused q u v w F s t n = fine-anew (away c q u) (away c v w) a (a .book .clock) (a .book .holders) (a .book .resources) F (F .right) s t n (F .now) (F .time)
+  excused q u v w F s t n =
+      fine-anew (away c q u) (away c v w) a (a .book .clock) (a .book .holders) (a .book .resources) F (F .right) s t n (F .now) (F .time)
 
   excuse-son : Fine (exact c) a → Fine (away c p 0) a
   excuse-son F = excused 0 0 p 0 F (λ z k Z i. let S = F .sons z k Z i in
-      record { known = S .known; other = S .other; used = λ n. S .used (λ w. omega (arith, w, S .known .0)); awake = λ n. S .awake (λ w. omega (arith, w, S .known .0)) })
+      record {
+        known = S .known;
+        other = S .other;
+        used = λ n. S .used (λ w. omega (arith, w, S .known .0));
+        awake = λ n. S .awake (λ w. omega (arith, w, S .known .0));
+      })
       (F .tracked) (F .numbered)
 
   excuse-user : Fine (away c p 0) a → Fine (away c p p) a
-  excuse-user F = excused p 0 p p F (F .sons) (tracked-map (λ h H u n. u (λ w. omega (arith, w, H .0))) (F .tracked)) (numbered-map (λ h H u n. u (λ w. omega (arith, w, H .0))) (F .numbered))
+  excuse-user F = excused p 0 p p F (F .sons) (tracked-map (λ h H u n. u (λ w. omega (arith, w, H .0))) (F .tracked))
+      (numbered-map (λ h H u n. u (λ w. omega (arith, w, H .0))) (F .numbered))
 
   blame-son : Fine (away c p 0) a → ((z : ℕ) → Known z → whyOf (a .book) z ≡ Son p → ⊥) → Fine (exact c) a
   blame-son F f = excused p 0 0 0 F (λ z k Z i. let S = F .sons z k Z i in let n : k ≢ p = λ w. f z Z (i ∙ ap Son w) in
@@ -63,8 +70,10 @@ record Gone (p : ℕ) (a₀ a₁ : State lists) : Type 0 where
 module _ (c : ℕ) (a₀ : State lists) (F₀ : Fine (exact c) a₀) (R : Release) (P : Known (R .ended)) where
   -- all who awaited it are woken
   settle-sons : (a₁ : State lists) → Fine (away c (R .ended) 0) a₁ → whyOf (a₁ .book) (R .ended) ≡ Nothing
-      → ((z : ℕ) → Known z → z ≢ R .ended → at (a₁ .book) z ≡ at (a₀ .book) z) → Fine (exact c) (play lists (wake (woken (view lists a₀) R)) a₁)
-  settle-sons a₁ F₁ y O = blame-son c (R .ended) (play lists (wake l) a₁) (fine-wake (away c (R .ended) 0) l a₁ F₁ callable) (λ z Z i. none-left z Z i (decLe 1 (count z l)) (ℕ-discrete z (R .ended)))
+      → ((z : ℕ) → Known z → z ≢ R .ended → at (a₁ .book) z ≡ at (a₀ .book) z)
+      → Fine (exact c) (play lists (wake (woken (view lists a₀) R)) a₁)
+  settle-sons a₁ F₁ y O = blame-son c (R .ended) (play lists (wake l) a₁) (fine-wake (away c (R .ended) 0) l a₁ F₁ callable)
+      (λ z Z i. none-left z Z i (decLe 1 (count z l)) (ℕ-discrete z (R .ended)))
     where
       l : List ℕ
       l = woken (view lists a₀) R
@@ -86,7 +95,8 @@ module _ (c : ℕ) (a₀ : State lists) (F₀ : Fine (exact c) a₀) (R : Releas
 
   -- its tracks are hs now, its numbers pass to nobody, and then they are woken
   settle-fine : (a₁ : State lists) (hs : List ℕ) → Fine (away c (R .ended) (R .ended)) a₁ → Gone (R .ended) a₀ a₁
-      → Tracked (Uses 0 (a₁ .book .programs)) (a₁ .book .tracks) (a₁ .book .system) hs → Fine (exact c) (play lists (settle (view lists a₀) (R .ended) R) (step lists (held hs) a₁))
+      → Tracked (Uses 0 (a₁ .book .programs)) (a₁ .book .tracks) (a₁ .book .system) hs
+      → Fine (exact c) (play lists (settle (view lists a₀) (R .ended) R) (step lists (held hs) a₁))
   unfolding step
   settle-fine a₁ hs F₁ G t =
       let rs : List Resource = map (without (R .ended)) (a₀ .book .resources) in
@@ -94,19 +104,23 @@ module _ (c : ℕ) (a₀ : State lists) (F₀ : Fine (exact c) a₀) (R : Releas
       subst (λ (y : List Resource). Numbered (Uses 0 (a₁ .book .programs)) (a₁ .book .numbers) (map (without (R .ended)) y)) (G .resources)
       (numbered-without (R .ended) (numbered-map (λ h H u m w. u m) (F₁ .numbered))) in
       settle-sons (step lists (numbered rs) (step lists (held hs) a₁))
-      (fine-anew (away c (R .ended) (R .ended)) (away c (R .ended) 0) a₁ (a₁ .book .clock) hs rs F₁ (F₁ .right) (F₁ .sons) t n (F₁ .now) (F₁ .time)) (G .why) (G .rest)
+      (fine-anew (away c (R .ended) (R .ended)) (away c (R .ended) 0) a₁ (a₁ .book .clock) hs rs F₁ (F₁ .right) (F₁ .sons) t n (F₁ .now)
+      (F₁ .time)) (G .why) (G .rest)
 
   -- its tracks pass to nobody too
   depart-fine : (a₁ : State lists) → Fine (away c (R .ended) (R .ended)) a₁ → Gone (R .ended) a₀ a₁
       → Fine (exact c) (play lists (held (replaced (R .ended) nobody (a₀ .book .holders)) ∷ settle (view lists a₀) (R .ended) R) a₁)
   depart-fine a₁ F₁ G =
       settle-fine a₁ (replaced (R .ended) nobody (a₀ .book .holders)) F₁ G
-      (subst (λ (y : List ℕ). Tracked (Uses 0 (a₁ .book .programs)) (a₁ .book .tracks) (a₁ .book .system) (replaced (R .ended) nobody y)) (G .holders)
+      (subst (λ (y : List ℕ). Tracked (Uses 0 (a₁ .book .programs)) (a₁ .book .tracks) (a₁ .book .system) (replaced (R .ended) nobody y))
+      (G .holders)
       (tracked-replaced (R .ended) (omega (arith, P .1)) (tracked-map (λ h H u m w. u m) (F₁ .tracked))))
 
 -- what a deed of p leaves
-gone-step : (a₀ a₁ : State lists) (p : ℕ) → Known p → (d : Deed) → length (a₁ .book .programs) ≡ 32 → made d (at (a₁ .book) p) .why ≡ Nothing
-    → ((z : ℕ) → Known z → z ≢ p → at (a₁ .book) z ≡ at (a₀ .book) z) → a₁ .book .holders ≡ a₀ .book .holders → a₁ .book .resources ≡ a₀ .book .resources
+gone-step : (a₀ a₁ : State lists) (p : ℕ) → Known p → (d : Deed) → length (a₁ .book .programs) ≡ 32
+    → made d (at (a₁ .book) p) .why ≡ Nothing
+    → ((z : ℕ) → Known z → z ≢ p → at (a₁ .book) z ≡ at (a₀ .book) z) → a₁ .book .holders ≡ a₀ .book .holders
+    → a₁ .book .resources ≡ a₀ .book .resources
     → Gone p a₀ (step lists (on p d) a₁)
 gone-step a₀ a₁ p P d L w O H N =
     let T = step-turned lists p P d a₁ L in
@@ -117,7 +131,8 @@ gone-step a₀ a₁ p P d L w O H N =
       resources = ap (λ (t : State lists). t .book .resources) (step-put lists p P d a₁) ∙ N;
     }
 
-module _ (c : ℕ) (a : State lists) (F : Fine (exact c) a) (R : Release) (P : Known (R .ended)) (u : at (a .book) (R .ended) .used ≡ true) where
+module _ (c : ℕ) (a : State lists) (F : Fine (exact c) a) (R : Release) (P : Known (R .ended))
+    (u : at (a .book) (R .ended) .used ≡ true) where
   -- EXEC 6
   pub end-fine : Fine (exact c) (play lists (on (R .ended) (becomes 0 Nothing) ∷ settle (view lists a) (R .ended) R) a)
   unfolding step
@@ -126,13 +141,15 @@ module _ (c : ℕ) (a : State lists) (F : Fine (exact c) a) (R : Release) (P : K
       let F₀ : Fine e a = excuse-son c (R .ended) a F in
       let a₁ : State lists = step lists (on (R .ended) (becomes 0 Nothing)) a in
       let F₁ : Fine e a₁ =
-      fine-on e (R .ended) P (becomes 0 Nothing) a F₀ (apt-plain e a F₀ (R .ended) P u 0 Nothing refl nothing-childless (λ n. absurd (n refl))) in
+      fine-on e (R .ended) P (becomes 0 Nothing) a F₀
+      (apt-plain e a F₀ (R .ended) P u 0 Nothing refl nothing-childless (λ n. absurd (n refl))) in
       let G = gone-step a a (R .ended) P (becomes 0 Nothing) (F .order .long) refl (λ z Z n. refl) refl refl in
       settle-fine c a F R P a₁ (a₁ .book .holders) (excuse-user c (R .ended) a₁ F₁) G (F₁ .tracked)
 
   -- OF 1 and 8
   pub off-fine : (k : ℕ)
-      → Fine (exact c) (play lists (dismissed k (R .ended) ++ (held (replaced (R .ended) nobody (a .book .holders)) ∷ settle (view lists a) (R .ended) R)) a)
+      → Fine (exact c)
+      (play lists (dismissed k (R .ended) ++ (held (replaced (R .ended) nobody (a .book .holders)) ∷ settle (view lists a) (R .ended) R)) a)
   off-fine k = go (eqb k 8)
     where
       p : ℕ
@@ -162,5 +179,6 @@ module _ (c : ℕ) (a : State lists) (F : Fine (exact c) a) (R : Release) (P : K
           depart-fine c a F R P (step lists (on p unloaded) a) (fine-on e p P unloaded a F₀ (apt-unused e a F₀ p P refl refl))
           (gone-step a a p P unloaded (F .order .long) refl (λ z Z n. refl) refl refl)
       go false =
-          depart-fine c a F R P (step lists (on p (timed 0 0)) b) (fine-on e p P (timed 0 0) b B (apt-timed e b B p P v 0 0 (timer-none c (c + farthest))))
+          depart-fine c a F R P (step lists (on p (timed 0 0)) b)
+          (fine-on e p P (timed 0 0) b B (apt-timed e b B p P v 0 0 (timer-none c (c + farthest))))
           (gone-step a b p P (timed 0 0) (B .order .long) (G .why) (G .rest) (G .holders) (G .resources))

@@ -1,6 +1,7 @@
--- Soundness with slack, which holds between the events of a request as well: what one record has to say for itself, what is said of two, and what is
--- said of each track and each number. Slack excuses one program from being an awaited son that is used and awake, one from being a user that is
--- used, and lets the bounds of dues differ from those that the clock gives. Without slack it is soundness, which is shown both ways.
+-- Soundness with slack, which holds between the events of a request as well: what one record has to say for itself, what is said
+-- of two, and what is said of each track and each number. Slack excuses one program from being an awaited son that is used and
+-- awake, one from being a user that is used, and lets the bounds of dues differ from those that the clock gives. Without slack it
+-- is soundness, which is shown both ways.
 -- Assumes nothing.
 use Prim.Native.Nat.{ℕ, _+_, _≤_, _<_}
 use native.Mathlib.Omega.{arith}
@@ -110,7 +111,8 @@ pub record Sized (T S R : ℕ) : Type 0 where
 pub record Fine (e : Slack) (a : State lists) : Type 0 where
   pub order : Ordered (a .book .programs) (a .kept)
   pub right : (p : ℕ) → Known p → Right (e .low) (e .high) (a .book .tracks) (a .book .numbers) (at (a .book) p)
-  pub distinct : (p q : ℕ) → Known p → Known q → at (a .book) p .used ≡ true → at (a .book) q .used ≡ true → at (a .book) p .name ≡ at (a .book) q .name → p ≡ q
+  pub distinct : (p q : ℕ) → Known p → Known q → at (a .book) p .used ≡ true → at (a .book) q .used ≡ true
+      → at (a .book) p .name ≡ at (a .book) q .name → p ≡ q
   pub sons : (p k : ℕ) → Known p → whyOf (a .book) p ≡ Son k → Sonny (e .son) (a .book .programs) p k
   pub once : (p q k : ℕ) → Known p → Known q → whyOf (a .book) p ≡ Son k → whyOf (a .book) q ≡ Son k → p ≡ q
   pub tracked : Tracked (Uses (e .user) (a .book .programs)) (a .book .tracks) (a .book .system) (a .book .holders)
@@ -131,7 +133,8 @@ used-if e a F p P n = go (at (a .book) p .used) refl
 pub fine-anew : (e f : Slack) (a : State lists) (c : ℕ) (hs : List ℕ) (rs : List Resource) → Fine e a
     → ((p : ℕ) → Known p → Right (f .low) (f .high) (a .book .tracks) (a .book .numbers) (at (a .book) p))
     → ((p k : ℕ) → Known p → whyOf (a .book) p ≡ Son k → Sonny (f .son) (a .book .programs) p k)
-    → Tracked (Uses (f .user) (a .book .programs)) (a .book .tracks) (a .book .system) hs → Numbered (Uses (f .user) (a .book .programs)) (a .book .numbers) rs
+    → Tracked (Uses (f .user) (a .book .programs)) (a .book .tracks) (a .book .system) hs
+    → Numbered (Uses (f .user) (a .book .programs)) (a .book .numbers) rs
     → c ≡ f .clock → f .clock ≤ ceiling → Fine f (record { book = altered (a .book) (a .book .programs) c hs rs; kept = a .kept })
 fine-anew e f a c hs rs F right sons tracked numbered now time = record {
   order = F .order;
@@ -164,7 +167,8 @@ suits-son b p s k w e i =
       awake = λ n. eqb-false (stateOf b k) 0 (not-true (eqb (stateOf b k) 0) (h .awake));
     }
 
-suits-both : (b : Book) (p s : ℕ) (w : Why) → alone (b .tracks) (b .numbers) s w ≡ true → ((k : ℕ) → w ≡ Son k → Sonny 0 (b .programs) p k) → suits b p s w ≡ true
+suits-both : (b : Book) (p s : ℕ) (w : Why) → alone (b .tracks) (b .numbers) s w ≡ true → ((k : ℕ) → w ≡ Son k → Sonny 0 (b .programs) p k)
+    → suits b p s w ≡ true
 suits-both b p s Nothing e f = e
 suits-both b p s (Tracks n) e f = e
 suits-both b p s (Son k) e f =
@@ -180,7 +184,11 @@ sound-fine a S = record {
     long = S .shape .programs;
     seven = S .shape .chains;
     dormant = S .shape .dormant;
-    chain = λ s l m. record { member = λ p P. S .chains .member s p l m P; within = λ p h. S .chains .within s p l m h; rising = S .chains .rising s l m };
+    chain = λ s l m. record {
+      member = λ p P. S .chains .member s p l m P;
+      within = λ p h. S .chains .within s p l m h;
+      rising = S .chains .rising s l m;
+    };
   };
   right = λ p P. record {
     lawful = S .names .lawful p P;
@@ -194,7 +202,12 @@ sound-fine a S = record {
   once = S .whys .once;
   tracked = record {
     long = S .shape .holders;
-    each = λ i l. record { below = S .system .below i l; just = S .system .just i l; user = λ h n. S .users .hold i l h; most = S .limits .holder i l };
+    each = λ i l. record {
+      below = S .system .below i l;
+      just = S .system .just i l;
+      user = λ h n. S .users .hold i l h;
+      most = S .limits .holder i l;
+    };
   };
   numbered = record {
     long = S .shape .resources;
@@ -213,7 +226,13 @@ sound-fine a S = record {
 
 pub fine-sound : (c : ℕ) (a : State lists) → Fine (exact c) a → Sound a
 fine-sound c a F = record {
-  shape = record { programs = F .order .long; holders = F .tracked .long; resources = F .numbered .long; chains = F .order .seven; dormant = F .order .dormant };
+  shape = record {
+    programs = F .order .long;
+    holders = F .tracked .long;
+    resources = F .numbered .long;
+    chains = F .order .seven;
+    dormant = F .order .dormant;
+  };
   names = record { lawful = λ p P. F .right p P .lawful; distinct = F .distinct };
   zeros = record { empty = λ p P. F .right p P .empty; timeless = λ p P. F .right p P .timer .timeless };
   chains = record {

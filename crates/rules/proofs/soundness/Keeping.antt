@@ -1,5 +1,5 @@
--- The parts of which rules are made keep soundness, where what they lead to does: a test, a choice, a name looked up, a state asked for, a wait. And so do
--- the events that several rules share.
+-- The parts of which rules are made keep soundness, where what they lead to does: a test, a choice, a name looked up, a state asked for, a
+-- wait. And so do the events that several rules share.
 -- Assumes nothing.
 use Prim.Native.Nat.{ℕ}
 use native.Mathlib.Omega.{arith}
@@ -51,8 +51,10 @@ module _ (a : State lists) (S : Sound a) where
   pub refusing : Refuses (Keeps a)
   refusing = record { listed = λ n v l. record { sound = S } }
 
-  pub keeps-named : (nm : List ℕ) (f : ℕ → Plan) → ((p : ℕ) → Callable (a .book .programs) p → Keeps a (f p)) → Keeps a (named (view lists a) nm f)
-  keeps-named nm f g = by-named refusing _ nm f λ h. let B = find-bears (a .book .programs) nm h in g (find (a .book .programs) nm) (B .known, B .used)
+  pub keeps-named : (nm : List ℕ) (f : ℕ → Plan) → ((p : ℕ) → Callable (a .book .programs) p → Keeps a (f p))
+      → Keeps a (named (view lists a) nm f)
+  keeps-named nm f g = by-named refusing _ nm f λ h. let B = find-bears (a .book .programs) nm h in
+      g (find (a .book .programs) nm) (B .known, B .used)
 
   pub keeps-caller : (f : ℕ → Plan) → ((p : ℕ) → Caller a p → Keeps a (f p)) → Keeps a (asCaller (view lists a) f)
   keeps-caller f g = by-caller refusing (view lists a) f λ h.
@@ -61,7 +63,8 @@ module _ (a : State lists) (S : Sound a) where
       g p (record { known = C .0 .0; used = C .0 .1; runs = C .1 })
 
   -- a used program takes a state for a reason that is no son
-  pub become-fine : (p : ℕ) → Callable (a .book .programs) p → (s : ℕ) (w : Why) → alone (a .book .tracks) (a .book .numbers) s w ≡ true → Childless w → s ≢ 0
+  pub become-fine : (p : ℕ) → Callable (a .book .programs) p → (s : ℕ) (w : Why) → alone (a .book .tracks) (a .book .numbers) s w ≡ true
+      → Childless w → s ≢ 0
       → Fine (strict a) (step lists (on p (becomes s w)) a)
   become-fine p P s w h f n =
       fine-on (strict a) p (P .0) (becomes s w) a before (apt-plain (strict a) a before p (P .0) (P .1) s w h f (λ m v. n))

@@ -1,5 +1,5 @@
--- Which records are apt: those that a used program takes by another state, another priority or another timer; a newcomer's, where none was used; and the
--- unused one of a program that is excused.
+-- Which records are apt: those that a used program takes by another state, another priority or another timer; a newcomer's, where none was
+-- used; and the unused one of a program that is excused.
 -- Assumes nothing.
 use Prim.Native.Nat.{ℕ, _≤_}
 use native.Mathlib.Omega.{arith}
@@ -33,14 +33,23 @@ timer-none low high = record { timeless = λ v. refl; above = λ v. absurd (v re
 
 -- the unused record is right by itself
 pub right-unused : (low high T R : ℕ) → Right low high T R unused
-right-unused low high T R = record { lawful = λ v. clash {t = false} v refl; empty = λ v. refl; priority = omega arith; timer = timer-none low high; fitting = refl }
+right-unused low high T R = record {
+  lawful = λ v. clash {t = false} v refl;
+  empty = λ v. refl;
+  priority = omega arith;
+  timer = timer-none low high;
+  fitting = refl;
+}
 
 module _ (e : Slack) (a : State lists) (F : Fine e a) (p : ℕ) (P : Known p) where
   module _ (u : at (a .book) p .used ≡ true) where
     -- p stays used and keeps its name
-    apt-kept : (r : Program) → r .used ≡ true → r .name ≡ at (a .book) p .name → r .priority ≤ 32767 → Timer (e .low) (e .high) (r .due) (r .interval)
-        → alone (a .book .tracks) (a .book .numbers) (r .state) (r .why) ≡ true → ((k : ℕ) → r .why ≡ Son k → Sonny (e .son) (a .book .programs) p k)
-        → ((k z : ℕ) → r .why ≡ Son k → Known z → z ≢ p → whyOf (a .book) z ≡ Son k → ⊥) → (p ≢ e .son → stateOf (a .book) p ≢ 0 → r .state ≢ 0) → Apt e (a .book) p r
+    apt-kept : (r : Program) → r .used ≡ true → r .name ≡ at (a .book) p .name → r .priority ≤ 32767
+        → Timer (e .low) (e .high) (r .due) (r .interval)
+        → alone (a .book .tracks) (a .book .numbers) (r .state) (r .why) ≡ true
+        → ((k : ℕ) → r .why ≡ Son k → Sonny (e .son) (a .book .programs) p k)
+        → ((k z : ℕ) → r .why ≡ Son k → Known z → z ≢ p → whyOf (a .book) z ≡ Son k → ⊥)
+        → (p ≢ e .son → stateOf (a .book) p ≢ 0 → r .state ≢ 0) → Apt e (a .book) p r
     apt-kept r v i n t h f g m = record {
       right = record { lawful = λ w. ap legal i ∙ F .right p P .lawful u; empty = λ w. clash v w; priority = n; timer = t; fitting = h };
       name = λ w z Z d x j. d (sym (F .distinct p z P Z u x (sym i ∙ j)));
@@ -73,16 +82,24 @@ module _ (e : Slack) (a : State lists) (F : Fine e a) (p : ℕ) (P : Known p) wh
 
     pub apt-priced : (n : ℕ) → n ≤ 32767 → Apt e (a .book) p (withPriority n (at (a .book) p))
     apt-priced n l =
-        apt-kept (withPriority n (at (a .book) p)) u refl l (F .right p P .timer) (F .right p P .fitting) (λ k. F .sons p k P) same-only (λ m v. v)
+        apt-kept (withPriority n (at (a .book) p)) u refl l (F .right p P .timer) (F .right p P .fitting)
+        (λ k. F .sons p k P) same-only (λ m v. v)
 
     pub apt-timed : (d i : ℕ) → Timer (e .low) (e .high) d i → Apt e (a .book) p (withTimer d i (at (a .book) p))
     apt-timed d i t =
-        apt-kept (withTimer d i (at (a .book) p)) u refl (F .right p P .priority) t (F .right p P .fitting) (λ k. F .sons p k P) same-only (λ m v. v)
+        apt-kept (withTimer d i (at (a .book) p)) u refl (F .right p P .priority) t (F .right p P .fitting)
+        (λ k. F .sons p k P) same-only (λ m v. v)
 
   pub apt-loaded : (nm : List ℕ) (n : ℕ) → at (a .book) p .used ≡ false → legal nm ≡ true → n ≤ 32767
       → ((z : ℕ) → Known z → at (a .book) z .used ≡ true → at (a .book) z .name ≡ nm → ⊥) → Apt e (a .book) p (newcomer nm n)
   apt-loaded nm n u l m f = record {
-    right = record { lawful = λ v. l; empty = λ v. clash {t = true} refl v; priority = m; timer = timer-none (e .low) (e .high); fitting = refl };
+    right = record {
+      lawful = λ v. l;
+      empty = λ v. clash {t = true} refl v;
+      priority = m;
+      timer = timer-none (e .low) (e .high);
+      fitting = refl;
+    };
     name = λ v z Z w x i. f z Z x (sym i);
     son = λ k i. absurd (nothing-childless k i);
     only = λ k z i Z w j. nothing-childless k i;

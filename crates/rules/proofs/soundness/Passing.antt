@@ -1,5 +1,5 @@
--- Tracks and numbers may pass to others: a stretch of tracks that is not the system's to nobody or to a user, all tracks and numbers of a program to
--- nobody, one number to a user. Each is shown place by place.
+-- Tracks and numbers may pass to others: a stretch of tracks that is not the system's to nobody or to a user, all tracks and numbers of a
+-- program to nobody, one number to a user. Each is shown place by place.
 -- Assumes nothing.
 use Prim.Native.Nat.{ℕ, zero, suc, _+_, _-_, _≤_, _<_}
 use native.Mathlib.Omega.{arith}
@@ -37,7 +37,8 @@ holds-past U S i o h H n k = record {
 }
 
 -- n tracks from start on, all of one holder that is not the system
-pub tracked-filled : (U : ℕ → Type 0) (T S : ℕ) (xs : List ℕ) (o start n h : ℕ) → Tracked U T S xs → Runs o start n xs → o ≢ system → Passes U h
+pub tracked-filled : (U : ℕ → Type 0) (T S : ℕ) (xs : List ℕ) (o start n h : ℕ) → Tracked U T S xs → Runs o start n xs → o ≢ system
+    → Passes U h
     → Tracked U T S (filled start n h xs)
 tracked-filled U T S xs o start n h t R d k = record {
   long = filled-long start n h xs ∙ t .long;
@@ -52,7 +53,8 @@ tracked-filled U T S xs o start n h t R d k = record {
     go i l (yes u) (no v) = subst (Holds U S i) (sym (filled-out start n h xs i (λ w. omega (arith, v)))) (t .each i l)
 
 -- p holds nothing any more, so that it need be no user
-pub tracked-replaced : {W : ℕ → Type 0} {T S : ℕ} {xs : List ℕ} (p : ℕ) → p < system → Tracked (λ h. h ≢ p → W h) T S xs → Tracked W T S (replaced p nobody xs)
+pub tracked-replaced : {W : ℕ → Type 0} {T S : ℕ} {xs : List ℕ} (p : ℕ) → p < system → Tracked (λ h. h ≢ p → W h) T S xs
+    → Tracked W T S (replaced p nobody xs)
 tracked-replaced {W} {T} {S} {xs} p m t = record {
   long = replaced-long p nobody xs ∙ t .long;
   each = λ i l. subst (Holds W S i) (sym (replaced-is p nobody xs i (omega (arith, t .long)))) (go i l (eqb (getD xs i nobody) p) refl);
@@ -85,7 +87,8 @@ owned-free U = record {
 owned-without : (W : ℕ → Type 0) (p : ℕ) (x : Resource) → Owned (λ h. h ≢ p → W h) x → Owned W (without p x)
 owned-without W p x o = go (eqb (x .owner) p) (eqb (x .lock) p) refl refl
   where
-    go : (b c : Bool) → eqb (x .owner) p ≡ b → eqb (x .lock) p ≡ c → Owned W (cond b free (cond c (record { owner = x .owner; lock = 0 }) x))
+    go : (b c : Bool) → eqb (x .owner) p ≡ b → eqb (x .lock) p ≡ c
+        → Owned W (cond b free (cond c (record { owner = x .owner; lock = 0 }) x))
     go true c e f = owned-free W
     go false true e f = record {
       owner = λ h. o .owner h (eqb-false (x .owner) p e);
@@ -108,7 +111,8 @@ map-at f (x ∷ xs) zero h = refl
 map-at f (x ∷ xs) (suc i) h = map-at f xs i (omega arith)
 
 -- p owns and locks nothing any more
-pub numbered-without : {W : ℕ → Type 0} {R : ℕ} {xs : List Resource} (p : ℕ) → Numbered (λ h. h ≢ p → W h) R xs → Numbered W R (map (without p) xs)
+pub numbered-without : {W : ℕ → Type 0} {R : ℕ} {xs : List Resource} (p : ℕ) → Numbered (λ h. h ≢ p → W h) R xs
+    → Numbered W R (map (without p) xs)
 numbered-without {W} {R} {xs} p n = record {
   long = length-map xs (without p) ∙ n .long;
   each = λ r l m.
@@ -116,7 +120,8 @@ numbered-without {W} {R} {xs} p n = record {
 }
 
 -- number r is another's
-pub numbered-with : (U : ℕ → Type 0) (R : ℕ) (xs : List Resource) (r o l : ℕ) → Numbered U R xs → 1 ≤ r → r ≤ R → Owned U (record { owner = o; lock = l })
+pub numbered-with : (U : ℕ → Type 0) (R : ℕ) (xs : List Resource) (r o l : ℕ) → Numbered U R xs → 1 ≤ r → r ≤ R
+    → Owned U (record { owner = o; lock = l })
     → Numbered U R (withNumber r o l xs)
 numbered-with U R xs r o l n h k u = record {
   long = length-set xs (r - 1) (record { owner = o; lock = l }) ∙ n .long;
@@ -126,6 +131,8 @@ numbered-with U R xs r o l n h k u = record {
     go : (q : ℕ) → 1 ≤ q → q ≤ R → Dec (q ≡ r) → Owned U (numberAt (withNumber r o l xs) q)
     go q i j (yes e) =
         subst (Owned U)
-        (sym (ap (numberAt (withNumber r o l xs)) e ∙ getD-set-same xs (r - 1) (record { owner = o; lock = l }) free (omega (arith, n .long)))) u
+        (sym (ap (numberAt (withNumber r o l xs)) e
+        ∙ getD-set-same xs (r - 1) (record { owner = o; lock = l }) free (omega (arith, n .long)))) u
     go q i j (no e) =
-        subst (Owned U) (sym (getD-set-other xs (r - 1) (q - 1) (record { owner = o; lock = l }) free (λ w. e (omega arith)))) (n .each q i j)
+        subst (Owned U) (sym (getD-set-other xs (r - 1) (q - 1) (record { owner = o; lock = l }) free (λ w. e (omega arith))))
+        (n .each q i j)

@@ -1,5 +1,6 @@
--- Every call of the running program keeps soundness, each for its own reason: the tracks that it takes were nobody's, those that it gives were its own or
--- everybody's, the son that it awaits was dormant so that nobody awaited it, the timer that it sets is within bounds, the number that it alters is one of ours.
+-- Every call of the running program keeps soundness, each for its own reason: the tracks that it takes were nobody's, those that it gives
+-- were its own or everybody's, the son that it awaits was dormant so that nobody awaited it, the timer that it sets is within bounds, the
+-- number that it alters is one of ours.
 -- Assumes nothing.
 use Prim.Native.Nat.{ℕ, _+_, _*_, _≤_}
 use native.Mathlib.Omega.{arith}
@@ -22,7 +23,8 @@ use Rattle.records.specs.Numbers.{globally, numberAt, withNumber}
 use Rattle.tracks.specs.Tracks.{nobody, everybody, system, run, lowest, filled, replaced}
 use Rattle.tracks.proofs.Holders.{Runs, runs-drop, lowest-runs}
 use Rattle.rules.specs.Book.{at, stateOf, whyOf}
-use Rattle.rules.specs.Requests.{Call, EXEC4, EXEC15, EXEC5, EXEC16, EXEC5ALL, EXEC6, EXEC7, EXEC11, EXEC9, EXEC10, EXEC12, ALLOC, LOCK, CLEAR, FREE}
+use Rattle.rules.specs.Requests.{Call, EXEC4, EXEC15, EXEC5, EXEC16, EXEC5ALL, EXEC6, EXEC7, EXEC11, EXEC9}
+use Rattle.rules.specs.Requests.{EXEC10, EXEC12, ALLOC, LOCK, CLEAR, FREE}
 use Rattle.rules.specs.Plans.{becomes, timed, on, numbered}
 use Rattle.rules.specs.Rules.{takes, gives, call, frees, clears, endsIn, ends}
 use Rattle.rules.specs.Keeper.{lists, State, step, play, view}
@@ -35,7 +37,8 @@ use Rattle.rules.proofs.soundness.Passing.{Passes, nobody-passes, track
 use Rattle.rules.proofs.soundness.Waking.{Callable}
 use Rattle.rules.proofs.soundness.Ending.{end-fine}
 use Rattle.rules.proofs.shared.Walk.{by-need, by-either, by-found, by-inside, by-allocated}
-use Rattle.rules.proofs.soundness.Keeping.{Keeps, Caller, strict, refusing, InUse, before, keeps, keeps-named, become-fine, keeps-waits, held-wake, numbered-wake}
+use Rattle.rules.proofs.soundness.Keeping.{Keeps, Caller, strict, refusing, InUse, before, keeps, keeps-named}
+use Rattle.rules.proofs.soundness.Keeping.{become-fine, keeps-waits, held-wake, numbered-wake}
 
 -- whys other than a son
 tracks-childless : (n : ℕ) → Childless (Tracks n)
@@ -82,7 +85,8 @@ module _ (a : State lists) (S : Sound a) where
       let R : Runs nobody i n (a .book .holders) = lowest-runs n (a .book .holders) i (l .0) j in
       keeps a S _
       (fine-held (strict a) (filled i n h (a .book .holders)) a (before a S)
-      (tracked-filled (InUse a) (a .book .tracks) (a .book .system) (a .book .holders) nobody i n h (before a S .tracked) R (λ v. omega arith) k)))
+      (tracked-filled (InUse a) (a .book .tracks) (a .book .system) (a .book .holders) nobody i n h (before a S .tracked) R
+      (λ v. omega arith) k)))
       (keeps-waits a S p C w 5 (Tracks n) N (tracks-childless n) (λ v. omega arith))
 
   -- EXEC 5 and 16
@@ -105,7 +109,8 @@ module _ (a : State lists) (S : Sound a) where
       → Fine (strict a) (play lists (on q (becomes 1 Nothing) ∷ on p (becomes 3 (Son q)) ∷ []) a)
   father-fine p q C Q z =
       fine-on (strict a) p (C .known) (becomes 3 (Son q)) b B
-      (apt-state (strict a) b B p (C .known) used 3 (Son q) refl (λ k e. sonny k (cc)) (λ k w e W n i. only k w (cc) W i) (λ m v i. omega arith))
+      (apt-state (strict a) b B p (C .known) used 3 (Son q) refl (λ k e. sonny k (cc)) (λ k w e W n i. only k w (cc) W i)
+      (λ m v i. omega arith))
     where
       F : Fine (strict a) a
       F = before a S
@@ -190,13 +195,15 @@ module _ (a : State lists) (S : Sound a) where
   keeps-call p C (EXEC15 n w) = keeps-takes p C everybody n w all-passes
   keeps-call p C (EXEC5 n start) = keeps-gives p n start (λ e. omega (arith, e, C .known .1))
   keeps-call p C (EXEC16 n start) = keeps-gives everybody n start (λ e. omega arith)
-  keeps-call p C EXEC5ALL = keeps a S _ (held-wake a S (replaced p nobody (a .book .holders)) (frees (count p (a .book .holders))) (all-given p C))
+  keeps-call p C EXEC5ALL =
+      keeps a S _ (held-wake a S (replaced p nobody (a .book .holders)) (frees (count p (a .book .holders))) (all-given p C))
   keeps-call p C EXEC6 = keeps a S _ (end-fine (a .book .clock) a (before a S) (ends (view lists a) p 0) (C .known) (C .used))
   keeps-call p C EXEC7 = keeps a S _ (become-fine a S p (C .known, C .used) 6 Nothing refl nothing-childless (λ e. omega arith))
   keeps-call p C EXEC11 = keeps a S _ (before a S)
   keeps-call p C (EXEC9 nm) = keeps-named a S nm _ λ q Q. by-inside (refusing a S) _ q 0 _ λ z. keeps a S _ (father-fine p q C Q z)
   keeps-call p C (EXEC10 nm) =
-      keeps-named a S nm _ λ q Q. by-inside (refusing a S) _ q 0 _ λ z. keeps a S _ (become-fine a S q Q 1 Nothing refl nothing-childless (λ e. omega arith))
+      keeps-named a S nm _ λ q Q. by-inside (refusing a S) _ q 0 _ λ z.
+      keeps a S _ (become-fine a S q Q 1 Nothing refl nothing-childless (λ e. omega arith))
   keeps-call p C (EXEC12 nm res mult off) =
       by-need (refusing a S) (upTo 1 4 res && leb mult 4095 && upTo 1 4095 off) 3 0 _ refl λ e. keeps-named a S nm _ λ q Q.
       let h = both (upTo 1 4 res && leb mult 4095) (upTo 1 4095 off) e in
@@ -217,14 +224,16 @@ module _ (a : State lists) (S : Sound a) where
       let x : Resource = numberAt (a .book .resources) r in
       by-either (refusing a S) (eqb (x .lock) p) _ _ (λ v. keeps a S _ (before a S))
       (by-either (refusing a S) (eqb (x .lock) 0) _ _
-      (λ v. keeps a S _ (fine-numbered (strict a) (withNumber r (x .owner) p (a .book .resources)) a (before a S) (number-fine r (x .owner) p h k (owned-locked r h k p C l))))
+      (λ v. keeps a S _ (fine-numbered (strict a) (withNumber r (x .owner) p (a .book .resources)) a (before a S)
+      (number-fine r (x .owner) p h k (owned-locked r h k p C l))))
       (keeps-waits a S p C w 3 (Lock r) (upTo-is 1 (a .book .numbers) r h k) (lock-childless r) (λ v. omega arith)))
   keeps-call p C (CLEAR r) =
       by-allocated (refusing a S) _ r _ λ h k l.
       let x : Resource = numberAt (a .book .resources) r in
       by-either (refusing a S) (eqb (x .lock) 0) _ _ (λ v. keeps a S _ (before a S))
       (by-need (refusing a S) (eqb (x .lock) p) 9 0 _ refl λ v.
-      keeps a S _ (numbered-wake a S (withNumber r (x .owner) 0 (a .book .resources)) (clears r false) (number-fine r (x .owner) 0 h k (owned-cleared r h k))))
+      keeps a S _ (numbered-wake a S (withNumber r (x .owner) 0 (a .book .resources)) (clears r false)
+      (number-fine r (x .owner) 0 h k (owned-cleared r h k))))
   keeps-call p C (FREE r) =
       by-allocated (refusing a S) _ r _ λ h k l.
       let x : Resource = numberAt (a .book .resources) r in

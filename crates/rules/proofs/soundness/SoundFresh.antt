@@ -55,21 +55,29 @@ fresh-order = record {
 
 fresh-tracks : (U : ℕ → Type 0) (T S : ℕ) → S ≤ T → Tracked U T S (replicate S system ++ replicate (T - S) nobody)
 fresh-tracks U T S l = record {
-  long = length-append (replicate S system) (replicate (T - S) nobody) ∙ omega (arith, length-replicate S system, length-replicate (T - S) nobody);
+  long = length-append (replicate S system) (replicate (T - S) nobody)
+      ∙ omega (arith, length-replicate S system, length-replicate (T - S) nobody);
   each = λ i m. go i m (decLe (suc i) S);
 }
   where
     go : (i : ℕ) → i < T → Dec (i < S) → Holds U S i (getD (replicate S system ++ replicate (T - S) nobody) i nobody)
     go i m (yes h) =
         subst (Holds U S i)
-        (sym (List·getD-append (replicate S system) (replicate (T - S) nobody) nobody i (omega (arith, length-replicate S system)) ∙ getD-replicate S i system nobody h))
+        (sym (List·getD-append (replicate S system) (replicate (T - S) nobody) nobody i (omega (arith, length-replicate S system))
+        ∙ getD-replicate S i system nobody h))
         (record { below = λ k. refl; just = λ k. h; user = λ k. absurd (omega (arith, k .1)); most = omega arith })
     go i m (no h) =
         let e : i ≡ length (replicate S system) + (i - S) = omega (arith, length-replicate S system, h) in
         subst (Holds U S i)
         (sym (ap (λ (x : ℕ). getD (replicate S system ++ replicate (T - S) nobody) x nobody) e
-        ∙ getD-append-add (replicate S system) (replicate (T - S) nobody) (i - S) nobody ∙ getD-replicate (T - S) (i - S) nobody nobody (omega (arith, h))))
-        (record { below = λ k. absurd (h k); just = λ k. absurd (omega arith); user = λ k. absurd (omega (arith, k .0)); most = omega arith })
+        ∙ getD-append-add (replicate S system) (replicate (T - S) nobody) (i - S) nobody
+        ∙ getD-replicate (T - S) (i - S) nobody nobody (omega (arith, h))))
+        (record {
+          below = λ k. absurd (h k);
+          just = λ k. absurd (omega arith);
+          user = λ k. absurd (omega (arith, k .0));
+          most = omega arith;
+        })
 
 pub fresh-fine : (T S R : ℕ) → sizes T S R ≡ true → Fine (exact 0) (fresh lists T S R)
 fresh-fine T S R e = record {
@@ -81,7 +89,8 @@ fresh-fine T S R e = record {
   tracked = fresh-tracks (Uses 0 (replicate 32 unused)) T S (sized T S R e .first);
   numbered = record {
     long = length-replicate R free;
-    each = λ r l m. subst (Owned (Uses 0 (replicate 32 unused))) (sym (getD-replicate R (r - 1) free free (omega arith))) (owned-free (Uses 0 (replicate 32 unused)));
+    each = λ r l m. subst (Owned (Uses 0 (replicate 32 unused))) (sym (getD-replicate R (r - 1) free free (omega arith)))
+        (owned-free (Uses 0 (replicate 32 unused)));
   };
   sized = sized T S R e;
   now = refl;

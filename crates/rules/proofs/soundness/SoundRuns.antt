@@ -36,14 +36,19 @@ use Rattle.rules.proofs.Statements.{runs}
 module _ (a : State lists) (S : Sound a) where
   keeps-order : (o : Order) → allowed o ≡ true → (p : ℕ) → Callable (a .book .programs) p → Keeps a (order (view lists a) o p)
   unfolding order endsIn
-  keeps-order RU e p P = by-inside (refusing a S) _ p 0 _ λ z. keeps a S _ (become-fine a S p P 1 Nothing refl nothing-childless (λ i. omega arith))
-  keeps-order SS e p P = by-inside (refusing a S) _ p 1 _ λ z. keeps a S _ (become-fine a S p P 6 Nothing refl nothing-childless (λ i. omega arith))
-  keeps-order GO e p P = by-inside (refusing a S) _ p 6 _ λ z. keeps a S _ (become-fine a S p P 1 Nothing refl nothing-childless (λ i. omega arith))
+  keeps-order RU e p P =
+      by-inside (refusing a S) _ p 0 _ λ z. keeps a S _ (become-fine a S p P 1 Nothing refl nothing-childless (λ i. omega arith))
+  keeps-order SS e p P =
+      by-inside (refusing a S) _ p 1 _ λ z. keeps a S _ (become-fine a S p P 6 Nothing refl nothing-childless (λ i. omega arith))
+  keeps-order GO e p P =
+      by-inside (refusing a S) _ p 6 _ λ z. keeps a S _ (become-fine a S p P 1 Nothing refl nothing-childless (λ i. omega arith))
   keeps-order (PR n) e p P =
-      keeps a S _ (fine-on (strict a) p (P .0) (priced n) a (before a S) (apt-priced (strict a) a (before a S) p (P .0) (P .1) n (upTo-true 1 32767 n e .1)))
+      keeps a S _ (fine-on (strict a) p (P .0) (priced n) a (before a S)
+      (apt-priced (strict a) a (before a S) p (P .0) (P .1) n (upTo-true 1 32767 n e .1)))
   keeps-order (OF k) e p P =
       let R : Release = ends (view lists a) p (count p (a .book .holders)) in
-      keeps a S _ (rw (off-events (view lists a) p k (replaced p nobody (a .book .holders)) R) (off-fine (a .book .clock) a (before a S) R (P .0) (P .1) k))
+      keeps a S _ (rw (off-events (view lists a) p k (replaced p nobody (a .book .holders)) R)
+      (off-fine (a .book .clock) a (before a S) R (P .0) (P .1) k))
 
   keeps-load : (nm : List ℕ) (n : ℕ) → legal nm ≡ true → n ≤ 32767 → find (a .book .programs) nm ≡ 0 → 1 ≤ lowestUnused (a .book .programs)
       → Fine (strict a) (step lists (on (lowestUnused (a .book .programs)) (loaded nm n)) a)
@@ -57,11 +62,14 @@ module _ (a : State lists) (S : Sound a) where
   unfolding plan step
   keeps-plan (FRESH T B R) = by-need (refusing a S) (sizes T B R) 3 0 _ refl λ e. record { sound = sound-fresh T B R e }
   keeps-plan (LOAD nm n) =
-      by-need (refusing a S) (legal nm && leb n 32767) 3 0 _ refl λ d. by-need (refusing a S) (eqb (find (a .book .programs) nm) 0) 6 0 _ refl λ e.
+      by-need (refusing a S) (legal nm && leb n 32767) 3 0 _ refl λ d.
+      by-need (refusing a S) (eqb (find (a .book .programs) nm) 0) 6 0 _ refl λ e.
       by-need (refusing a S) (ltb 0 (lowestUnused (a .book .programs))) 7 0 _ refl λ f.
       let h = both (legal nm) (leb n 32767) d in
-      keeps a S _ (keeps-load nm n (h .0) (leb-true n 32767 (h .1)) (eqb-true (find (a .book .programs) nm) 0 e) (ltb-true 0 (lowestUnused (a .book .programs)) f))
-  keeps-plan (operator o nm) = by-need (refusing a S) (allowed o) 3 0 _ refl λ e. keeps-named a S nm (order (view lists a) o) (keeps-order o e)
+      keeps a S _ (keeps-load nm n (h .0) (leb-true n 32767 (h .1)) (eqb-true (find (a .book .programs) nm) 0 e)
+      (ltb-true 0 (lowestUnused (a .book .programs)) f))
+  keeps-plan (operator o nm) =
+      by-need (refusing a S) (allowed o) 3 0 _ refl λ e. keeps-named a S nm (order (view lists a) o) (keeps-order o e)
   keeps-plan TICK =
       by-need (refusing a S) (ltb (a .book .clock) ceiling) 11 0 _ refl λ e.
       record { sound = fine-sound (a .book .clock + 1) _ (tick-fine a (before a S) (ltb-true (a .book .clock) ceiling e)) }

@@ -1,5 +1,5 @@
--- The tick keeps soundness. Between its events a due may lie at the new clock itself, or one tick further than allowed before: those programs are still
--- to come, each once, with their records untouched. When all have come no due lies at the clock.
+-- The tick keeps soundness. Between its events a due may lie at the new clock itself, or one tick further than allowed before: those
+-- programs are still to come, each once, with their records untouched. When all have come no due lies at the clock.
 -- Assumes nothing.
 use Prim.Native.Nat.{ℕ, _+_, _≤_, _<_}
 use native.Mathlib.Omega.{arith}
@@ -30,7 +30,8 @@ use Rattle.rules.proofs.soundness.Making.{apt-scheduled, apt-timed}
 abbrev ticking : ℕ → Slack
 ticking c = record { son = 0; user = 0; clock = c + 1; low = c; high = c + 1 + farthest }
 
-tick-start : (a : State lists) → Fine (exact (a .book .clock)) a → a .book .clock < ceiling → Fine (ticking (a .book .clock)) (step lists (clocked (a .book .clock + 1)) a)
+tick-start : (a : State lists) → Fine (exact (a .book .clock)) a → a .book .clock < ceiling
+    → Fine (ticking (a .book .clock)) (step lists (clocked (a .book .clock + 1)) a)
 unfolding step
 tick-start a F l =
     fine-anew (exact (a .book .clock)) (ticking (a .book .clock)) a (a .book .clock + 1) (a .book .holders) (a .book .resources) F
@@ -85,7 +86,8 @@ module _ (c : ℕ) (b : Book) where
   unfolding next
   next-timer p d l = go (eqb (at b p .interval) 0) refl
     where
-      go : (x : Bool) → eqb (at b p .interval) 0 ≡ x → Timer c (c + 1 + farthest) (cond x 0 (at b p .due + at b p .interval)) (at b p .interval)
+      go : (x : Bool) → eqb (at b p .interval) 0 ≡ x
+          → Timer c (c + 1 + farthest) (cond x 0 (at b p .due + at b p .interval)) (at b p .interval)
       go true e = record {
         timeless = λ i. eqb-true (at b p .interval) 0 e;
         above = λ n. absurd (n refl);
@@ -138,7 +140,8 @@ module _ (c : ℕ) (b : Book) where
       T₂ = step-turned lists p P (becomes 1 Nothing) t₁ (T₁ .long)
 
       F₂ : Fine (ticking c) t₂
-      F₂ = fine-on (ticking c) p P (becomes 1 Nothing) t₁ F₁ (apt-scheduled (ticking c) t₁ F₁ p P (ap (λ (r : Program). r .used) (T₁ .here) ∙ used))
+      F₂ = fine-on (ticking c) p P (becomes 1 Nothing) t₁ F₁
+          (apt-scheduled (ticking c) t₁ F₁ p P (ap (λ (r : Program). r .used) (T₁ .here) ∙ used))
 
       here₁ : at (t₁ .book) p .due ≢ c + 1
       here₁ i = next-moved p d (ap (λ (r : Program). r .due) (sym (T₁ .here)) ∙ i)
@@ -146,7 +149,8 @@ module _ (c : ℕ) (b : Book) where
       go : (x : Bool) → ((u : State lists) → Midway c b l u → Midway c b [] (play lists (join (map (λ p. ticked p (at b p)) l)) u))
           → Midway c b [] (play lists (cond x (on p (becomes 1 Nothing) ∷ []) [] ++ join (map (λ p. ticked p (at b p)) l)) t₁)
       go true ih =
-          ih t₂ (midway-next p l t t₂ M F₂ (λ i. here₁ (ap (λ (r : Program). r .due) (sym (T₂ .here)) ∙ i)) (λ z Z n. T₂ .rest z Z n ∙ T₁ .rest z Z n))
+          ih t₂ (midway-next p l t t₂ M F₂ (λ i. here₁ (ap (λ (r : Program). r .due) (sym (T₂ .here)) ∙ i))
+          (λ z Z n. T₂ .rest z Z n ∙ T₁ .rest z Z n))
       go false ih = ih t₁ (midway-next p l t t₁ M F₁ here₁ (T₁ .rest))
 
 tick-begin : (a : State lists) → Fine (exact (a .book .clock)) a → a .book .clock < ceiling
@@ -161,13 +165,16 @@ tick-begin a F l = record {
   moved = λ z Z h. go z Z h (dueAt (a .book) z) refl;
 }
   where
-    go : (z : ℕ) → Known z → count z (keep (dueAt (a .book)) all) ≡ 0 → (x : Bool) → dueAt (a .book) z ≡ x → at (a .book) z .due ≢ a .book .clock + 1
+    go : (z : ℕ) → Known z → count z (keep (dueAt (a .book)) all) ≡ 0 → (x : Bool) → dueAt (a .book) z ≡ x
+        → at (a .book) z .due ≢ a .book .clock + 1
     go z Z h true e =
         absurd (omega (arith, all-one z Z, count-keep (dueAt (a .book)) z all ∙ ap (λ (x : Bool). cond x (count z all) 0) e))
     go z Z h false e = eqb-false (at (a .book) z .due) (a .book .clock + 1) e
 
 pub tick-fine : (a : State lists) → Fine (exact (a .book .clock)) a → a .book .clock < ceiling
-    → Fine (exact (a .book .clock + 1)) (play lists (clocked (a .book .clock + 1) ∷ join (map (λ p. ticked p (at (a .book) p)) (keep (dueAt (a .book)) all))) a)
+    → Fine (exact (a .book .clock + 1))
+    (play lists (clocked (a .book .clock + 1) ∷ join (map (λ p. ticked p (at (a .book) p)) (keep (dueAt (a .book)) all))) a)
 tick-fine a F l =
-    let M = tick-all (a .book .clock) (a .book) (keep (dueAt (a .book)) all) (step lists (clocked (a .book .clock + 1)) a) (tick-begin a F l) in
+    let M = tick-all (a .book .clock) (a .book) (keep (dueAt (a .book)) all) (step lists (clocked (a .book .clock + 1)) a)
+    (tick-begin a F l) in
     tick-end (a .book .clock) _ (M .fine) (λ z Z. M .moved z Z refl)

@@ -1,5 +1,5 @@
--- Waking keeps what is fine so, and leaves each record that it does not wake. The woken stood in chain 3 or 5; one who awaited the program that ended is
--- among them.
+-- Waking keeps what is fine so, and leaves each record that it does not wake. The woken stood in chain 3 or 5; one who awaited
+-- the program that ended is among them.
 -- Assumes nothing.
 use Prim.Native.Nat.{ℕ, _≤_, _<_}
 use native.Mathlib.Omega.{arith}
@@ -32,9 +32,11 @@ abbrev pub Callable : List Program → ℕ → Type 0
 Callable ps z = Known z × (recordAt ps z .used ≡ true)
 
 pub turned-used : (p : ℕ) (r : Program) (ps qs : List Program) → Turned p r ps qs → r .used ≡ true → (z : ℕ) → Callable ps z → Callable qs z
-turned-used p r ps qs T u z Z = (Z .0, turned-each T (λ z x. recordAt ps z .used ≡ true → x .used ≡ true) (λ v. u) (λ z Z n v. v) z (Z .0) (Z .1))
+turned-used p r ps qs T u z Z =
+    (Z .0, turned-each T (λ z x. recordAt ps z .used ≡ true → x .used ≡ true) (λ v. u) (λ z Z n v. v) z (Z .0) (Z .1))
 
-pub fine-wake : (e : Slack) (c : List ℕ) (a : State lists) → Fine e a → ((q : ℕ) → 1 ≤ count q c → Callable (a .book .programs) q) → Fine e (play lists (wake c) a)
+pub fine-wake : (e : Slack) (c : List ℕ) (a : State lists) → Fine e a → ((q : ℕ) → 1 ≤ count q c → Callable (a .book .programs) q)
+    → Fine e (play lists (wake c) a)
 fine-wake e [] a F h = F
 fine-wake e (q ∷ qs) a F h =
     let Q = h q (omega (arith, same-refl q)) in
@@ -56,13 +58,15 @@ woke (q ∷ qs) a L h =
     go (step lists (on q wakes) a) Q T (woke qs (step lists (on q wakes) a) (T .long) (λ x k. h x (omega arith)))
   where
     go : (b : State lists) → Known q → Turned q (made wakes (at (a .book) q)) (a .book .programs) (b .book .programs)
-        → Woke qs (b .book .programs) (play lists (wake qs) b .book .programs) → Woke (q ∷ qs) (a .book .programs) (play lists (wake qs) b .book .programs)
+        → Woke qs (b .book .programs) (play lists (wake qs) b .book .programs)
+        → Woke (q ∷ qs) (a .book .programs) (play lists (wake qs) b .book .programs)
     go b Q T W = record {
       freed = λ z k. here z k (decLe 1 (count z qs)) (ℕ-discrete z q);
       rest = λ z Z k. W .rest z Z (omega arith) ∙ T .rest z Z (λ e. omega (arith, same-refl z, ap (same z) e));
     }
       where
-        here : (z : ℕ) → 1 ≤ count z (q ∷ qs) → Dec (1 ≤ count z qs) → Dec (z ≡ q) → recordAt (play lists (wake qs) b .book .programs) z .why ≡ Nothing
+        here : (z : ℕ) → 1 ≤ count z (q ∷ qs) → Dec (1 ≤ count z qs) → Dec (z ≡ q)
+            → recordAt (play lists (wake qs) b .book .programs) z .why ≡ Nothing
         here z k (yes l) d = W .freed z l
         here z k (no l) (yes e) =
             ap (λ (x : Program). x .why) (W .rest z (rw e Q) (omega (arith, l)) ∙ ap (recordAt (b .book .programs)) e ∙ T .here)
@@ -89,7 +93,8 @@ awake-used e a F p P n = used-if e a F p P (λ i. n (ap (λ (r : Program). r .st
 
 module _ (e : Slack) (a : State lists) (F : Fine e a) where
   -- who stands in the chain of a state is a used program in it
-  pub chained : (s : ℕ) → 1 ≤ s → s < 7 → (x : ℕ) → 1 ≤ count x (getD (a .kept) s []) → Callable (a .book .programs) x × (stateOf (a .book) x ≡ s)
+  pub chained : (s : ℕ) → 1 ≤ s → s < 7 → (x : ℕ) → 1 ≤ count x (getD (a .kept) s [])
+      → Callable (a .book .programs) x × (stateOf (a .book) x ≡ s)
   chained s l m x h =
       let C = F .order .chain s l m in
       let i : stateOf (a .book) x ≡ s = chain-state (a .book .programs) s (getD (a .kept) s []) C x h in
@@ -117,13 +122,15 @@ module _ (e : Slack) (a : State lists) (F : Fine e a) where
         )
 
     -- who awaited the one that ended is woken
-    pub son-woken : Known (R .ended) → (z : ℕ) → Known z → z ≢ R .ended → whyOf (a .book) z ≡ Son (R .ended) → 1 ≤ count z (woken (view lists a) R)
+    pub son-woken : Known (R .ended) → (z : ℕ) → Known z → z ≢ R .ended → whyOf (a .book) z ≡ Son (R .ended)
+        → 1 ≤ count z (woken (view lists a) R)
     unfolding woken
     son-woken E z Z n i =
         let f : ℕ → Bool = λ q. awaits R (whyOf (a .book) q) in
         let c : List ℕ = remove (R .ended) (getD (a .kept) 3 []) in
         let t : stateOf (a .book) z ≡ 3 =
-        eqb-true (stateOf (a .book) z) 3 (subst (λ (w : Why). alone (a .book .tracks) (a .book .numbers) (stateOf (a .book) z) w ≡ true) i (F .right z Z .fitting)) in
+        eqb-true (stateOf (a .book) z) 3
+        (subst (λ (w : Why). alone (a .book .tracks) (a .book .numbers) (stateOf (a .book) z) w ≡ true) i (F .right z Z .fitting)) in
         let g : f z ≡ true = ap (awaits R) i ∙ rw (lt-ltb 0 (R .ended) (E .0), eq-eqb (R .ended) (R .ended) refl) in
         let k : count z (keep f c) ≡ count z c = count-keep f z c ∙ ap (λ (b : Bool). cond b (count z c) 0) g in
         let m : count z (getD (a .kept) 3 []) ≡ 1 =

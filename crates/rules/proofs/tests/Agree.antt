@@ -1,4 +1,5 @@
--- Each test of soundness says what its clause says, both ways: a test of every program, track or number is taken apart into the clause's words "for every".
+-- Each test of soundness says what its clause says, both ways: a test of every program, track or number is taken
+-- apart into the clause's words "for every".
 -- Assumes nothing.
 use Prim.Native.Nat.{ℕ, _+_, _-_, _≤_, _<_}
 use native.Mathlib.Omega.{arith}
@@ -32,7 +33,8 @@ program-in b f e p P =
 
 pub program-is : (b : Book) (f : ℕ → Program → Bool) → ((p : ℕ) → Known p → f p (at b p) ≡ true) → programs b f ≡ true
 program-is b f h =
-    along-is missing f 1 32 (b .programs) (λ k l. ap (λ (x : ℕ). f (k + 1) (getD (b .programs) x missing)) (omega arith) ∙ h (k + 1) (omega arith, omega arith))
+    along-is missing f 1 32 (b .programs)
+    (λ k l. ap (λ (x : ℕ). f (k + 1) (getD (b .programs) x missing)) (omega arith) ∙ h (k + 1) (omega arith, omega arith))
 
 pub track-in : (b : Book) (f : ℕ → ℕ → Bool) → tracks b f ≡ true → (i : ℕ) → i < b .tracks → f i (holderOf b i) ≡ true
 track-in b f e i h = ap (λ (x : ℕ). f x (holderOf b i)) (omega arith) ∙ along-in nobody f 0 (b .tracks) (b .holders) e i h
@@ -61,8 +63,10 @@ distinct-true : (b : Book) (p q : ℕ) → distinctly p (at b p) q (at b q) ≡ 
 unfolding distinctly
 distinct-true b p q e u n = yes-or-no (eqb p q) (eqb-true p q) (λ w.
     let z : not (at b q .used) ≡ false = ap not u in
-    let k : alike (at b p .name) (at b q .name) ≡ true = subst (λ (x : List ℕ). alike (at b p .name) x ≡ true) n (alike-refl (at b p .name)) in
-    let m : not (alike (at b p .name) (at b q .name)) ≡ true = otherwise (eqb p q || not (at b q .used)) (not (alike (at b p .name) (at b q .name))) e (rw (w, z)) in
+    let k : alike (at b p .name) (at b q .name) ≡ true =
+    subst (λ (x : List ℕ). alike (at b p .name) x ≡ true) n (alike-refl (at b p .name)) in
+    let m : not (alike (at b p .name) (at b q .name)) ≡ true =
+    otherwise (eqb p q || not (at b q .used)) (not (alike (at b p .name) (at b q .name))) e (rw (w, z)) in
     clash m (ap not k))
 
 distinct-is : (b : Book) (p q : ℕ) → (at b q .used ≡ true → at b p .name ≡ at b q .name → p ≡ q) → distinctly p (at b p) q (at b q) ≡ true
@@ -112,8 +116,10 @@ nothing-true Number e = false-true e
 
 zeros-true : (r : Program) → zeros r ≡ true → r .used ≡ false → r ≡ unused
 zeros-true r e u =
-    let b5 = both (alike (r .name) (unused .name) && eqb (r .priority) 0 && eqb (r .state) 0 && nothing (r .why) && eqb (r .due) 0) (eqb (r .interval) 0) e in
-    let b4 = both (alike (r .name) (unused .name) && eqb (r .priority) 0 && eqb (r .state) 0 && nothing (r .why)) (eqb (r .due) 0) (b5 .0) in
+    let b5 = both (alike (r .name) (unused .name) && eqb (r .priority) 0 && eqb (r .state) 0 && nothing (r .why) && eqb (r .due) 0)
+    (eqb (r .interval) 0) e in
+    let b4 = both (alike (r .name) (unused .name) && eqb (r .priority) 0 && eqb (r .state) 0 && nothing (r .why))
+    (eqb (r .due) 0) (b5 .0) in
     let b3 = both (alike (r .name) (unused .name) && eqb (r .priority) 0 && eqb (r .state) 0) (nothing (r .why)) (b4 .0) in
     let b2 = both (alike (r .name) (unused .name) && eqb (r .priority) 0) (eqb (r .state) 0) (b3 .0) in
     let b1 = both (alike (r .name) (unused .name)) (eqb (r .priority) 0) (b2 .0) in
@@ -132,11 +138,13 @@ pub zeros-clause : (b : Book) → testZeros b ≡ true → Zeros b
 unfolding testZeros tidy
 zeros-clause b e = record {
   empty = λ p P u. zeros-true (at b p) (otherwise (at b p .used) (zeros (at b p)) ((here p P) .0) u) u;
-  timeless = λ p P z. eqb-true (at b p .interval) 0 (unless (eqb (at b p .due) 0) (eqb (at b p .interval) 0) ((here p P) .1) (eq-eqb (at b p .due) 0 z));
+  timeless = λ p P z.
+      eqb-true (at b p .interval) 0 (unless (eqb (at b p .due) 0) (eqb (at b p .interval) 0) ((here p P) .1) (eq-eqb (at b p .due) 0 z));
 }
   where
     here : (p : ℕ) → Known p → ((at b p .used || zeros (at b p)) ≡ true) × ((not (eqb (at b p .due) 0) || eqb (at b p .interval) 0) ≡ true)
-    here p P = both (at b p .used || zeros (at b p)) (not (eqb (at b p .due) 0) || eqb (at b p .interval) 0) (program-in b (λ p r. tidy r) e p P)
+    here p P = both (at b p .used || zeros (at b p)) (not (eqb (at b p .due) 0) || eqb (at b p .interval) 0)
+        (program-in b (λ p r. tidy r) e p P)
 
 pub zeros-test : (b : Book) → Zeros b → testZeros b ≡ true
 unfolding testZeros tidy
@@ -144,7 +152,8 @@ zeros-test b Z =
     program-is b (λ p r. tidy r) (λ p P.
     and
     (or (at b p .used) (zeros (at b p)) (λ u. ap zeros (Z .empty p P u)))
-    (implies (eqb (at b p .due) 0) (eqb (at b p .interval) 0) (λ z. eq-eqb (at b p .interval) 0 (Z .timeless p P (eqb-true (at b p .due) 0 z)))))
+    (implies (eqb (at b p .due) 0) (eqb (at b p .interval) 0)
+    (λ z. eq-eqb (at b p .interval) 0 (Z .timeless p P (eqb-true (at b p .due) 0 z)))))
 
 -- whys
 awaits-one : ℕ → Program → ℕ → Program → Bool
@@ -191,15 +200,18 @@ whys-clause b e = record {
       let sq : sonOf (whyOf b q) ≡ k = ap sonOf j in
       let n : eqb (sonOf (whyOf b p)) 0 ≡ false = ne-eqb (sonOf (whyOf b p)) 0 (λ w. omega (arith, K .0)) in
       let t : awaits-one p (at b p) q (at b q) ≡ true =
-      program-in b (awaits-one p (at b p)) (otherwise (eqb (sonOf (whyOf b p)) 0) (programs b (awaits-one p (at b p))) ((here p P) .1) n) q Q in
+      program-in b (awaits-one p (at b p))
+      (otherwise (eqb (sonOf (whyOf b p)) 0) (programs b (awaits-one p (at b p))) ((here p P) .1) n) q Q in
       yes-or-no (eqb p q) (eqb-true p q) (λ w.
       clash (otherwise (eqb p q) (not (eqb (sonOf (whyOf b p)) (sonOf (whyOf b q)))) t w)
       (ap not (eq-eqb (sonOf (whyOf b p)) (sonOf (whyOf b q)) (sp ∙ sym sq))));
 }
   where
-    here : (p : ℕ) → Known p → (suits b p (stateOf b p) (whyOf b p) ≡ true) × ((eqb (sonOf (whyOf b p)) 0 || programs b (awaits-one p (at b p))) ≡ true)
+    here : (p : ℕ) → Known p
+        → (suits b p (stateOf b p) (whyOf b p) ≡ true) × ((eqb (sonOf (whyOf b p)) 0 || programs b (awaits-one p (at b p))) ≡ true)
     here p P =
-        both (suits b p (stateOf b p) (whyOf b p)) (eqb (sonOf (whyOf b p)) 0 || programs b (awaits-one p (at b p))) (program-in b (waits-well b) e p P)
+        both (suits b p (stateOf b p) (whyOf b p)) (eqb (sonOf (whyOf b p)) 0 || programs b (awaits-one p (at b p)))
+        (program-in b (waits-well b) e p P)
 
 pub whys-test : (b : Book) → Whys b → testWhys b ≡ true
 unfolding testWhys waits-well awaits-one
@@ -212,7 +224,8 @@ whys-test b W =
     or (eqb p q) (not (eqb (sonOf (whyOf b p)) (sonOf (whyOf b q)))) (λ w.
     ap not (ne-eqb (sonOf (whyOf b p)) (sonOf (whyOf b q)) (λ s.
     eqb-false p q w
-    (W .once p q (sonOf (whyOf b p)) P Q (son-why (whyOf b p) (sonOf (whyOf b p)) l refl) (son-why (whyOf b q) (sonOf (whyOf b p)) l (sym s))))))))))
+    (W .once p q (sonOf (whyOf b p)) P Q (son-why (whyOf b p) (sonOf (whyOf b p)) l refl)
+    (son-why (whyOf b q) (sonOf (whyOf b p)) l (sym s))))))))))
 
 -- dues
 in-time : Book → Program → Bool
@@ -231,7 +244,8 @@ dues-clause b e = record {
 }
   where
     here : (p : ℕ) → Known p → ((eqb (at b p .due) 0 || in-time b (at b p)) ≡ true) × (leb (at b p .interval) farthest ≡ true)
-    here p P = both (eqb (at b p .due) 0 || in-time b (at b p)) (leb (at b p .interval) farthest) (program-in b (λ p r. timed-well b r) e p P)
+    here p P = both (eqb (at b p .due) 0 || in-time b (at b p)) (leb (at b p .interval) farthest)
+        (program-in b (λ p r. timed-well b r) e p P)
 
     timely : (p : ℕ) → Known p → at b p .due ≢ 0 → (ltb (b .clock) (at b p .due) ≡ true) × (leb (at b p .due) (b .clock + farthest) ≡ true)
     timely p P n =

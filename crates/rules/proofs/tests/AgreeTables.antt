@@ -48,7 +48,8 @@ chains-clause b m e = record {
   rising = λ s l h. rising-true (prioOf b) (getD m s []) ((here s l h) .1);
 }
   where
-    here : (s : ℕ) → 1 ≤ s → s < 7 → ((programs b (listed m s) && every known (getD m s [])) ≡ true) × (rising (prioOf b) (getD m s []) ≡ true)
+    here : (s : ℕ) → 1 ≤ s → s < 7
+        → ((programs b (listed m s) && every known (getD m s [])) ≡ true) × (rising (prioOf b) (getD m s []) ≡ true)
     here s l h = both (programs b (listed m s) && every known (getD m s [])) (rising (prioOf b) (getD m s []))
         (every-in (chain b m) (from 1 6) e s (omega (arith, count-from s 1 6 l (omega arith))))
 
@@ -149,9 +150,13 @@ unlocked-test b U =
 pub limits-clause : (b : Book) → testLimits b ≡ true → Limits b
 unfolding testLimits
 limits-clause b e =
-    let b6 = both (upTo 1 256 (b .tracks) && leb (b .system) (b .tracks) && leb (b .numbers) 16 && leb (b .clock) ceiling && programs b (λ p r. leb (r .priority) 32767) && tracks b (λ i h. leb h system)) (numbers b (λ x. leb (x .owner) globally && leb (x .lock) 32)) e in
-    let b5 = both (upTo 1 256 (b .tracks) && leb (b .system) (b .tracks) && leb (b .numbers) 16 && leb (b .clock) ceiling && programs b (λ p r. leb (r .priority) 32767)) (tracks b (λ i h. leb h system)) (b6 .0) in
-    let b4 = both (upTo 1 256 (b .tracks) && leb (b .system) (b .tracks) && leb (b .numbers) 16 && leb (b .clock) ceiling) (programs b (λ p r. leb (r .priority) 32767)) (b5 .0) in
+    let b6 = both (upTo 1 256 (b .tracks) && leb (b .system) (b .tracks) && leb (b .numbers) 16
+    && leb (b .clock) ceiling && programs b (λ p r. leb (r .priority) 32767) && tracks b (λ i h. leb h system))
+    (numbers b (λ x. leb (x .owner) globally && leb (x .lock) 32)) e in
+    let b5 = both (upTo 1 256 (b .tracks) && leb (b .system) (b .tracks) && leb (b .numbers) 16 && leb (b .clock) ceiling
+    && programs b (λ p r. leb (r .priority) 32767)) (tracks b (λ i h. leb h system)) (b6 .0) in
+    let b4 = both (upTo 1 256 (b .tracks) && leb (b .system) (b .tracks) && leb (b .numbers) 16 && leb (b .clock) ceiling)
+    (programs b (λ p r. leb (r .priority) 32767)) (b5 .0) in
     let b3 = both (upTo 1 256 (b .tracks) && leb (b .system) (b .tracks) && leb (b .numbers) 16) (leb (b .clock) ceiling) (b4 .0) in
     let b2 = both (upTo 1 256 (b .tracks) && leb (b .system) (b .tracks)) (leb (b .numbers) 16) (b3 .0) in
     let b1 = both (upTo 1 256 (b .tracks)) (leb (b .system) (b .tracks)) (b2 .0) in
@@ -164,9 +169,11 @@ limits-clause b e =
       priority = λ p P. leb-true (prioOf b p) 32767 (program-in b (λ p r. leb (r .priority) 32767) (b4 .1) p P);
       holder = λ i h. leb-true (holderOf b i) system (track-in b (λ i h. leb h system) (b5 .1) i h);
       owner = λ r h. leb-true (numberAt (b .resources) r .owner) globally
-          ((both (leb (numberAt (b .resources) r .owner) globally) (leb (numberAt (b .resources) r .lock) 32) (number-in b (λ x. leb (x .owner) globally && leb (x .lock) 32) (b6 .1) r h)) .0);
+          ((both (leb (numberAt (b .resources) r .owner) globally) (leb (numberAt (b .resources) r .lock) 32)
+          (number-in b (λ x. leb (x .owner) globally && leb (x .lock) 32) (b6 .1) r h)) .0);
       locker = λ r h. leb-true (numberAt (b .resources) r .lock) 32
-          ((both (leb (numberAt (b .resources) r .owner) globally) (leb (numberAt (b .resources) r .lock) 32) (number-in b (λ x. leb (x .owner) globally && leb (x .lock) 32) (b6 .1) r h)) .1);
+          ((both (leb (numberAt (b .resources) r .owner) globally) (leb (numberAt (b .resources) r .lock) 32)
+          (number-in b (λ x. leb (x .owner) globally && leb (x .lock) 32) (b6 .1) r h)) .1);
     }
 
 pub limits-test : (b : Book) → Limits b → testLimits b ≡ true

@@ -46,7 +46,8 @@ pub +put-number-spec : {M : Type 1} → statement M
     (λ c κs. omega (arith, longer (c .before .before .before .args .n) (c .before .if1 .left) (omega arith)))
     (λ c. search needs)
     (λ c. search needs)
-    (λ c κs. let e = c .before .before .before .before .before in omega (arith, longer (e .before .before .args .n) (e .if1 .left) (omega arith)))
+    (λ c κs. let e = c .before .before .before .before .before in
+    omega (arith, longer (e .before .before .args .n) (e .if1 .left) (omega arith)))
     (λ c. search needs)
     (λ c. rw (decimal-small _ (c .before .before .before .before .if1 .taken)) (c .before .before .put-byte .ensures))
     (λ c. search needs)

@@ -17,7 +17,8 @@ abbrev μ-loop : tie.MeasureT-loop
 -- what is returned is the end
 there : (s : tie.Start Inv-loop μ-loop) (i : ℕ) → s .args .from + until (s .args .d) (drop (s .args .from) (s .args .s .now)) ≡ i
     → PartEnd (s .args .d) (s .args .s .now) (s .args .from) i
-there s i e = subst (λ (k : ℕ). PartEnd (s .args .d) (s .args .s .now) (s .args .from) k) e (part-end (s .args .d) (s .args .s .now) (s .args .from) (s .pre))
+there s i e = subst (λ (k : ℕ). PartEnd (s .args .d) (s .args .s .now) (s .args .from) k) e
+    (part-end (s .args .d) (s .args .s .now) (s .args .from) (s .pre))
 
 loop-holds : tie.Need-loop-holds Inv-loop μ-loop
 loop-holds c = (omega arith, omega arith, refl)
@@ -26,19 +27,27 @@ returns : tie.Need-returns Inv-loop μ-loop
 returns c =
     let b = c .before .before .before in
     let s = b .before in
-    there s (b .loop .i) (omega (arith, b .loop .inv .2, until-hit (s .args .d) (s .args .s .now) (b .loop .i) (c .before .before .loop-test .taken) (c .if1 .taken)))
+    there s (b .loop .i) (omega (
+      arith,
+      b .loop .inv .2,
+      until-hit (s .args .d) (s .args .s .now) (b .loop .i) (c .before .before .loop-test .taken) (c .if1 .taken),
+    ))
 
 loop-again : tie.Need-loop-again Inv-loop μ-loop
 loop-again c =
     let b = c .before .before .before in
-    let a = b .before .args in
-    (omega arith, omega arith, omega (arith, b .loop .inv .2, until-miss (a .d) (a .s .now) (b .loop .i) (c .before .before .loop-test .taken) (c .if1 .left)))
+    let a = b .before .args in (
+      omega arith,
+      omega arith,
+      omega (arith, b .loop .inv .2, until-miss (a .d) (a .s .now) (b .loop .i) (c .before .before .loop-test .taken) (c .if1 .left)),
+    )
 
 returns-2 : tie.Need-returns-2 Inv-loop μ-loop
 returns-2 c =
     let b = c .before in
     let s = b .before in
-    there s (length (s .args .s .now)) (omega (arith, b .loop .inv .2, until-end (s .args .d) (s .args .s .now) (b .loop .i) (c .loop-test .left)))
+    there s (length (s .args .s .now))
+    (omega (arith, b .loop .inv .2, until-end (s .args .d) (s .args .s .now) (b .loop .i) (c .loop-test .left)))
 
 pub part-end-spec : {M : Type 1} → statement M
 part-end-spec =

@@ -25,7 +25,8 @@ add-o : tie.Need-add-o Inv-loop μ-loop
 add-o c = omega (arith, length-drop (c .before .before .loop .i) (c .before .before .before .args .s .now))
 
 loop-again : tie.Need-loop-again Inv-loop μ-loop
-loop-again c = (omega arith, left-turn (c .before .before .before .args .s .now) (c .before .loop-test .taken) (c .before .before .loop .inv .1))
+loop-again c =
+    (omega arith, left-turn (c .before .before .before .args .s .now) (c .before .loop-test .taken) (c .before .before .loop .inv .1))
 
 same-length : tie.Need-same-length Inv-loop μ-loop
 same-length c = c .before .loop .inv .1 .same

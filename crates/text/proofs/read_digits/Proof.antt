@@ -1,4 +1,5 @@
--- `text::read_digits` meets its contract. The invariant: reading from i on, after a, is reading from the start, and a has at most i - from digits. Assumes nothing.
+-- `text::read_digits` meets its contract. The invariant: reading from i on, after a, is reading from the start, and a has at
+-- most i - from digits. Assumes nothing.
 use mathlib.Core.Path.{_≡_, refl, sym, ap, _∙_}
 use Prim.Native.Nat.{suc, _+_, _-_, _<_, _≤_}
 use native.Mathlib.Omega.{arith}
@@ -29,14 +30,16 @@ returns c =
     let b = c .before .before .before in
     let g = b .before .args in
     let x = getD (g .s .now) (b .loop .i) 0 in
-    sym (b .loop .inv .3 ∙ horner-not (b .loop .a) (g .s .now) (b .loop .i) (g .to) (omega arith) (omega arith) (upTo-under 48 57 x (c .if1 .taken)))
+    sym (b .loop .inv .3
+    ∙ horner-not (b .loop .a) (g .s .now) (b .loop .i) (g .to) (omega arith) (omega arith) (upTo-under 48 57 x (c .if1 .taken)))
 
 returns-2 : tie.Need-returns-2 Inv-loop μ-loop
 returns-2 c =
     let b = c .before .before .before .before in
     let g = b .before .args in
     let x = getD (g .s .now) (b .loop .i) 0 in
-    sym (b .loop .inv .3 ∙ horner-not (b .loop .a) (g .s .now) (b .loop .i) (g .to) (omega arith) (omega arith) (upTo-over 48 57 x (c .if2 .taken)))
+    sym (b .loop .inv .3
+    ∙ horner-not (b .loop .a) (g .s .now) (b .loop .i) (g .to) (omega arith) (omega arith) (upTo-over 48 57 x (c .if2 .taken)))
 
 mul-a : tie.Need-mul-a Inv-loop μ-loop
 mul-a c = omega (arith, small (c .before .before .before))
@@ -52,7 +55,8 @@ loop-again c =
       omega arith,
       omega arith,
       rw e (omega arith),
-      b .loop .inv .3 ∙ horner-on (b .loop .a) (g .s .now) (b .loop .i) (g .to) (omega arith) (omega arith) (c .before .if1 .left) (c .if2 .left),
+      b .loop .inv .3
+          ∙ horner-on (b .loop .a) (g .s .now) (b .loop .i) (g .to) (omega arith) (omega arith) (c .before .if1 .left) (c .if2 .left),
     )
 
 returns-3 : tie.Need-returns-3 Inv-loop μ-loop

@@ -55,7 +55,8 @@ said n e = sym (n .before .command-of .ensures) ∙ ap (saying (n .before .comma
 
 -- what the line comes to, where it is not PAGE: the buffer as it was
 same : (n : tie.After-name) {x : Said} → n .before .command-of .result .said ≡ x → (r : Outcome)
-    → beside (S n .args .out .now) (told r) ≡ obeys (S n .args .tables) (S n .args .out .now) (saying (n .before .command-of .result .name) x)
+    → beside (S n .args .out .now) (told r)
+    ≡ obeys (S n .args .tables) (S n .args .out .now) (saying (n .before .command-of .result .name) x)
     → beside (S n .args .out .now) (told r) ≡ keyed (S n .args .tables) (S n .args .line .now) (S n .args .out .now)
 same n e r h =
     let a = S n .args in
@@ -88,7 +89,8 @@ other1 r p n e = page-unsaid (Name1 r .before .command-of .result .name) Bad ref
 put-answer-requires : tie.Need-put-answer-requires
 put-answer-requires r κs =
     let a = S (Name1 r) .args in
-    printed-room (a .tables) (a .line .now) (a .out .now) (big (Name1 r)) (fits (S (Name1 r))) (Outcome1 r) (a .out .now) (same1 r) (other1 r)
+    printed-room (a .tables) (a .line .now) (a .out .now) (big (Name1 r)) (fits (S (Name1 r))) (Outcome1 r) (a .out .now)
+    (same1 r) (other1 r)
 
 returns-2 : tie.Need-returns-2
 returns-2 c =
@@ -128,7 +130,8 @@ put-answer-requires-2 : tie.Need-put-answer-requires-2
 put-answer-requires-2 c κs =
     let k = c .before .before in
     let a = S (Name3 k) .args in
-    printed-room (a .tables) (a .line .now) (a .out .now) (big (Name3 k)) (fits (S (Name3 k))) (k .ask .result) (a .out .now) (same3 k) (other3 k)
+    printed-room (a .tables) (a .line .now) (a .out .now) (big (Name3 k)) (fits (S (Name3 k))) (k .ask .result) (a .out .now)
+    (same3 k) (other3 k)
 
 returns-4 : tie.Need-returns-4
 returns-4 c =

@@ -22,10 +22,12 @@ cast-t8 : tie.Need-cast-t8
 cast-t8 c = omega (arith, sized c .few)
 
 returns : tie.Need-returns
-returns c = λ v nm. like v nm (renewing v _ _ _ (sym (c .before .is-sized .ensures) ∙ c .if1 .taken)) (record { number = refl; values = refl; events = refl; apt = sized c })
+returns c = λ v nm. like v nm (renewing v _ _ _ (sym (c .before .is-sized .ensures) ∙ c .if1 .taken))
+    (record { number = refl; values = refl; events = refl; apt = sized c })
 
 returns-2 : tie.Need-returns-2
-returns-2 c = λ v nm. stays v nm NotAllowed 0 (c .stay .ensures) refl (renewing-not v _ _ _ (sym (c .before .before .is-sized .ensures) ∙ c .before .if1 .left))
+returns-2 c = λ v nm. stays v nm NotAllowed 0 (c .stay .ensures) refl
+    (renewing-not v _ _ _ (sym (c .before .before .is-sized .ensures) ∙ c .before .if1 .left))
 
 pub renews-spec : {M : Type 1} → statement M
 renews-spec = tie.close (tie.spec (λ c κs. search needs) cast-t6 cast-t7 cast-t8 returns (λ c κs. search needs) returns-2)

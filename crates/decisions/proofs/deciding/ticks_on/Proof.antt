@@ -12,7 +12,8 @@ returns : tie.Need-returns
 returns c = λ v nm T. stays v nm AtCeiling 0 (c .stay .ensures) refl (ticking-not v (omega (arith, T)))
 
 returns-2 : tie.Need-returns-2
-returns-2 c = λ v nm T. like v nm (ticking v (omega (arith, T))) (record { number = refl; values = refl; events = refl; apt = omega (arith, T) })
+returns-2 c =
+    λ v nm T. like v nm (ticking v (omega (arith, T))) (record { number = refl; values = refl; events = refl; apt = omega (arith, T) })
 
 pub ticks-on-spec : {M : Type 1} → statement M
 ticks-on-spec = tie.close (tie.spec (λ c κs. search needs) returns returns-2)

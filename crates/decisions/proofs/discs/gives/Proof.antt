@@ -36,7 +36,8 @@ returns-5 : tie.Need-returns-5
 returns-5 c =
     let r = c .before .before in
     λ v nm O.
-    stays v nm NotHolder 0 (c .stay4 .ensures) refl (gives-stray v _ _ _ _ O (passed (r .before) v O) _ (r .run-at .ensures) (c .before .if4 .left))
+    stays v nm NotHolder 0 (c .stay4 .ensures) refl
+    (gives-stray v _ _ _ _ O (passed (r .before) v O) _ (r .run-at .ensures) (c .before .if4 .left))
 
 pub gives-spec : {M : Type 1} → statement M
 gives-spec =

@@ -8,7 +8,8 @@ use Rattle.decisions.proofs.discs.gives_all.Statement.{statement}
 use Rattle.decisions.proofs.discs.gives_all.Tie as tie
 
 returns : tie.Need-returns
-returns c = λ v nm O. like v nm (gives-all v _ _ (ap (count (c .before .args .c)) (O .held) ∙ sym (c .held-by .ensures))) (record { number = refl; values = refl; events = refl; apt = tt })
+returns c = λ v nm O. like v nm (gives-all v _ _ (ap (count (c .before .args .c)) (O .held) ∙ sym (c .held-by .ensures)))
+    (record { number = refl; values = refl; events = refl; apt = tt })
 
 pub gives-all-spec : {M : Type 1} → statement M
 gives-all-spec = tie.close (tie.spec (λ c κs. search needs) returns)

@@ -30,14 +30,24 @@ returns-4 c =
     let e = c .before in
     let f = e .before .before in
     λ v nm O.
-    like v nm (takes-waits v _ _ _ _ _ O (passed (f .before) v O) _ (f .lowest-run .ensures) (e .enum-told .given .1)) (c .waits .ensures v nm)
+    like v nm (takes-waits v _ _ _ _ _ O (passed (f .before) v O) _ (f .lowest-run .ensures) (e .enum-told .given .1))
+    (c .waits .ensures v nm)
 
 returns-5 : tie.Need-returns-5
 returns-5 c =
     let f = c .before .before .before in
     λ v nm O.
     like v nm (takes-done v _ _ _ _ _ O (passed (f .before) v O) _ (f .lowest-run .ensures) _ (c .before .found .given .1))
-    (record { number = refl; values = refl; events = refl; apt = omega (arith, takes-room _ _ _ _ (S (f .before) .pre .fit) (passed (f .before) v O .least) (f .lowest-run .ensures) (c .before .found .given .1), O .size) })
+    (record {
+      number = refl;
+      values = refl;
+      events = refl;
+      apt = omega (
+        arith,
+        takes-room _ _ _ _ (S (f .before) .pre .fit) (passed (f .before) v O .least) (f .lowest-run .ensures) (c .before .found .given .1),
+        O .size,
+      );
+    })
 
 pub takes-spec : {M : Type 1} → statement M
 takes-spec =

@@ -17,7 +17,8 @@ known : (k : tie.After-known-told) → Known (k .before .p .given .0 .0)
 known k = subst KnownIn (k .before .p .given .1) (k .before .before .before .find .ensures .known)
 
 returns : tie.Need-returns
-returns c = λ v nm O. stays v nm NotAllowed 0 (c .stay .ensures) refl (asked-not v _ _ _ _ (c .before .before .is-permitted .ensures) (c .before .if1 .taken))
+returns c = λ v nm O.
+    stays v nm NotAllowed 0 (c .stay .ensures) refl (asked-not v _ _ _ _ (c .before .before .is-permitted .ensures) (c .before .if1 .taken))
 
 sub-performs : tie.Need-sub-performs
 sub-performs c = omega (arith, known c .0)
@@ -36,18 +37,29 @@ performs-requires c κs =
     }
 
 returns-2 : tie.Need-returns-2
-returns-2 c = let f = c .before .before .before in λ v nm O. stays v nm NotAllowed 0 (c .stay2 .ensures) refl (asked-of v _ _ _ _ (f .before .before .is-permitted .ensures) (f .before .if1 .left) _ _ _ (f .find .ensures) (O .programs) (c .before .enum-told .given .1))
+returns-2 c =
+    let f = c .before .before .before in
+    λ v nm O. stays v nm NotAllowed 0 (c .stay2 .ensures) refl (asked-of v _ _ _ _ (f .before .before .is-permitted .ensures)
+    (f .before .if1 .left) _ _ _ (f .find .ensures) (O .programs) (c .before .enum-told .given .1))
 
 returns-3 : tie.Need-returns-3
-returns-3 c = let f = c .before .before .before in λ v nm O. stays v nm NoProgram 0 (c .stay3 .ensures) refl (asked-of v _ _ _ _ (f .before .before .is-permitted .ensures) (f .before .if1 .left) _ _ _ (f .find .ensures) (O .programs) (c .before .enum-told2 .given .1))
+returns-3 c =
+    let f = c .before .before .before in
+    λ v nm O. stays v nm NoProgram 0 (c .stay3 .ensures) refl (asked-of v _ _ _ _ (f .before .before .is-permitted .ensures)
+    (f .before .if1 .left) _ _ _ (f .find .ensures) (O .programs) (c .before .enum-told2 .given .1))
 
 returns-4 : tie.Need-returns-4
 returns-4 c =
     let k = c .before .before in
     let f = k .before .before .before in
     λ v nm O.
-    like v nm (asked-of v _ _ _ _ (f .before .before .is-permitted .ensures) (f .before .if1 .left) _ _ _ (f .find .ensures) (O .programs) (k .before .p .given .1))
-    (c .performs .ensures v nm (record { row = ap (λ (ps : List Program). recordAt ps (k .before .p .given .0 .0)) (O .programs); tracks = O .tracks; clock = O .clock }))
+    like v nm (asked-of v _ _ _ _ (f .before .before .is-permitted .ensures) (f .before .if1 .left) _ _ _ (f .find .ensures) (O .programs)
+    (k .before .p .given .1))
+    (c .performs .ensures v nm (record {
+      row = ap (λ (ps : List Program). recordAt ps (k .before .p .given .0 .0)) (O .programs);
+      tracks = O .tracks;
+      clock = O .clock;
+    }))
 
 pub upon-spec : {M : Type 1} → statement M
 upon-spec =

@@ -24,25 +24,34 @@ least n = omega arith
 most : (n : tie.After-number) (v : View) → OfNumbers v (S n .args .numbers) → S n .args .r ≤ v .book .numbers
 most n v O = omega (arith, O .size)
 
-there : (n : tie.After-number) (v : View) → OfNumbers v (S n .args .numbers) → numberAt (v .book .resources) (S n .args .r) ≡ n .number .result
+there : (n : tie.After-number) (v : View) → OfNumbers v (S n .args .numbers)
+    → numberAt (v .book .resources) (S n .args .r) ≡ n .number .result
 there n v O = ap (λ (xs : List Resource). numberAt xs (S n .args .r)) (O .all) ∙ sym (n .number .ensures)
 
 owned : (m : tie.Else4) (v : View) → OfNumbers v (S (m .before .before) .args .numbers)
     → ofNumber v (S (m .before .before) .args .c) (S (m .before .before) .args .r) (S (m .before .before) .args .q)
-    ≡ wanted v (S (m .before .before) .args .c) (S (m .before .before) .args .r) (S (m .before .before) .args .q) (m .before .before .number .result)
+    ≡ wanted v (S (m .before .before) .args .c) (S (m .before .before) .args .r) (S (m .before .before) .args .q)
+    (m .before .before .number .result)
 owned m v O =
     let n = m .before .before in
     let e = n .before .before .before .before in
     number-owned v _ _ _ _ (e .before .waiting .ensures) (e .if1 .left) (least n) (most n v O) _ (there n v O) (m .if4 .left)
 
 returns : tie.Need-returns
-returns c = λ v nm O. stays v nm NotAllowed 0 (c .stay .ensures) refl (wanted-not v _ _ _ _ (c .before .before .waiting .ensures) (λ a. omega arith))
+returns c = λ v nm O.
+    stays v nm NotAllowed 0 (c .stay .ensures) refl (wanted-not v _ _ _ _ (c .before .before .waiting .ensures) (λ a. omega arith))
 
 returns-2 : tie.Need-returns-2
-returns-2 c = let w = c .before .before .before in λ v nm O. stays v nm NotAllowed 0 (c .stay2 .ensures) refl (number-strange v _ _ _ _ (w .waiting .ensures) (c .before .before .if1 .left) (λ a. omega (arith, a .0)))
+returns-2 c =
+    let w = c .before .before .before in
+    λ v nm O. stays v nm NotAllowed 0 (c .stay2 .ensures) refl
+    (number-strange v _ _ _ _ (w .waiting .ensures) (c .before .before .if1 .left) (λ a. omega (arith, a .0)))
 
 returns-3 : tie.Need-returns-3
-returns-3 c = let e = c .before .before .before .before in λ v nm O. stays v nm NotAllowed 0 (c .stay3 .ensures) refl (number-strange v _ _ _ _ (e .before .waiting .ensures) (e .if1 .left) (λ a. omega (arith, a .1, O .size)))
+returns-3 c =
+    let e = c .before .before .before .before in
+    λ v nm O. stays v nm NotAllowed 0 (c .stay3 .ensures) refl
+    (number-strange v _ _ _ _ (e .before .waiting .ensures) (e .if1 .left) (λ a. omega (arith, a .1, O .size)))
 
 returns-4 : tie.Need-returns-4
 returns-4 c =
@@ -57,21 +66,27 @@ returns-5 c =
     let m = c .before .before .before .before in
     let n = m .before .before in
     λ v nm O.
-    like v nm (owned m v O) (subst (λ (q : Wanted). Decides v nm (wanted v (S n .args .c) (S n .args .r) q (n .number .result)) (c .locks .result)) (sym (c .before .before .q .given .1)) (c .locks .ensures v nm (most n v O)))
+    like v nm (owned m v O)
+    (subst (λ (q : Wanted). Decides v nm (wanted v (S n .args .c) (S n .args .r) q (n .number .result)) (c .locks .result))
+    (sym (c .before .before .q .given .1)) (c .locks .ensures v nm (most n v O)))
 
 returns-6 : tie.Need-returns-6
 returns-6 c =
     let m = c .before .before .before in
     let n = m .before .before in
     λ v nm O.
-    like v nm (owned m v O) (subst (λ (q : Wanted). Decides v nm (wanted v (S n .args .c) (S n .args .r) q (n .number .result)) (c .clears .result)) (sym (c .before .enum-told .given .1)) (c .clears .ensures v nm (most n v O)))
+    like v nm (owned m v O)
+    (subst (λ (q : Wanted). Decides v nm (wanted v (S n .args .c) (S n .args .r) q (n .number .result)) (c .clears .result))
+    (sym (c .before .enum-told .given .1)) (c .clears .ensures v nm (most n v O)))
 
 returns-7 : tie.Need-returns-7
 returns-7 c =
     let m = c .before .before .before in
     let n = m .before .before in
     λ v nm O.
-    like v nm (owned m v O) (subst (λ (q : Wanted). Decides v nm (wanted v (S n .args .c) (S n .args .r) q (n .number .result)) (c .frees .result)) (sym (c .before .enum-told2 .given .1)) (c .frees .ensures v nm (most n v O)))
+    like v nm (owned m v O)
+    (subst (λ (q : Wanted). Decides v nm (wanted v (S n .args .c) (S n .args .r) q (n .number .result)) (c .frees .result))
+    (sym (c .before .enum-told2 .given .1)) (c .frees .ensures v nm (most n v O)))
 
 pub of-number-spec : {M : Type 1} → statement M
 of-number-spec =

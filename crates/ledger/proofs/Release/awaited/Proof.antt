@@ -1,6 +1,7 @@
 -- `ledger::Release::awaited` meets its contract: an answer for each why, and for a lock that is none, or past the last. Assumes nothing.
 use borrow.Author.Needs.{needs}
-use Rattle.ledger.proofs.Releasing.{nothing-told, tracks-told, number-told, no-son-told, son-told, no-lock-told, past-told, lock-told}
+use Rattle.ledger.proofs.Releasing.{nothing-told, tracks-told, number-told, no-son-told}
+use Rattle.ledger.proofs.Releasing.{son-told, no-lock-told, past-told, lock-told}
 use Rattle.ledger.proofs.Release.awaited.Statement.{statement}
 use Rattle.ledger.proofs.Release.awaited.Tie as tie
 

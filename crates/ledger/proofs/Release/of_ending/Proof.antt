@@ -1,4 +1,5 @@
--- `ledger::Release::of_ending` meets its contract. The invariant: the first i numbers are marked where p owns or locks them. Assumes nothing.
+-- `ledger::Release::of_ending` meets its contract. The invariant: the first i numbers are marked where
+-- p owns or locks them. Assumes nothing.
 use Prim.Native.Nat.{_-_}
 use native.Mathlib.Omega.{arith}
 use mathlib.Core.Path.{refl}

@@ -11,7 +11,8 @@ returns c =
     let q = c .before .before in
     let n = q .before .before .before in
     let r = n .before .before .args .r in
-    ap₂ (λ (a b : Bool). a && eqb (r .priority) 0 && eqb (r .state) 0 && b && eqb (r .due) 0 && eqb (r .interval) 0) (n .is-unnamed .ensures) (q .is-nothing .ensures)
+    ap₂ (λ (a b : Bool). a && eqb (r .priority) 0 && eqb (r .state) 0 && b && eqb (r .due) 0 && eqb (r .interval) 0)
+    (n .is-unnamed .ensures) (q .is-nothing .ensures)
 
 pub holds-zeros-spec : {M : Type 1} → statement M
 holds-zeros-spec = tie.close (tie.spec (λ c κs. search needs) (λ c κs. search needs) returns)

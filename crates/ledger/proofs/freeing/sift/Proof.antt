@@ -1,5 +1,5 @@
--- `ledger::sift` meets its contract. The invariant is `Sifted`, by whether the release, as shown, is awaited; any other that it says keeps the same. The measure is what
--- is yet to be read. Assumes nothing.
+-- `ledger::sift` meets its contract. The invariant is `Sifted`, by whether the release, as shown, is awaited; any other that it says keeps
+-- the same. The measure is what is yet to be read. Assumes nothing.
 use Prim.Native.Nat.{_-_}
 use native.Mathlib.Omega.{arith}
 use mathlib.Core.Path.{sym, _∙_}

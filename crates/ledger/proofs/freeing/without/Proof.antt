@@ -1,5 +1,5 @@
--- `ledger::without` meets its contract. The invariant is `Sifted`, by the test whether it is another than p: to take p out is to keep those. The measure is what is yet
--- to be read. Assumes nothing.
+-- `ledger::without` meets its contract. The invariant is `Sifted`, by the test whether it is another than p: to take p out is to keep
+-- those. The measure is what is yet to be read. Assumes nothing.
 use Prim.Native.Nat.{_-_}
 use native.Mathlib.Omega.{arith}
 use mathlib.Core.Path.{ap}

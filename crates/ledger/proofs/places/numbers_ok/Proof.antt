@@ -6,7 +6,9 @@ use Rattle.ledger.proofs.places.numbers_ok.Statement.{statement}
 use Rattle.ledger.proofs.places.numbers_ok.Tie as tie
 
 returns : tie.Need-returns
-returns c = let r = c .before .ours-ok in record { yes = λ e. false-true e; nay = λ e N. r .ensures .nay (not-true (r .result) (c .if1 .taken)) (N .ours) }
+returns c =
+    let r = c .before .ours-ok in
+    record { yes = λ e. false-true e; nay = λ e N. r .ensures .nay (not-true (r .result) (c .if1 .taken)) (N .ours) }
 
 returns-2 : tie.Need-returns-2
 returns-2 c =

@@ -1,4 +1,5 @@
--- `ledger::places::rest_ok` meets its contract. The invariant: the sum of owners and locks so far is 0 exactly where each is. Assumes nothing.
+-- `ledger::places::rest_ok` meets its contract. The invariant: the sum of owners and locks so far is 0
+-- exactly where each is. Assumes nothing.
 use Prim.Native.Nat.{_-_, _*_, _≤_}
 use mathlib.Core.Path.{_≡_}
 use native.Mathlib.Omega.{arith}
@@ -20,7 +21,8 @@ loop-again : tie.Need-loop-again Inv-loop μ-loop
 loop-again c = (
   omega arith,
   search needs,
-  tally-more (c .before .before .before .before .loop .inv .2) _ (λ z. (omega arith, (omega arith, omega arith))) (λ z e. omega (arith, e .0, e .1)),
+  tally-more (c .before .before .before .before .loop .inv .2) _ (λ z. (omega arith, (omega arith, omega arith)))
+      (λ z e. omega (arith, e .0, e .1)),
 )
 
 pub rest-ok-spec : {M : Type 1} → statement M

@@ -24,6 +24,7 @@ returns c = marking-end (c .before .loop .inv) (omega arith)
 pub strangers-spec : {M : Type 1} → statement M
 strangers-spec =
     tie.close
-    (tie.spec Inv-loop μ-loop (λ c. search needs) (λ c. search needs) (λ c. search needs) loop-holds (λ c. omega arith) (λ c κs. search needs)
+    (tie.spec Inv-loop μ-loop (λ c. search needs) (λ c. search needs) (λ c. search needs) loop-holds (λ c. omega arith)
+    (λ c κs. search needs)
     (λ c. omega arith) (λ c. omega (arith, c .before .before .before .loop .inv .long)) (λ c. omega arith) (λ c. omega arith)
     loop-again returns)

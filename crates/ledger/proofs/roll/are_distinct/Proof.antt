@@ -1,4 +1,5 @@
--- `ledger::roll::are_distinct` meets its contract. The invariant is `Seen`: each key before i is new, and has left its mark. Assumes nothing.
+-- `ledger::roll::are_distinct` meets its contract. The invariant is `Seen`: each key before i is new,
+-- and has left its mark. Assumes nothing.
 use Prim.Native.Nat.{_-_, _<_}
 use native.Mathlib.Omega.{arith}
 use borrow.Author.Tests.{not-true, not-false}
@@ -34,7 +35,8 @@ returns : tie.Need-returns Inv-loop μ-loop
 returns c =
     let r = c .before .is-new in
     let b = c .before .before .before .before .before in
-    tells-no (λ D. r .ensures .nay (not-true (r .result) (c .if1 .taken)) (fresh-of (now (b .before .args .keys)) D (b .loop .i) (omega (arith, b .before .pre .most))))
+    tells-no (λ D. r .ensures .nay (not-true (r .result) (c .if1 .taken))
+    (fresh-of (now (b .before .args .keys)) D (b .loop .i) (omega (arith, b .before .pre .most))))
 
 array-write-seen : tie.Need-array-write-seen Inv-loop μ-loop
 array-write-seen c = omega (arith, within (c .before .before), c .before .before .before .before .before .loop .inv .long)
@@ -43,7 +45,8 @@ loop-again : tie.Need-loop-again Inv-loop μ-loop
 loop-again c =
     let r = c .before .is-new in
     let s = c .before .before in
-    seen-more (s .before .before .before .loop .inv) (s .slot .result) (s .slot .ensures) (r .ensures .yes (not-false (r .result) (c .if1 .left)))
+    seen-more (s .before .before .before .loop .inv) (s .slot .result) (s .slot .ensures)
+    (r .ensures .yes (not-false (r .result) (c .if1 .left)))
 
 returns-2 : tie.Need-returns-2 Inv-loop μ-loop
 returns-2 c = tells-yes (seen-end (c .before .loop .inv) (c .before .before .pre) (omega arith))

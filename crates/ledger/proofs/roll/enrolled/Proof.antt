@@ -1,4 +1,5 @@
--- `ledger::roll::enrolled` meets its contract. The invariant is `Noted`: the records before i are sound by themselves, and noted. Assumes nothing.
+-- `ledger::roll::enrolled` meets its contract. The invariant is `Noted`: the records before i are sound by
+-- themselves, and noted. Assumes nothing.
 use Prim.Native.Nat.{_+_, _-_}
 use mathlib.Core.Path.{_≡_, sym, _∙_}
 use mathlib.Core.Logic.{⊎-elim}
@@ -8,7 +9,8 @@ use borrow.Author.Tests.{not-true, not-false}
 use lib.ListN.{getD}
 use Rattle.records.specs.Records.{missing}
 use Rattle.ledger.specs.Inner.{fits}
-use Rattle.ledger.proofs.Rows.{Noted, noted-start, noted-used, noted-unused, noted-refused, noted-same, names-ended, sons-ended, names-refused, noted-end}
+use Rattle.ledger.proofs.Rows.{Noted, noted-start, noted-used, noted-unused, noted-refused, noted-same}
+use Rattle.ledger.proofs.Rows.{names-ended, sons-ended, names-refused, noted-end}
 use borrow.Author.Needs.{needs}
 use Rattle.ledger.proofs.roll.enrolled.Statement.{statement}
 use Rattle.ledger.proofs.roll.enrolled.Tie as tie
@@ -75,7 +77,8 @@ returns-3 : tie.Need-returns-3 Inv-loop μ-loop
 returns-3 c =
     let e = c .before .before .before in
     let d = e .before .are-distinct in
-    noted-end (e .before .before .before .before .loop .inv) (omega arith) (d .ensures .yes (not-false (d .result) (e .if3 .left))) (c .sons-ok .result) (c .sons-ok .ensures)
+    noted-end (e .before .before .before .before .loop .inv) (omega arith) (d .ensures .yes (not-false (d .result) (e .if3 .left)))
+    (c .sons-ok .result) (c .sons-ok .ensures)
 
 pub enrolled-spec : {M : Type 1} → statement M
 enrolled-spec =

@@ -1,4 +1,5 @@
--- `ledger::roll::sons_ok` meets its contract. The invariant is `Meeting`: the sons before i are live, and awaited and marked once. Assumes nothing.
+-- `ledger::roll::sons_ok` meets its contract. The invariant is `Meeting`: the sons before i are live, and
+-- awaited and marked once. Assumes nothing.
 use Prim.Native.Nat.{_+_, _-_, _<_}
 use mathlib.Core.Path.{_≡_}
 use mathlib.Core.Logic.{⊎-elim}
@@ -38,7 +39,8 @@ returns-2 : tie.Need-returns-2 Inv-loop μ-loop
 returns-2 c =
     let w = c .before .before .before in
     let b = w .before .before .before in
-    tells-no (λ A. meeting-twice (b .loop .inv) (w .if1 .taken) _ ((place w) .0) (c .if3 .taken) (omega (arith, b .before .pre .ended .most)) (A .once))
+    tells-no (λ A.
+    meeting-twice (b .loop .inv) (w .if1 .taken) _ ((place w) .0) (c .if3 .taken) (omega (arith, b .before .pre .ended .most)) (A .once))
 
 loop-again : tie.Need-loop-again Inv-loop μ-loop
 loop-again c =

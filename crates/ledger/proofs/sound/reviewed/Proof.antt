@@ -26,7 +26,8 @@ returns : tie.Need-returns
 returns c = let r = c .before .is-sized in refused _ _ _ (λ P. r .ensures .nay (not-true (r .result) (c .if1 .taken)) (P .sizes))
 
 -- the sizes
-sizes : (c : tie.Else1) → let l = c .before .before .args .l in Sized (l .tracks .count) (l .tracks .system) (l .numbers .count) (l .clock .ticks)
+sizes : (c : tie.Else1) → let l = c .before .before .args .l in
+    Sized (l .tracks .count) (l .tracks .system) (l .numbers .count) (l .clock .ticks)
 sizes c = let r = c .before .is-sized in r .ensures .yes (not-false (r .result) (c .if1 .left))
 
 -- the records, and what stood before them

@@ -22,7 +22,8 @@ returns c =
 
 -- number r is not p's
 past : (c : tie.Else1 Inv-loop μ-loop)
-    → let b = c .before .before .before .before in let a = b .before .before .args in Seek (owns (a .p) (a .self)) (a .self .count) (b .loop .r + 1)
+    → let b = c .before .before .before .before in let a = b .before .before .args in
+    Seek (owns (a .p) (a .self)) (a .self .count) (b .loop .r + 1)
 past c =
     let n = c .before .before in
     let b = n .before .before in

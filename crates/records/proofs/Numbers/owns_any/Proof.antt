@@ -10,7 +10,9 @@ use Rattle.records.proofs.Numbers.owns_any.Statement.{statement}
 use Rattle.records.proofs.Numbers.owns_any.Tie as tie
 
 returns : tie.Need-returns
-returns c = let a = c .before .args in ap (λ (n : ℕ). ltb 0 n) (c .lowest-of .ensures) ∙ any-first (owns (a .p) (a .self)) 1 (a .self .count) (omega arith)
+returns c =
+    let a = c .before .args in
+    ap (λ (n : ℕ). ltb 0 n) (c .lowest-of .ensures) ∙ any-first (owns (a .p) (a .self)) 1 (a .self .count) (omega arith)
 
 pub owns-any-spec : {M : Type 1} → statement M
 owns-any-spec = tie.close (tie.spec (λ c κs. search needs) returns)

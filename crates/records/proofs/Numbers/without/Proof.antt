@@ -24,7 +24,8 @@ loop-again c =
     let b = c .before .before .before in
     let a = b .before .before .before .args in (
       omega arith,
-      changed-next (without (a .p)) (b .loop .i) (a .self .resources) (b .loop .resources) (c .without .result) (b .loop .inv .1) (c .without .ensures),
+      changed-next (without (a .p)) (b .loop .i) (a .self .resources) (b .loop .resources) (c .without .result) (b .loop .inv .1)
+          (c .without .ensures),
     )
 
 returns : tie.Need-returns Inv-loop μ-loop

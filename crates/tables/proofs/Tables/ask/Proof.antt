@@ -24,7 +24,8 @@ arrays s = record {
   programs = sym (length-map (s .args .self .ledger .programs) (program.the-field .into)) ∙ s .good .0 .1 .1 .0 .1 .1 .0 .1 .0 .1;
   links = search needs;
   holders = search needs;
-  resources = sym (length-map (s .args .self .ledger .numbers .resources) (resource.the-field .into)) ∙ s .good .0 .1 .1 .0 .1 .1 .1 .1 .1 .0 .1 .1 .1 .0 .1 .0 .1;
+  resources = sym (length-map (s .args .self .ledger .numbers .resources) (resource.the-field .into))
+      ∙ s .good .0 .1 .1 .0 .1 .1 .1 .1 .1 .0 .1 .1 .1 .0 .1 .0 .1;
 }
 
 tested : (o : tie.After-opened) → Tested (o .before .args .self) (o .opened .result .sound) (o .opened .result .caller)
@@ -40,7 +41,8 @@ caller : (i : tie.Then1) → opening i .opened .result .caller ≡ callerOf (ope
 caller i = tested (opening i) .caller (i .if1 .taken)
 
 decided : (d : tie.After-decide) → let s = opening (d .before) .before in
-    Decides (view lists (plain (s .args .self))) (s .args .name) (keeper.asks lists (plain (s .args .self)) (theRequest (s .args .name) (s .args .q))) (d .decide .result)
+    Decides (view lists (plain (s .args .self))) (s .args .name)
+    (keeper.asks lists (plain (s .args .self)) (theRequest (s .args .name) (s .args .q))) (d .decide .result)
 decided d = d .decide .ensures (view lists (plain (opening (d .before) .before .args .self))) refl (sym (caller (d .before)))
 
 decide-requires : tie.Need-decide-requires

@@ -12,7 +12,9 @@ use Rattle.tables.proofs.Tables.ended.Tie as tie
 abbrev S : tie.After-waiters → tie.Start
 S w = w .before .before .before .before .before
 
-those : (w : tie.After-waiters) → Awaits (S w .args .self) (ends (view lists (plain (S w .args .self))) (S w .args .p) (S w .args .n)) (w .waiters .result .disc) (w .waiters .result .general)
+those : (w : tie.After-waiters)
+    → Awaits (S w .args .self) (ends (view lists (plain (S w .args .self))) (S w .args .p) (S w .args .n)) (w .waiters .result .disc)
+    (w .waiters .result .general)
 those w = w .waiters .ensures _ (ends-is (S w .args .self) (S w .args .p) (S w .args .n) _ (w .before .of-ending .ensures))
 
 held-requires : tie.Need-held-requires
@@ -30,7 +32,8 @@ returns c =
     let d = h .before .before in
     let w = d .before in
     let s = S w in
-    ended-off (s .args .self) (s .args .k) (s .args .p) (s .pre .orderly) _ (h .before .replace-all .ensures) _ (d .dismissed .ensures) _ _ _
+    ended-off (s .args .self) (s .args .k) (s .args .p) (s .pre .orderly) _ (h .before .replace-all .ensures) _
+    (d .dismissed .ensures) _ _ _
     (those w .disc) (those w .general) _ _ (h .held .ensures) (c .settled .ensures)
 
 pub ended-spec : {M : Type 1} → statement M

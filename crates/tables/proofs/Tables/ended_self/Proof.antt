@@ -14,7 +14,9 @@ use Rattle.tables.proofs.Tables.ended_self.Tie as tie
 abbrev S : tie.After-waiters → tie.Start
 S w = w .before .before .before .before
 
-those : (w : tie.After-waiters) → Awaits (S w .args .self) (ends (view lists (plain (S w .args .self))) (S w .args .p) 0) (w .waiters .result .disc) (w .waiters .result .general)
+those : (w : tie.After-waiters)
+    → Awaits (S w .args .self) (ends (view lists (plain (S w .args .self))) (S w .args .p) 0) (w .waiters .result .disc)
+    (w .waiters .result .general)
 those w = w .waiters .ensures _ (ends-is (S w .args .self) (S w .args .p) 0 _ (w .before .of-ending .ensures))
 
 long : (w : tie.After-waiters) → (length (w .waiters .result .disc .ids) ≡ 32) × (length (w .waiters .result .general .ids) ≡ 32)
@@ -31,7 +33,8 @@ returns c =
     let b = c .before .before in
     let w = b .before in
     record {
-      played = ended-itself _ _ _ _ (those w .disc) (those w .general) (S w .args .p) _ _ (b .becomes .ensures) (c .before .settled .ensures);
+      played = ended-itself _ _ _ _ (those w .disc) (those w .general) (S w .args .p) _ _ (b .becomes .ensures)
+          (c .before .settled .ensures);
       number = roused-number _ (S w .pre .orderly) _ _ _ (those w) _ (c .how-many .ensures) (long w .0) (long w .1);
     }
 

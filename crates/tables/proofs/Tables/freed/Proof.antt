@@ -12,14 +12,18 @@ use Rattle.tables.proofs.Tables.freed.Statement.{statement}
 use Rattle.tables.proofs.Tables.freed.Tie as tie
 
 roused-requires : tie.Need-roused-requires
-roused-requires c κs = let w = c .before in can-rouse _ (w .before .before .pre .orderly) _ _ _ (w .waiters .ensures _ (w .before .of-tracks .ensures)) _ (c .held .ensures .orderly)
+roused-requires c κs =
+    let w = c .before in
+    can-rouse _ (w .before .before .pre .orderly) _ _ _ (w .waiters .ensures _ (w .before .of-tracks .ensures)) _
+    (c .held .ensures .orderly)
 
 returns : tie.Need-returns
 returns c =
     let h = c .before in
     let w = h .before in
     let s = w .before .before in
-    played-on _ _ _ (held (holders (s .args .tracks)) ∷ []) (wake (woken (view lists (plain (s .args .self))) (frees (s .args .n)))) (h .held .ensures)
+    played-on _ _ _ (held (holders (s .args .tracks)) ∷ []) (wake (woken (view lists (plain (s .args .self))) (frees (s .args .n))))
+    (h .held .ensures)
     (roused _ (s .pre .orderly) _ _ _ (w .waiters .ensures _ (w .before .of-tracks .ensures)) _ _ (c .roused .ensures))
 
 pub freed-spec : {M : Type 1} → statement M

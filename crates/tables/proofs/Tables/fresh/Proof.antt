@@ -9,28 +9,38 @@ use Rattle.tables.proofs.Tables.fresh.Statement.{statement}
 use Rattle.tables.proofs.Tables.fresh.Tie as tie
 
 cast-empty : tie.Need-cast-empty
-cast-empty c = let s = c .before .before in omega (arith, sizes-true (s .args .tracks) (s .args .system) (s .args .numbers) (sym (c .before .is-sized .ensures) ∙ c .if1 .taken))
+cast-empty c =
+    let s = c .before .before in
+    omega (arith, sizes-true (s .args .tracks) (s .args .system) (s .args .numbers) (sym (c .before .is-sized .ensures) ∙ c .if1 .taken))
 
 cast-empty-2 : tie.Need-cast-empty-2
-cast-empty-2 c = let s = c .before .before in omega (arith, sizes-true (s .args .tracks) (s .args .system) (s .args .numbers) (sym (c .before .is-sized .ensures) ∙ c .if1 .taken))
+cast-empty-2 c =
+    let s = c .before .before in
+    omega (arith, sizes-true (s .args .tracks) (s .args .system) (s .args .numbers) (sym (c .before .is-sized .ensures) ∙ c .if1 .taken))
 
 cast-empty-3 : tie.Need-cast-empty-3
-cast-empty-3 c = let s = c .before .before in omega (arith, sizes-true (s .args .tracks) (s .args .system) (s .args .numbers) (sym (c .before .is-sized .ensures) ∙ c .if1 .taken))
+cast-empty-3 c =
+    let s = c .before .before in
+    omega (arith, sizes-true (s .args .tracks) (s .args .system) (s .args .numbers) (sym (c .before .is-sized .ensures) ∙ c .if1 .taken))
 
 empty-requires : tie.Need-empty-requires
-empty-requires c κs = let s = c .before .before in sizes-true (s .args .tracks) (s .args .system) (s .args .numbers) (sym (c .before .is-sized .ensures) ∙ c .if1 .taken)
+empty-requires c κs =
+    let s = c .before .before in
+    sizes-true (s .args .tracks) (s .args .system) (s .args .numbers) (sym (c .before .is-sized .ensures) ∙ c .if1 .taken)
 
 returns : tie.Need-returns
 returns c =
     let a = c .before .before in
     let s = a .before in
-    made-done (s .args .tracks) (s .args .system) (s .args .numbers) (c .empty .result) (sym (a .is-sized .ensures) ∙ c .before .if1 .taken) (c .empty .ensures)
+    made-done (s .args .tracks) (s .args .system) (s .args .numbers) (c .empty .result) (sym (a .is-sized .ensures) ∙ c .before .if1 .taken)
+    (c .empty .ensures)
 
 returns-2 : tie.Need-returns-2
 returns-2 c =
     let a = c .before .before in
     let s = a .before in
-    made-refused (s .args .tracks) (s .args .system) (s .args .numbers) (c .empty2 .result) (sym (a .is-sized .ensures) ∙ c .before .if1 .left) (c .empty2 .ensures)
+    made-refused (s .args .tracks) (s .args .system) (s .args .numbers) (c .empty2 .result)
+    (sym (a .is-sized .ensures) ∙ c .before .if1 .left) (c .empty2 .ensures)
 
 pub fresh-spec : {M : Type 1} → statement M
 fresh-spec =

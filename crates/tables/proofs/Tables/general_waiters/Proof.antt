@@ -17,7 +17,8 @@ without-requires c κs = listed-chain _ (c .before .before .pre) 3 (omega arith)
 sift-requires : tie.Need-sift-requires
 sift-requires c κs =
     let w = c .before .before in
-    listed-less _ (listed-chain _ (w .before .before .before .pre) 3 (omega arith) (omega arith) _ _ (w .before .chain-of .ensures)) (w .without .ensures)
+    listed-less _ (listed-chain _ (w .before .before .before .pre) 3 (omega arith) (omega arith) _ _ (w .before .chain-of .ensures))
+    (w .without .ensures)
 
 returns : tie.Need-returns
 returns c =

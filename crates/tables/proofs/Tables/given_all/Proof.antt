@@ -10,10 +10,16 @@ use Rattle.tables.proofs.Tables.given_all.Statement.{statement}
 use Rattle.tables.proofs.Tables.given_all.Tie as tie
 
 freed-requires : tie.Need-freed-requires
-freed-requires c κs = let s = c .before .before .before in can-hold _ _ _ (replaced-holds _ _ (s .pre .tracks) _ _ (c .replace-all .ensures)) (s .pre)
+freed-requires c κs =
+    let s = c .before .before .before in
+    can-hold _ _ _ (replaced-holds _ _ (s .pre .tracks) _ _ (c .replace-all .ensures)) (s .pre)
 
 returns : tie.Need-returns
-returns c = let f = c .before in let s = f .before .before .before in now-held _ _ _ (replaced-holds _ _ (s .pre .tracks) _ _ (f .replace-all .ensures)) (wake (woken (view lists (plain (s .args .self))) (frees (s .args .n)))) _ (c .freed .ensures)
+returns c =
+    let f = c .before in
+    let s = f .before .before .before in
+    now-held _ _ _ (replaced-holds _ _ (s .pre .tracks) _ _ (f .replace-all .ensures))
+    (wake (woken (view lists (plain (s .args .self))) (frees (s .args .n)))) _ (c .freed .ensures)
 
 pub given-all-spec : {M : Type 1} → statement M
 given-all-spec = tie.close (tie.spec (λ c κs. search needs) freed-requires returns)

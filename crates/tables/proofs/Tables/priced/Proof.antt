@@ -25,7 +25,8 @@ returns : tie.Need-returns
 returns c =
     let v = c .before in
     let x = v .before in
-    was-priced _ _ _ (start x .pre) (gone x .left .ensures) _ _ _ refl (x .with-priority .ensures) _ _ refl (v .amended .ensures) _ (c .entered .ensures)
+    was-priced _ _ _ (start x .pre) (gone x .left .ensures) _ _ _ refl (x .with-priority .ensures) _ _ refl (v .amended .ensures) _
+    (c .entered .ensures)
 
 pub priced-spec : {M : Type 1} → statement M
 priced-spec =

@@ -16,7 +16,8 @@ use Rattle.tables.proofs.Tables.released.Tie as tie
 abbrev S : tie.After-waiters → tie.Start
 S w = w .before .before
 
-those : (w : tie.After-waiters) → Awaits (S w .args .self) (clears (S w .args .r) (S w .args .dealt)) (w .waiters .result .disc) (w .waiters .result .general)
+those : (w : tie.After-waiters)
+    → Awaits (S w .args .self) (clears (S w .args .r) (S w .args .dealt)) (w .waiters .result .disc) (w .waiters .result .general)
 those w = w .waiters .ensures _ (w .before .of-number .ensures)
 
 long : (w : tie.After-waiters) → (length (w .waiters .result .disc .ids) ≡ 32) × (length (w .waiters .result .general .ids) ≡ 32)
@@ -37,7 +38,8 @@ returns c =
     let v = view lists (plain (s .args .self)) in
     record {
       played =
-          played-on _ _ _ (assigned v (s .args .r) (s .args .owner) (s .args .lock) ∷ []) (wake (woken v (clears (s .args .r) (s .args .dealt)))) (n .with-number .ensures)
+          played-on _ _ _ (assigned v (s .args .r) (s .args .owner) (s .args .lock) ∷ [])
+          (wake (woken v (clears (s .args .r) (s .args .dealt)))) (n .with-number .ensures)
           (roused _ (s .pre .orderly) _ _ _ (those w) _ _ (r .roused .ensures));
       number = roused-number _ (s .pre .orderly) _ _ _ (those w) _ (c .how-many .ensures) (long w .0) (long w .1);
     }

@@ -16,7 +16,8 @@ returns c =
     let w = n .before in
     let s = w .before .before .before in
     settled-on _ _ _ (s .pre .first .orderly) (w .without .ensures)
-    (wake (take (s .args .w .disc .len) (s .args .w .disc .ids)) ++ wake (take (s .args .w .general .len) (s .args .w .general .ids))) _ _ (n .numbered .ensures) (c .roused .ensures)
+    (wake (take (s .args .w .disc .len) (s .args .w .disc .ids)) ++ wake (take (s .args .w .general .len) (s .args .w .general .ids))) _ _
+    (n .numbered .ensures) (c .roused .ensures)
 
 pub settled-spec : {M : Type 1} → statement M
 settled-spec = tie.close (tie.spec (λ c κs. search needs) numbered-requires (λ c κs. search needs) returns)

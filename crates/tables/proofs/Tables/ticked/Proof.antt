@@ -13,7 +13,8 @@ returns-2 c =
     let m = c .before .before in
     let d = m .before in
     let s = d .before .before .before in
-    due-only (s .args .self) (s .args .p) (s .args .r) (s .args .now) (s .pre .orderly) (d .next-due .result) (d .next-due .ensures) (d .before .if1 .left)
+    due-only (s .args .self) (s .args .p) (s .args .r) (s .args .now) (s .pre .orderly) (d .next-due .result) (d .next-due .ensures)
+    (d .before .if1 .left)
     (m .timed .result) (m .timed .ensures) (c .if2 .taken)
 
 returns-3 : tie.Need-returns-3
@@ -22,7 +23,8 @@ returns-3 c =
     let m = e .before .before in
     let d = m .before in
     let s = d .before .before .before in
-    due-starts (s .args .self) (s .args .p) (s .args .r) (s .args .now) (s .pre .orderly) (d .next-due .result) (d .next-due .ensures) (d .before .if1 .left)
+    due-starts (s .args .self) (s .args .p) (s .args .r) (s .args .now) (s .pre .orderly) (d .next-due .result) (d .next-due .ensures)
+    (d .before .if1 .left)
     (m .timed .result) (m .timed .ensures) (c .becomes .result) (e .if2 .left) (c .becomes .ensures)
 
 pub ticked-spec : {M : Type 1} → statement M

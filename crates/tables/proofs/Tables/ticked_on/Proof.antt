@@ -1,4 +1,5 @@
--- `tables::Tables::ticked_on` meets its contract. The loop's invariant: what those from p on have still to do, done to the tables as they are, is what all have to do.
+-- `tables::Tables::ticked_on` meets its contract. The loop's invariant: what those from p on have still to do, done to the
+-- tables as they are, is what all have to do.
 -- The measure is what is left of the programs.
 -- Assumes nothing.
 use Prim.Native.Nat.{ℕ, _+_, _-_}
@@ -47,7 +48,8 @@ loop-again c =
     let i = r .before in
     let l = i .before in
     let now = S r .args .self .ledger .clock .ticks + 1 in
-    subst (λ (m : ℕ). Ticking (S r .args .self .ledger .programs) now (l .before .clocked .result) (l .loop .t) m (l .loop .p + 1)) (add-zero (l .loop .n))
+    subst (λ (m : ℕ). Ticking (S r .args .self .ledger .programs) now (l .before .clocked .result) (l .loop .t) m (l .loop .p + 1))
+    (add-zero (l .loop .n))
     (ticking-step _ _ _ _ _ _ _ refl (l .loop .inv) (i .loop-test .taken) 0 (l .loop .t)
     (starts-later (read r) now (c .if1 .taken)) (not-due (l .loop .t) (l .loop .p) (read r) now (l .loop .inv .orderly) (c .if1 .taken)))
 
@@ -55,7 +57,12 @@ add-n : tie.Need-add-n Inv-loop μ-loop
 add-n c =
     let r = c .before .before .before in
     let l = r .before .before in
-    omega (arith, l .loop .inv .few, l .loop .inv .high, starts-few (read r) (S r .args .self .ledger .clock .ticks + 1) (c .starts .result) (c .starts .ensures))
+    omega (
+      arith,
+      l .loop .inv .few,
+      l .loop .inv .high,
+      starts-few (read r) (S r .args .self .ledger .clock .ticks + 1) (c .starts .result) (c .starts .ensures),
+    )
 
 ticked-requires : tie.Need-ticked-requires Inv-loop μ-loop
 ticked-requires c κs =
@@ -80,7 +87,8 @@ loop-again-2 c =
     let r = k .before .before .before in
     let i = r .before in
     let l = i .before in
-    ticking-step _ _ _ _ _ _ _ refl (l .loop .inv) (i .loop-test .taken) (k .starts .result) (c .ticked .result) (k .starts .ensures) (c .ticked .ensures)
+    ticking-step _ _ _ _ _ _ _ refl (l .loop .inv) (i .loop-test .taken) (k .starts .result) (c .ticked .result) (k .starts .ensures)
+    (c .ticked .ensures)
 
 returns : tie.Need-returns Inv-loop μ-loop
 returns c =
@@ -92,5 +100,6 @@ pub ticked-on-spec : {M : Type 1} → statement M
 ticked-on-spec =
     tie.close
     (tie.spec Inv-loop μ-loop (λ c. omega arith) (λ c κs. search needs) loop-holds (λ c. search needs) (λ c. search needs) sub-r
-    (λ c. search needs) array-copy-out-r add-p loop-less loop-again (λ c κs. search needs) add-n ticked-requires add-p-2 loop-less-2 loop-again-2
+    (λ c. search needs) array-copy-out-r add-p loop-less loop-again
+    (λ c κs. search needs) add-n ticked-requires add-p-2 loop-less-2 loop-again-2
     returns)

@@ -1,4 +1,5 @@
--- `tables::Tables::wake` meets its contract: the invariant is `Waking`: what is left of the list, played on the tables as they are, is all of it played on those at the start.
+-- `tables::Tables::wake` meets its contract: the invariant is `Waking`: what is left of the list, played on the tables as they are, is
+-- all of it played on those at the start.
 -- Assumes nothing.
 use Prim.Native.Nat.{_-_}
 use mathlib.Core.Path.{_≡_}

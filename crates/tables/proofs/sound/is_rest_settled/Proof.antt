@@ -1,4 +1,5 @@
--- `tables::sound::is_rest_settled` meets its contract. The loop's invariant is `Seen`: the programs below p are settled. The measure is the programs left.
+-- `tables::sound::is_rest_settled` meets its contract. The loop's invariant is `Seen`: the programs below p are
+-- settled. The measure is the programs left.
 -- Assumes nothing.
 use Prim.Native.Nat.{_-_}
 use native.Mathlib.Omega.{arith}
@@ -32,7 +33,8 @@ loop-holds c =
 
 returns-3 : tie.Need-returns-3 Inv-loop μ-loop
 returns-3 c = let i = c .before .before .before .before .before in
-    seen-refused (i .before .loop .inv) (i .loop-test .taken) (c .before .is-settled .result) (c .before .is-settled .ensures) (c .if3 .taken)
+    seen-refused (i .before .loop .inv) (i .loop-test .taken) (c .before .is-settled .result) (c .before .is-settled .ensures)
+    (c .if3 .taken)
 
 loop-again : tie.Need-loop-again Inv-loop μ-loop
 loop-again c = let i = c .before .before .before .before .before in

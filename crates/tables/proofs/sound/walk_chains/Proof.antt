@@ -1,5 +1,6 @@
--- `tables::sound::walk_chains` meets its contract. The invariant of the loop over the states is `Sofar`: the chains of the states below are in order and marked; its measure is the
--- states left. That of a walk is `Going`: what was passed and marked; its measure is how many are not marked.
+-- `tables::sound::walk_chains` meets its contract. The invariant of the loop over the states is `Sofar`: the chains of the
+-- states below are in order and marked; its measure is the states left. That of a walk is `Going`: what was passed and marked;
+-- its measure is how many are not marked.
 -- Assumes nothing.
 use Prim.Native.Nat.{ℕ, _-_}
 use native.Mathlib.Omega.{arith}

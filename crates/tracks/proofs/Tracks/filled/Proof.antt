@@ -1,4 +1,5 @@
--- `tracks::Tracks::filled` meets its contract. The loop's invariant: the first k of the tracks are given, in the whole array. The measure is the tracks left.
+-- `tracks::Tracks::filled` meets its contract. The loop's invariant: the first k of the tracks are given, in the whole
+-- array. The measure is the tracks left.
 -- Assumes nothing.
 use Prim.Native.Nat.{ℕ, _-_, _≤_}
 use native.Mathlib.Omega.{arith}

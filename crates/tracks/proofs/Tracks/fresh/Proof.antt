@@ -1,4 +1,5 @@
--- `tracks::Tracks::fresh` meets its contract. The loop's invariant: the first i places are the system's, the others free. The measure is the places left.
+-- `tracks::Tracks::fresh` meets its contract. The loop's invariant: the first i places are the system's, the others
+-- free. The measure is the places left.
 -- Assumes nothing.
 use Prim.Native.Nat.{ℕ, _-_, _≤_}
 use native.Mathlib.Omega.{arith}
@@ -32,7 +33,8 @@ returns c =
     let l = c .before in
     let s = l .before in
     let i : l .loop .i ≡ s .args .own = omega arith in
-    made (s .args .all) (s .args .own) (l .loop .holders) (replicate (s .args .own) system ++ replicate (s .args .all - s .args .own) nobody)
+    made (s .args .all) (s .args .own) (l .loop .holders)
+    (replicate (s .args .own) system ++ replicate (s .args .all - s .args .own) nobody)
     (l .loop .inv .1
     ∙ ap (λ (k : ℕ). replicate k system ++ replicate (256 - k) nobody) i
     ∙ fresh-done system nobody 256 (s .args .all) (s .args .own) (s .pre .part) (s .pre .most))

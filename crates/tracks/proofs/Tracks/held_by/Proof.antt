@@ -1,4 +1,5 @@
--- `tracks::Tracks::held_by` meets its contract. The loop's invariant: those counted and those among the tracks left are all. The measure is the tracks left.
+-- `tracks::Tracks::held_by` meets its contract. The loop's invariant: those counted and those among the tracks left
+-- are all. The measure is the tracks left.
 -- Assumes nothing.
 use Prim.Native.Nat.{_+_, _-_, _≤_, _<_}
 use native.Mathlib.Omega.{arith}

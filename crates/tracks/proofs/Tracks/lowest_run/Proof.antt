@@ -1,4 +1,5 @@
--- `tracks::Tracks::lowest_run` meets its contract. The loop's invariant: what one pass knows at track i (`Sought`). The measure is the tracks left.
+-- `tracks::Tracks::lowest_run` meets its contract. The loop's invariant: what one pass knows at track i
+-- (`Sought`). The measure is the tracks left.
 -- Assumes nothing.
 use Prim.Native.Nat.{_-_}
 use native.Mathlib.Omega.{arith}
@@ -6,7 +7,8 @@ use borrow.Author.Needs.{needs}
 use mathlib.Core.Path.{sym}
 use lib.Seq.{getD-take}
 use Rattle.tracks.specs.Tracks.{nobody, holders}
-use Rattle.tracks.proofs.OnePass.{Sought, sought-first, sought-held, sought-free, sought-found, sought-none, lowest-empty, lowest-zero}
+use Rattle.tracks.proofs.OnePass.{Sought, sought-first, sought-held, sought-free, sought-found}
+use Rattle.tracks.proofs.OnePass.{sought-none, lowest-empty, lowest-zero}
 use Rattle.tracks.proofs.Tracks.lowest_run.Statement.{statement}
 use Rattle.tracks.proofs.Tracks.lowest_run.Tie as tie
 
@@ -45,7 +47,8 @@ returns-3 c =
     let s = l .before .before .before in
     let t = s .args .t1 in
     let is = getD-take (t .count) (t .holders) (l .loop .i) nobody (omega arith) in
-    sym (sought-found (s .args .n) (holders t) (l .loop .start) (l .loop .i) (l .loop .inv) (omega arith) (omega (arith, s .pre .long)) (omega arith))
+    sym (sought-found (s .args .n) (holders t) (l .loop .start) (l .loop .i) (l .loop .inv) (omega arith) (omega (arith, s .pre .long))
+    (omega arith))
 
 loop-again-2 : tie.Need-loop-again-2 Inv-loop μ-loop
 loop-again-2 c =

@@ -1,4 +1,5 @@
--- `tracks::Tracks::replace_all` meets its contract. The loop's invariant: the tracks before i have changed their holder. The measure is the tracks left.
+-- `tracks::Tracks::replace_all` meets its contract. The loop's invariant: the tracks before i have changed their
+-- holder. The measure is the tracks left.
 -- Assumes nothing.
 use Prim.Native.Nat.{ℕ, _-_, _≤_, _<_}
 use native.Mathlib.Omega.{arith}

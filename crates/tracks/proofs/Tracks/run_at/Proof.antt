@@ -1,4 +1,5 @@
--- `tracks::Tracks::run_at` meets its contract. The loop's invariant: what is left of the run, at the track reached, is what is asked. The measure is what is left.
+-- `tracks::Tracks::run_at` meets its contract. The loop's invariant: what is left of the run, at the track reached, is what
+-- is asked. The measure is what is left.
 -- Assumes nothing.
 use Prim.Native.Nat.{ℕ}
 use native.Mathlib.Omega.{arith}
@@ -43,7 +44,8 @@ loop-again c =
     let t = s .args .t1 in
     let is = getD-take (t .count) (t .holders) (l .loop .i) nobody (omega arith) in (
       l .loop .inv .0,
-      l .loop .inv .1 ∙ run-next (s .args .h) (l .loop .left) (l .loop .i) (holders (s .args .t1)) (omega arith) (omega arith) (omega arith),
+      l .loop .inv .1
+          ∙ run-next (s .args .h) (l .loop .left) (l .loop .i) (holders (s .args .t1)) (omega arith) (omega arith) (omega arith),
     )
 
 returns-3 : tie.Need-returns-3 Inv-loop μ-loop

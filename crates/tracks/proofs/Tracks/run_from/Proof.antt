@@ -1,4 +1,5 @@
--- `tracks::Tracks::run_from` meets its contract. The loop's invariant: the tracks from `first` to `last` are one holder's. The measure is the tracks left.
+-- `tracks::Tracks::run_from` meets its contract. The loop's invariant: the tracks from `first` to `last` are one
+-- holder's. The measure is the tracks left.
 -- Assumes nothing.
 use Prim.Native.Nat.{_+_, _-_, _≤_, _<_}
 use native.Mathlib.Omega.{arith}
@@ -12,7 +13,8 @@ use Rattle.tracks.proofs.Tracks.run_from.Statement.{statement}
 use Rattle.tracks.proofs.Tracks.run_from.Tie as tie
 
 abbrev Inv-loop : tie.InvT-loop
-Inv-loop first self end holder last₀ last = (first ≤ last) × (last < end) × (length (holders self) ≡ end) × Running (holders self) first holder last
+Inv-loop first self end holder last₀ last =
+    (first ≤ last) × (last < end) × (length (holders self) ≡ end) × Running (holders self) first holder last
 
 abbrev μ-loop : tie.MeasureT-loop
 μ-loop first self end holder last₀ last = end - last
@@ -26,7 +28,8 @@ loop-holds c =
       omega arith,
       omega (arith, s .pre .below),
       long,
-      run-start (holders t) (s .args .first) _ (omega (arith, s .pre .below)) (getD-take (t .count) (t .holders) (s .args .first) nobody (s .pre .below)),
+      run-start (holders t) (s .args .first) _ (omega (arith, s .pre .below))
+          (getD-take (t .count) (t .holders) (s .args .first) nobody (s .pre .below)),
     )
 
 -- what stands behind the last
@@ -38,13 +41,15 @@ returns : tie.Need-returns Inv-loop μ-loop
 returns c =
     let l = c .before .before .before in
     let s = l .before .before in
-    run-stops (holders (s .args .t1)) (s .args .first) _ (l .loop .last) (omega arith) (omega arith) (λ e. omega (arith, next l (omega arith))) (l .loop .inv .3)
+    run-stops (holders (s .args .t1)) (s .args .first) _ (l .loop .last) (omega arith) (omega arith)
+    (λ e. omega (arith, next l (omega arith))) (l .loop .inv .3)
 
 loop-again : tie.Need-loop-again Inv-loop μ-loop
 loop-again c =
     let l = c .before .before .before in
     let s = l .before .before in
-    let on = run-on (holders (s .args .t1)) (s .args .first) _ (l .loop .last) (omega arith) (next l (omega arith) ∙ c .if1 .left) (l .loop .inv .3) in
+    let on = run-on (holders (s .args .t1)) (s .args .first) _ (l .loop .last) (omega arith) (next l (omega arith) ∙ c .if1 .left)
+    (l .loop .inv .3) in
     (omega arith, omega arith, l .loop .inv .2, on)
 
 returns-2 : tie.Need-returns-2 Inv-loop μ-loop

@@ -22,7 +22,8 @@ loop-again c =
     let b = c .before .before .before in
     let r = c .larger in (
       omega arith,
-      tally-more (b .loop .inv .1) (r .result) (λ z. (omega (arith, r .ensures .left), omega (arith, r .ensures .right))) (λ z e. r .ensures .none z e),
+      tally-more (b .loop .inv .1) (r .result) (λ z. (omega (arith, r .ensures .left), omega (arith, r .ensures .right)))
+          (λ z e. r .ensures .none z e),
     )
 
 returns : tie.Need-returns Inv-loop μ-loop

@@ -24,14 +24,22 @@ mark : (c : tie.After-wide2 Inv-loop μ-loop) →
     let b = c .before .before .before .before .before in
     let a = b .before .args in
     c .wide2 .result ≡ getD (now (a .marks)) (getD (now (a .holders)) (b .loop .i) 0) 0
-mark c = c .wide2 .ensures .same ∙ ap (λ (x : ℕ). getD (now (c .before .before .before .before .before .before .args .marks)) x 0) (c .before .before .wide .ensures .same)
+mark c = c .wide2 .ensures .same
+    ∙ ap (λ (x : ℕ). getD (now (c .before .before .before .before .before .before .args .marks)) x 0)
+    (c .before .before .wide .ensures .same)
 
 loop-again : tie.Need-loop-again Inv-loop μ-loop
 loop-again c =
     let b = c .before .before .before .before .before in (
       omega arith,
       omega arith,
-      tally-more (b .loop .inv .2) _ (λ z. (omega arith, record { small = omega (arith, c .before .before .wide .ensures .same, c .before .before .wide .ensures .small); unmarked = omega (arith, mark c) })) (λ z s. omega (arith, mark c, s .unmarked)),
+      tally-more (b .loop .inv .2) _ (λ z. (
+        omega arith,
+        record {
+          small = omega (arith, c .before .before .wide .ensures .same, c .before .before .wide .ensures .small);
+          unmarked = omega (arith, mark c);
+        },
+      )) (λ z s. omega (arith, mark c, s .unmarked)),
     )
 
 returns : tie.Need-returns Inv-loop μ-loop
