@@ -10,13 +10,12 @@ use mathlib.Core.List.{List, [], _∷_}
 use lib.ListN.{length, getD}
 use lib.Seq.{ext-getD}
 use borrow.Author.Tests.{eq-eqb, ne-eqb}
-use Rattle.lists.specs.Lists.{same, count, remove}
-use Rattle.lists.proofs.Laws.{same-refl, count-remove}
+use Rattle.lists.specs.Lists.{same, count}
+use Rattle.lists.proofs.Laws.{same-refl}
 use Rattle.chains.specs.Links.{walk, rows, read, Leads, total}
-use Rattle.chains.specs.Inner.{Laid, left, CanEnter, CanLeave}
+use Rattle.chains.specs.Inner.{Laid}
 use Rattle.chains.proofs.Slots.{inner-count, chain-at}
-use Rattle.chains.proofs.Totals.{total-set, total-in, total-some}
-use Rattle.chains.proofs.Splices.{leave-who}
+use Rattle.chains.proofs.Totals.{total-in, total-some}
 
 -- a chain's length: a list of numbers from 1 to n, each at most once, has at most n
 below : ℕ → List ℕ → ℕ
@@ -132,26 +131,3 @@ head-first {l} {m} L s h n = go (getD m s []) (L .chain s h)
     go : (c : List ℕ) → Leads l s c → (ps : List ℕ) × (c ≡ getD l s 0 ∷ ps)
     go [] w = absurd (n w)
     go (q ∷ qs) w = (qs, ap (λ (x : ℕ). x ∷ qs) (sym (w .0)))
-
-pub head-none : {l : List ℕ} {m : List (List ℕ)} → Laid l m → (s : ℕ) → s < 7 → getD l s 0 ≡ 0 → getD m s [] ≡ []
-head-none {l} {m} L s h e = go (getD m s []) (L .chain s h) (no-zero L s)
-  where
-    go : (c : List ℕ) → Leads l s c → count 0 c ≡ 0 → c ≡ []
-    go [] w z = refl
-    go (q ∷ qs) w z = absurd (omega (arith, ap (same 0) (sym (w .0) ∙ e), same-refl 0))
-
--- what has left a chain can enter one
-pub leave-enter : {l l′ : List ℕ} {s p : ℕ} → CanLeave l s p → Laid l′ (left s p (read l)) → (t : ℕ) → t < 7 → CanEnter l′ t p
-leave-enter {l} {l′} {s} {p} C L t h = record {
-  laid = laid-self L;
-  state = h;
-  low = (leave-who C) .0;
-  high = (leave-who C) .1;
-  out = rw (laid-read L) (omega (
-    arith,
-    total-set p (read l) s (remove p (getD (read l) s [])) (omega (arith, length-read l, C .state)),
-    count-remove p p (getD (read l) s []) (C .there),
-    same-refl p,
-    C .laid .once p,
-  ));
-}

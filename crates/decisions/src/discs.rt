@@ -1,6 +1,5 @@
 // Tracks asked for, and given back: EXEC 4, 15, 5 and 16.
 ghost use Prim.Native.Nat.{ℕ};
-ghost use mathlib.Core.Path.{_≡_};
 ghost use mathlib.Core.List.{List};
 ghost use Rattle.tracks.specs.Inner.{Fit};
 ghost use Rattle.rules.specs.Plans.{View};

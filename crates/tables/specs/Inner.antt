@@ -3,24 +3,22 @@
 use Prim.Native.Nat.{ℕ, _+_, _-_, _≤_, _<_}
 use mathlib.Core.Path.{_≡_}
 use mathlib.Core.Logic.{_≢_}
-use mathlib.Core.Bool.{Bool, true, _&&_}
-use mathlib.Core.List.{List, [], _∷_, map}
+use mathlib.Core.Bool.{Bool, true}
+use mathlib.Core.List.{List, [], _∷_}
 use lib.ListN.{length, getD, set, take}
-use lib.Dec.{eqb}
 use Rattle.limits.specs.Limits as limits
 use Rattle.lists.specs.Lists.{count}
 use Rattle.clock.specs.Clock.{ceiling}
 use Rattle.records.specs.declared.Program.{Program}
 use Rattle.records.specs.declared.Numbers.{Numbers}
-use Rattle.records.specs.Records.{Known, all}
+use Rattle.records.specs.Records.{Known}
 use Rattle.records.specs.Inner as numbers
 use Rattle.tracks.specs.declared.Tracks.{Tracks}
 use Rattle.tracks.specs.Tracks.{holders}
 use Rattle.tracks.specs.Inner as tracks
 use Rattle.rules.specs.declared.Answer.{Answer}
-use Rattle.rules.specs.Book.{Book, at, stateOf, prioOf}
-use Rattle.rules.specs.Plans.{Event, clocked, Release, fromDisc, fromGeneral}
-use Rattle.rules.specs.Rules.{dueAt, ticked}
+use Rattle.rules.specs.Book.{at, stateOf, prioOf}
+use Rattle.rules.specs.Plans.{Event, Release, fromDisc, fromGeneral}
 use Rattle.rules.specs.Keeper.{lists, Entries, State, play, view}
 use Rattle.rules.specs.Replay.{Accounts}
 use Rattle.chains.specs.declared.Listing.{Listing}

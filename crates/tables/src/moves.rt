@@ -1,6 +1,5 @@
 // The steps that calls are made of: a program leaves its chain, enters one, has its record replaced; and the deeds made of these. Each step
 // takes the ledger and the links out of the tables once, changes them where they are, and puts tables together again.
-ghost use mathlib.Core.Path.{_≡_};
 ghost use mathlib.Core.List.{[], _∷_};
 ghost use Rattle.limits.specs.Limits.{scheduled, general};
 ghost use Rattle.records.specs.declared.Why.the-variants.{Nothing, Son};

@@ -1,5 +1,4 @@
 // The tracks by the runs that one holder has.
-ghost use mathlib.Core.Path.{_≡_};
 ghost use Rattle.tracks.specs.Tracks.{holders};
 ghost use Rattle.tracks.specs.Inner.{Within, RunFrom};
 use super::Tracks;

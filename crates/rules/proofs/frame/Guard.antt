@@ -14,7 +14,7 @@ use Rattle.records.specs.Records.{Known, find}
 use Rattle.rules.specs.Requests.{Request}
 use Rattle.rules.specs.Plans.{Deed, View, Release, releaseOf, eventsOf}
 use Rattle.rules.specs.Rules.{head, plan}
-use Rattle.rules.specs.Keeper.{lists, State, view, asks}
+use Rattle.rules.specs.Keeper.{lists, State, view}
 use Rattle.rules.specs.Sound.{Chains}
 use Rattle.rules.specs.Frame.{Party, calls, takes-name, ordered, son, started, timed, due, Woken, tracks-freed, reason-gone}
 use Rattle.rules.proofs.shared.Finding.{find-bears, unused-known, head-in}
@@ -60,7 +60,3 @@ chained-seen a C = record { within = λ s x. go s x (upTo 1 6 s) refl }
     go : (s x : ℕ) (b : Bool) → upTo 1 6 s ≡ b → 1 ≤ count x (cond b (getD (a .kept) s []) []) → Known x
     go s x true e h = let l = upTo-true 1 6 s e in C .within s x (l .0) (omega (arith, l .1)) h
     go s x false e h = absurd (omega arith)
-
-pub asks-known : (a : State lists) → Chains (a .book) (a .kept) → (q : Request)
-    → Upon (λ p d. Known p) (Unit {0}) (eventsOf (view lists a) (asks lists a q))
-asks-known a C = plan-known (view lists a) (chained-seen a C)

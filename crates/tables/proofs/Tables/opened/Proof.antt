@@ -1,7 +1,6 @@
 -- `tables::Tables::opened` meets its contract: the test of soundness is the book's and the chains' in another order.
 -- Assumes nothing.
 use mathlib.Core.Path.{refl}
-use native.Mathlib.Omega.{arith}
 use borrow.Author.Tests.{not-false}
 use borrow.Author.Needs.{needs}
 use Rattle.tables.proofs.Parted.{book-fails, book-passes}

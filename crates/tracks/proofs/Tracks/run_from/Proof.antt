@@ -4,7 +4,7 @@
 use Prim.Native.Nat.{_+_, _-_, _≤_, _<_}
 use native.Mathlib.Omega.{arith}
 use borrow.Author.Needs.{needs}
-use mathlib.Core.Path.{_≡_, sym, _∙_}
+use mathlib.Core.Path.{_≡_, _∙_}
 use lib.ListN.{length, getD}
 use lib.Seq.{getD-take, length-take-le}
 use Rattle.tracks.specs.Tracks.{nobody, holders}
