@@ -2,6 +2,7 @@
 ghost use Prim.Native.Nat.{_≤_};
 ghost use mathlib.Core.Path.{_≡_};
 ghost use lib.ListN.{take};
+ghost use Rattle.limits.specs.Limits.{mostNumbers};
 ghost use Rattle.lists.specs.Lists.{keep, remove};
 ghost use Rattle.records.specs.Records.{recordAt};
 ghost use Rattle.records.specs.Inner.{Fit};
@@ -32,7 +33,7 @@ impl Release {
 
     // Number r is cleared, or deallocated.
     pub fn of_number(r: usize, dealt: bool) -> Release
-        requires { ⌜ (1 ≤ r) × (r ≤ 16) ⌝ }
+        requires { ⌜ (1 ≤ r) × (r ≤ mostNumbers) ⌝ }
         ensures { λ x. ⌜ Releases x (clears r dealt) ⌝ }
     {
         let mut cleared = [false; MOST_NUMBERS];
@@ -53,11 +54,9 @@ impl Release {
     {
         let mut cleared = [false; MOST_NUMBERS];
         let count = numbers.count as usize;
-        let mut i: usize = 0;
-        while i < count {
+        for i in 0..count {
             let x = numbers.resources[i];
             cleared[i] = x.concerns(p);
-            i += 1;
         }
         Release {
             ended: p,
@@ -99,14 +98,12 @@ pub fn without(list: Listing, p: u8) -> Listing
     let n = list.len;
     let mut ids: [u8; MOST_PROGRAMS] = [0; MOST_PROGRAMS];
     let mut len: usize = 0;
-    let mut i: usize = 0;
-    while i < n {
+    for i in 0..n {
         let q = list.ids[i];
         if q != p {
             ids[len] = q;
             len += 1;
         }
-        i += 1;
     }
     Listing { ids: ids, len: len }
 }
@@ -120,8 +117,7 @@ pub fn sift(programs: [Program; MOST_PROGRAMS], list: Listing, release: Release)
     let n = list.len;
     let mut ids: [u8; MOST_PROGRAMS] = [0; MOST_PROGRAMS];
     let mut len: usize = 0;
-    let mut i: usize = 0;
-    while i < n {
+    for i in 0..n {
         let q = list.ids[i];
         let k = q as usize - 1;
         let r = programs[k];
@@ -130,7 +126,6 @@ pub fn sift(programs: [Program; MOST_PROGRAMS], list: Listing, release: Release)
             ids[len] = q;
             len += 1;
         }
-        i += 1;
     }
     Listing { ids: ids, len: len }
 }

@@ -5,6 +5,7 @@ use records::Numbers;
 use records::Resource;
 ghost use Prim.Native.Nat.{_≤_};
 ghost use mathlib.Core.Path.{_≡_};
+ghost use Rattle.limits.specs.Limits.{mostNumbers};
 ghost use Rattle.tracks.specs.Inner.{Tells, Serves};
 ghost use Rattle.ledger.specs.Inner.{strange, Strangers, Sits, Seated, Unowned, Numbered};
 
@@ -25,10 +26,8 @@ pub fn strangers(used: &[u8; MOST_PROGRAMS]) -> [u8; 256]
     let mut marks = [1u8; 256];
     marks[0] = 0;
     marks[Numbers::GLOBAL as usize] = 0;
-    let mut i: usize = 0;
-    while i < MOST_PROGRAMS {
+    for i in 0..MOST_PROGRAMS {
         marks[i + 1] = stranger(used[i]);
-        i += 1;
     }
     marks
 }
@@ -54,38 +53,34 @@ fn number_fits(x: Resource, marks: &[u8; 256]) -> bool
 }
 
 fn ours_ok(count: usize, resources: [Resource; MOST_NUMBERS], marks: &[u8; 256]) -> bool
-    requires { ⌜ count ≤ 16 ⌝ }
+    requires { ⌜ count ≤ mostNumbers ⌝ }
     ensures { λ r. ⌜ Tells r (Seated count (Serves (now (marks .entry))) resources) ⌝ }
 {
-    let mut i: usize = 0;
-    while i < count {
+    for i in 0..count {
         let x = resources[i];
         if !number_fits(x, marks) {
             return false;
         }
-        i += 1;
     }
     true
 }
 
 // Nobody owns or locks a number behind them: owners and locks sum up to 0.
 fn rest_ok(count: usize, resources: [Resource; MOST_NUMBERS]) -> bool
-    requires { ⌜ count ≤ 16 ⌝ }
+    requires { ⌜ count ≤ mostNumbers ⌝ }
     ensures { λ r. ⌜ Tells r (Unowned count resources) ⌝ }
 {
     let mut sum: usize = 0;
-    let mut i = count;
-    while i < MOST_NUMBERS {
+    for i in count..MOST_NUMBERS {
         let x = resources[i];
         sum += x.owner as usize + x.lock as usize;
-        i += 1;
     }
     sum == 0
 }
 
 // Every place of the numbers.
 pub fn numbers_ok(count: usize, resources: [Resource; MOST_NUMBERS], marks: &[u8; 256]) -> bool
-    requires { ⌜ count ≤ 16 ⌝ }
+    requires { ⌜ count ≤ mostNumbers ⌝ }
     ensures { λ r. ⌜ Tells r (Numbered count (Serves (now (marks .entry))) resources) ⌝ }
 {
     if !ours_ok(count, resources, marks) {

@@ -48,12 +48,10 @@ fn is_new(keys: &[u64; MOST_PROGRAMS], i: usize, mark: u8) -> bool
     if own == 0 {
         return true;
     }
-    let mut j: usize = 0;
-    while j < i {
+    for j in 0..i {
         if keys[j] == own {
             return false;
         }
-        j += 1;
     }
     true
 }
@@ -64,14 +62,12 @@ fn are_distinct(keys: &[u64; MOST_PROGRAMS], high: usize) -> bool
     ensures { λ r. ⌜ Tells r (Distinct (now (keys .entry))) ⌝ }
 {
     let mut seen = [0u8; 251];
-    let mut i: usize = 0;
-    while i < high {
+    for i in 0..high {
         let h = slot(keys[i]);
         if !is_new(keys, i, seen[h]) {
             return false;
         }
         seen[h] = 1;
-        i += 1;
     }
     true
 }
@@ -82,8 +78,7 @@ fn sons_ok(sons: &[u8; MOST_PROGRAMS], states: &[u8; MOST_PROGRAMS], high: usize
     ensures { λ r. ⌜ Tells r (Awaited (now (sons .entry)) (now (states .entry))) ⌝ }
 {
     let mut met = [0u8; MOST_PROGRAMS];
-    let mut i: usize = 0;
-    while i < high {
+    for i in 0..high {
         let son = sons[i];
         if son != 0 {
             let k = son as usize - 1;
@@ -95,7 +90,6 @@ fn sons_ok(sons: &[u8; MOST_PROGRAMS], states: &[u8; MOST_PROGRAMS], high: usize
             }
             met[k] = 1;
         }
-        i += 1;
     }
     true
 }
@@ -110,8 +104,7 @@ pub fn enrolled(programs: [Program; MOST_PROGRAMS], ticks: u64, all: u16, number
     let mut priorities = [0u16; MOST_PROGRAMS];
     let mut used = [0u8; MOST_PROGRAMS];
     let mut high: usize = 0;
-    let mut i: usize = 0;
-    while i < MOST_PROGRAMS {
+    for i in 0..MOST_PROGRAMS {
         let r = programs[i];
         if !record_fits(ticks, all, numbers, i + 1, r) {
             return Roll {
@@ -131,7 +124,6 @@ pub fn enrolled(programs: [Program; MOST_PROGRAMS], ticks: u64, all: u16, number
             used[i] = 1;
             high = i + 1;
         }
-        i += 1;
     }
     if !are_distinct(&names, high) {
         return Roll {

@@ -35,8 +35,7 @@ fn walk_chains(
     ensures { λ r. ⌜ Walks (ofProgram (now (states .entry))) (ofProgram (now (priorities .entry))) (now (links .entry)) (r .ok) (r .met) ⌝ }
 {
     let mut met: [u8; MOST_PROGRAMS] = [0; MOST_PROGRAMS];
-    let mut state = SCHEDULED;
-    while state <= SUSPENDED {
+    for state in SCHEDULED..=SUSPENDED {
         let mut least: u16 = 0;
         let mut n = wide(links[state as usize]);
         while n != 0 {
@@ -57,7 +56,6 @@ fn walk_chains(
             least = priority;
             n = wide(links[STATES + n]);
         }
-        state += 1;
     }
     Walked { ok: true, met }
 }
@@ -92,12 +90,10 @@ fn is_rest_settled(
     if links[STATES] != 0 {
         return false;
     }
-    let mut p: usize = 1;
-    while p <= MOST_PROGRAMS {
+    for p in 1..=MOST_PROGRAMS {
         if !is_settled(met[p - 1], links[STATES + p], states[p - 1]) {
             return false;
         }
-        p += 1;
     }
     true
 }

@@ -14,11 +14,9 @@ impl Tables {
     {
         let n = list.len;
         let mut t = self;
-        let mut i: usize = 0;
-        while i < n {
+        for i in 0..n {
             let p = list.ids[i];
             t = t.becomes(p, SCHEDULED, Why::Nothing);
-            i += 1;
         }
         t
     }
