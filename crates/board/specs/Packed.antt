@@ -12,6 +12,7 @@ use Rattle.records.specs.declared.Resource.{Resource}
 use Rattle.records.specs.declared.Why.{Why}
 use Rattle.records.specs.declared.Why.the-variants.{Nothing, Tracks, Son, Lock, Number}
 use Rattle.tracks.specs.Tracks.{places, tableAt}
+use Rattle.chains.specs.Links.{slots}
 use Rattle.tables.specs.declared.Tables.{Tables}
 
 -- a number in k bytes, the lowest first; and k bytes as a number
@@ -104,5 +105,5 @@ unpacked s = record {
     tracks = tableAt (figureAt 2 s 8) (figureAt 2 s 10) (take mostTracks (drop holdersPlace s));
     numbers = record { count = getD s 12 0; resources = map (λ i. resourceAt s (resourcesPlace + 2 * i)) (from 0 mostNumbers) };
   };
-  links = take 40 (drop linksPlace s);
+  links = take slots (drop linksPlace s);
 }

@@ -10,6 +10,7 @@ ghost use Rattle.tracks.specs.Tracks.{tableAt};
 ghost use Rattle.board.specs.Packed.{inBytes, figureAt, kindOf, countOf, whyOf, packProgram, programAt, packResource, resourceAt};
 ghost use Rattle.board.specs.Packed.{packed, unpacked, holdersPlace, resourcesPlace, linksPlace, programsPlace, packedLength};
 ghost use Rattle.board.specs.Board.{isPacked};
+use chains::SLOTS;
 use clock::Clock;
 use ledger::Ledger;
 use limits::MOST_NUMBERS;
@@ -127,11 +128,11 @@ fn tracks_at(s: &[u8]) -> Tracks
     Tracks::from_places(pair_at(s, 8), pair_at(s, 10), holders)
 }
 
-fn links_at(s: &[u8]) -> [u8; 40]
+fn links_at(s: &[u8]) -> [u8; SLOTS]
     requires { ⌜ packedLength ≤ length (now s) ⌝ }
     ensures { λ r. ⌜ r ≡ take 40 (drop linksPlace (now (s .entry))) ⌝ }
 {
-    let mut links = [0u8; 40];
+    let mut links = [0u8; SLOTS];
     text::put_bytes(&mut links, 0, &s[LINKS_PLACE..PROGRAMS_PLACE]);
     links
 }

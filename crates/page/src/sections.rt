@@ -9,6 +9,7 @@ ghost use Rattle.tracks.specs.Tracks.{holders};
 ghost use Rattle.page.specs.Page.{bytes, usedIn, recordLines, chainLines, heldLines, numberLines};
 use super::keys;
 use super::lines;
+use chains::SLOTS;
 use limits::MOST_PROGRAMS;
 use records::Numbers;
 use records::Program;
@@ -44,7 +45,7 @@ pub(crate) fn put_records(buf: &mut [u8], at: usize, programs: [Program; MOST_PR
 }
 
 // The chains of the states that are shown.
-pub(crate) fn put_chains(buf: &mut [u8], at: usize, links: [u8; 40]) -> usize
+pub(crate) fn put_chains(buf: &mut [u8], at: usize, links: [u8; SLOTS]) -> usize
     requires { ⌜ at + length (bytes (chainLines (read links))) ≤ length (now buf) ⌝ }
     ensures { λ r. ⌜ Wrote (now (buf .entry)) at (bytes (chainLines (read links))) (now (buf .exit)) r ⌝ }
 {

@@ -6,7 +6,7 @@ use lib.ListN.{length}
 use Rattle.limits.specs.Limits.{mostPrograms, mostTracks, mostNumbers}
 use Rattle.rules.specs.Rules.{head}
 use Rattle.rules.specs.Keeper.{lists, State, scheduledChain, fresh}
-use Rattle.chains.specs.Links.{read, linksOf}
+use Rattle.chains.specs.Links.{slots, read, linksOf}
 use Rattle.ledger.specs.Ledger.{bookOf, ledgerOf}
 use Rattle.tables.specs.declared.Tables.{Tables}
 
@@ -30,6 +30,6 @@ callerOf t = head (scheduledChain lists (plain t))
 -- the arrays of tables are as long as the code's types say: theorems about any tables ask this where a list could be longer or shorter
 pub record Arrays (t : Tables) : Type 0 where
   pub programs : length (t .ledger .programs) ≡ mostPrograms
-  pub links : length (t .links) ≡ 40
+  pub links : length (t .links) ≡ slots
   pub holders : length (t .ledger .tracks .holders) ≡ mostTracks
   pub resources : length (t .ledger .numbers .resources) ≡ mostNumbers

@@ -6,6 +6,7 @@ use mathlib.Core.Bool.{Bool, true, false, not, _&&_, _||_}
 use mathlib.Core.List.{List, []}
 use lib.ListN.{getD}
 use lib.Dec.{ltb, eqb}
+use Rattle.limits.specs.Limits.{dormant, suspended, states, mostPrograms}
 use Rattle.lists.specs.Lists.{count, Ascending}
 use Rattle.records.specs.declared.Program.{Program}
 use Rattle.records.specs.Records.{Known}
@@ -43,35 +44,35 @@ Unmet met c = (p : ℕ) → 1 ≤ count p c → getD met (p - 1) 0 ≡ 0
 
 -- what a walk along the chain of state s finds: whether it is in order and its programs were not met before; then they are marked
 pub record Walk (st pr : ℕ → ℕ) (l : List ℕ) (s : ℕ) (met : List ℕ) (ok : Bool) (marks : List ℕ) : Type 0 where
-  pub ordered : ok ≡ true → Ordered st pr l s (walk l s 32)
-  pub marked : ok ≡ true → (p : ℕ) → Known p → getD marks (p - 1) 0 ≡ getD met (p - 1) 0 + count p (walk l s 32)
-  pub refused : ok ≡ false → Ordered st pr l s (walk l s 32) → Unmet met (walk l s 32) → ⊥
+  pub ordered : ok ≡ true → Ordered st pr l s (walk l s mostPrograms)
+  pub marked : ok ≡ true → (p : ℕ) → Known p → getD marks (p - 1) 0 ≡ getD met (p - 1) 0 + count p (walk l s mostPrograms)
+  pub refused : ok ≡ false → Ordered st pr l s (walk l s mostPrograms) → Unmet met (walk l s mostPrograms) → ⊥
 
 -- the chains of states 1 to n are in order; how often p stands in them; and that is its mark
 abbrev pub AllOrdered : (ℕ → ℕ) → (ℕ → ℕ) → List ℕ → ℕ → Type 0
-AllOrdered st pr l n = (s : ℕ) → 1 ≤ s → s ≤ n → Ordered st pr l s (walk l s 32)
+AllOrdered st pr l n = (s : ℕ) → 1 ≤ s → s ≤ n → Ordered st pr l s (walk l s mostPrograms)
 
 abbrev pub standing : List ℕ → ℕ → ℕ → ℕ
 standing l zero p = 0
-standing l (suc n) p = count p (walk l (suc n) 32) + standing l n p
+standing l (suc n) p = count p (walk l (suc n) mostPrograms) + standing l n p
 
 abbrev pub Marked : List ℕ → ℕ → List ℕ → Type 0
 Marked l n marks = (p : ℕ) → Known p → getD marks (p - 1) 0 ≡ standing l n p
 
 pub record Walks (st pr : ℕ → ℕ) (l : List ℕ) (ok : Bool) (marks : List ℕ) : Type 0 where
-  pub ordered : ok ≡ true → AllOrdered st pr l 6
-  pub marked : ok ≡ true → Marked l 6 marks
-  pub refused : ok ≡ false → AllOrdered st pr l 6 → ⊥
+  pub ordered : ok ≡ true → AllOrdered st pr l suspended
+  pub marked : ok ≡ true → Marked l suspended marks
+  pub refused : ok ≡ false → AllOrdered st pr l suspended → ⊥
 
 -- who has no mark has link 0, and is in none of the states 1 to 6
 unfoldable pub settled : ℕ → ℕ → ℕ → Bool
-settled mark link state = not (eqb mark 0) || (eqb link 0 && (eqb state 0 || ltb 6 state))
+settled mark link state = not (eqb mark 0) || (eqb link 0 && (eqb state dormant || ltb suspended state))
 
 -- that of every program, and the heads of no chain are 0
 pub record Rest (st : ℕ → ℕ) (l : List ℕ) (marks : List ℕ) : Type 0 where
-  pub dormant : getD l 0 0 ≡ 0
-  pub nobody : getD l 7 0 ≡ 0
-  pub others : (p : ℕ) → Known p → settled (getD marks (p - 1) 0) (getD l (7 + p) 0) (st p) ≡ true
+  pub dormant : getD l dormant 0 ≡ 0
+  pub nobody : getD l states 0 ≡ 0
+  pub others : (p : ℕ) → Known p → settled (getD marks (p - 1) 0) (getD l (states + p) 0) (st p) ≡ true
 
 pub record Rests (st : ℕ → ℕ) (l : List ℕ) (marks : List ℕ) (ok : Bool) : Type 0 where
   pub fine : ok ≡ true → Rest st l marks
