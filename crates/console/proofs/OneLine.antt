@@ -73,17 +73,17 @@ line-alike : {v w : Written} → Alike v w → answerLine v ≡ answerLine w
 unfolding answerLine
 line-alike {v} h = λ i. answerLine (record { number = h .number i; values = h .values i; tables = v .tables; buffer = v .buffer })
 
-pub keyed-alike : (t : Tables) (l a b : List ℕ) → (sound t ≡ true → length (page (plain t)) ≤ length a)
-    → (sound t ≡ true → length (page (plain t)) ≤ length b)
+pub keyed-alike : (t : Tables) (l a b : List ℕ) → (lineOf l ≡ PAGE → sound t ≡ true → length (page (plain t)) ≤ length a)
+    → (lineOf l ≡ PAGE → sound t ≡ true → length (page (plain t)) ≤ length b)
     → Alike (keyed t l a) (keyed t l b)
 unfolding keyedIn
-keyed-alike t l a b ha hb = go (sound t) refl (lineOf l)
+keyed-alike t l a b ha hb = go (sound t) refl (lineOf l) refl
   where
-    go : (s : Bool) → sound t ≡ s → (x : Line) → Alike (doing s t a x) (doing s t b x)
-    go true e bad = record { number = refl; values = refl; tables = refl }
-    go true e PAGE = rw (paged-done t a e (ha e), paged-done t b e (hb e)) (record { number = refl; values = refl; tables = refl })
-    go true e (asks q) = record { number = refl; values = refl; tables = refl }
-    go false e x = record { number = refl; values = refl; tables = refl }
+    go : (s : Bool) → sound t ≡ s → (x : Line) → lineOf l ≡ x → Alike (doing s t a x) (doing s t b x)
+    go true e bad p = record { number = refl; values = refl; tables = refl }
+    go true e PAGE p = rw (paged-done t a e (ha p e), paged-done t b e (hb p e)) (record { number = refl; values = refl; tables = refl })
+    go true e (asks q) p = record { number = refl; values = refl; tables = refl }
+    go false e x p = record { number = refl; values = refl; tables = refl }
 
 -- what is printed, by what stands at the front
 abbrev pub printing : List ℕ → Tables → List ℕ → Written
@@ -124,9 +124,12 @@ printed-fits t l out after r e same = go (decLt (length out) pageRoom)
           front-fits (shown (lineOf l) t (keyed t l lent)) out (ap length (sym (ap (λ (v : Written). v .buffer) (e ∙ f))) ∙ same),
         )
 
-module _ (t : Tables) (l out : List ℕ) (big : pageRoom ≤ length out) (fits : sound t ≡ true → length (page (plain t)) ≤ pageRoom) where
+-- only of a line that asks for the page need it be known that the page fits
+module _ (t : Tables) (l out : List ℕ) (big : pageRoom ≤ length out)
+    (fits : lineOf l ≡ PAGE → sound t ≡ true → length (page (plain t)) ≤ pageRoom) where
   pub keyed-lent : Alike (keyed t l out) (keyed t l lent)
-  keyed-lent = keyed-alike t l out lent (λ e. omega (arith, fits e)) (λ e. omega (arith, fits e, length-replicate {A = ℕ} pageRoom 0))
+  keyed-lent =
+      keyed-alike t l out lent (λ p e. omega (arith, fits p e)) (λ p e. omega (arith, fits p e, length-replicate {A = ℕ} pageRoom 0))
 
   shown-as : (bytes : List ℕ) → shown (lineOf l) t (keyed t l lent) ≡ bytes → lineShown t l out ≡ printing bytes (keyed t l out .tables) out
   shown-as bytes e = shown-long t l out big ∙ (λ i. printing (e i) (sym (keyed-lent .tables) i) out)
@@ -134,7 +137,7 @@ module _ (t : Tables) (l out : List ℕ) (big : pageRoom ≤ length out) (fits :
   -- PAGE on sound tables
   pub shown-page : sound t ≡ true → lineOf l ≡ PAGE → lineShown t l out ≡ printing (page (plain t)) t out
   shown-page e p =
-      let k = keyed-page t l e p lent (omega (arith, fits e, length-replicate {A = ℕ} pageRoom 0)) in
+      let k = keyed-page t l e p lent (omega (arith, fits p e, length-replicate {A = ℕ} pageRoom 0)) in
       shown-long t l out big ∙ (λ i. printing (shown (p i) t (k i)) (k i .tables) out)
 
   -- any other line, and PAGE on others
@@ -161,7 +164,7 @@ module _ (t : Tables) (l out : List ℕ) (big : pageRoom ≤ length out) (fits :
     module _ (n : ℕ) (p : lineOf l ≡ PAGE) (d : r .answer ≡ Done n) where
       done-keyed : beside after (told r)
           ≡ record { number = 0; values = length (page (plain t)) ∷ []; tables = t; buffer = front (page (plain t)) out }
-      done-keyed = let e = done-sound n d in same ∙ keyed-page t l e p out (omega (arith, fits e))
+      done-keyed = let e = done-sound n d in same ∙ keyed-page t l e p out (omega (arith, fits p e))
 
       pub printed-page : beside after (told r) ≡ lineShown t l out
       printed-page = done-keyed ∙ sym (shown-page (done-sound n d) p)
@@ -173,7 +176,7 @@ module _ (t : Tables) (l out : List ℕ) (big : pageRoom ≤ length out) (fits :
         where
           go : (s : Bool) → sound t ≡ s → s ≡ false
           go true e =
-              let k = same ∙ keyed-page t l e p out (omega (arith, fits e)) in
+              let k = same ∙ keyed-page t l e p out (omega (arith, fits p e)) in
               absurd (other p (length (page (plain t))) (one-answer (r .answer) (Done (length (page (plain t))))
               (ap (λ (w : Written). w .number) k) (ap (λ (w : Written). w .values) k)))
           go false e = refl

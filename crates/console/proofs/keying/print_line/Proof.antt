@@ -1,23 +1,13 @@
 -- `console::keying::print_line` meets its contract: a line that is not understood and a request leave the buffer, and the line for the
 -- answer goes to its front; PAGE is printed by itself. Assumes nothing.
-use Prim.Native.Nat.{ℕ, _≤_}
+use Prim.Native.Nat.{_≤_}
 use mathlib.Core.Path.{_≡_, refl, sym, ap, _∙_}
-use mathlib.Core.Bool.{true}
-use lib.ListN.{length, length-map}
+use lib.ListN.{length}
 use borrow.Author.Needs.{needs}
 use Rattle.limits.specs.Limits.{pageRoom}
-use Rattle.records.proofs.Program as program
-use Rattle.records.proofs.Resource as resource
-use Rattle.rules.specs.declared.Answer.the-variants.{Done}
-use Rattle.tables.specs.Tables.{plain, Arrays}
-use Rattle.tables.specs.Sound.{sound}
 use Rattle.tables.specs.declared.Outcome.{Outcome}
 use Rattle.tables.specs.Calls.{told}
-use Rattle.tables.proofs.Agree.{sound-clauses}
-use Rattle.tables.proofs.Plain.{sound-plain}
-use Rattle.page.specs.Page.{page}
 use Rattle.rules.specs.Engine.{beside}
-use Rattle.page.proofs.Room.{page-room}
 use Rattle.console.specs.declared.Said.{Said}
 use Rattle.console.specs.declared.Said.the-variants.{Bad, Asks}
 use Rattle.console.specs.Line.{PAGE, lineOf}
@@ -27,19 +17,6 @@ use Rattle.console.proofs.KeyLaws.{keyed-obeys, obeys-asks, obeys-bad, 
 use Rattle.console.proofs.OneLine.{shown-short, printed-room, printed-answer}
 use Rattle.console.proofs.keying.print_line.Statement.{statement}
 use Rattle.console.proofs.keying.print_line.Tie as tie
-
-arrays : (s : tie.Start) → Arrays (s .args .tables)
-arrays s = record {
-  programs = sym (length-map (s .args .tables .ledger .programs) (program.the-field .into)) ∙ s .good .0 .1 .1 .0 .1 .1 .0 .1 .0 .1;
-  links = search needs;
-  holders = search needs;
-  resources = sym (length-map (s .args .tables .ledger .numbers .resources) (resource.the-field .into))
-      ∙ s .good .0 .1 .1 .0 .1 .1 .1 .1 .1 .0 .1 .1 .1 .0 .1 .0 .1;
-}
-
--- no page is longer than what is lent
-fits : (s : tie.Start) → sound (s .args .tables) ≡ true → length (page (plain (s .args .tables))) ≤ pageRoom
-fits s e = let t = s .args .tables in page-room (plain t) (sound-plain t (arrays s) (sound-clauses t e))
 
 abbrev S : tie.After-name → tie.Start
 S n = n .before .before .before .before .before
@@ -82,22 +59,22 @@ same1 r =
     let a = S (Name1 r) .args in
     same (Name1 r) (told1 r) (Outcome1 r) (ap (beside (a .out .now)) (r .refusal .ensures) ∙ sym (obeys-bad (a .tables) (a .out .now)))
 
-other1 : (r : tie.After-refusal) → lineOf (S (Name1 r) .args .line .now) ≡ PAGE → (n : ℕ) → r .refusal .result ≡ Done n → ⊥
-other1 r p n e = page-unsaid (Name1 r .before .command-of .result .name) Bad refl (sym (said (Name1 r) (told1 r)) ∙ p)
+other1 : (r : tie.After-refusal) → lineOf (S (Name1 r) .args .line .now) ≡ PAGE → ⊥
+other1 r p = page-unsaid (Name1 r .before .command-of .result .name) Bad refl (sym (said (Name1 r) (told1 r)) ∙ p)
 
 put-answer-requires : tie.Need-put-answer-requires
 put-answer-requires r κs =
     let a = S (Name1 r) .args in
-    printed-room (a .tables) (a .line .now) (a .out .now) (big (Name1 r)) (fits (S (Name1 r))) (Outcome1 r) (a .out .now)
-    (same1 r) (other1 r)
+    printed-room (a .tables) (a .line .now) (a .out .now) (big (Name1 r)) (λ p. absurd (other1 r p)) (Outcome1 r) (a .out .now)
+    (same1 r) (λ p. absurd (other1 r p))
 
 returns-2 : tie.Need-returns-2
 returns-2 c =
     let u = c .before .before in
     let r = u .before in
     let a = S (Name1 r) .args in
-    printed-answer (a .tables) (a .line .now) (a .out .now) (big (Name1 r)) (fits (S (Name1 r))) (Outcome1 r) (a .out .now) (same1 r)
-    (other1 r) (u .put-answer .last .0) (u .put-answer .result) (u .put-answer .ensures)
+    printed-answer (a .tables) (a .line .now) (a .out .now) (big (Name1 r)) (λ p. absurd (other1 r p)) (Outcome1 r) (a .out .now) (same1 r)
+    (λ p. absurd (other1 r p)) (u .put-answer .last .0) (u .put-answer .result) (u .put-answer .ensures)
 
 -- PAGE
 print-page-requires : tie.Need-print-page-requires
@@ -120,8 +97,8 @@ same3 k =
     same (Name3 k) (k .before .before .said .given .1) (k .ask .result)
     (ap (beside (a .out .now)) (k .ask .ensures) ∙ sym (obeys-asks (a .tables) (a .out .now) _))
 
-other3 : (k : tie.After-ask) → lineOf (S (Name3 k) .args .line .now) ≡ PAGE → (n : ℕ) → k .ask .result .answer ≡ Done n → ⊥
-other3 k p n e =
+other3 : (k : tie.After-ask) → lineOf (S (Name3 k) .args .line .now) ≡ PAGE → ⊥
+other3 k p =
     let g = k .before .before .said .given in
     page-unsaid (Name3 k .before .command-of .result .name) (Asks (g .0 .0)) refl (sym (said (Name3 k) (g .1)) ∙ p)
 
@@ -129,16 +106,17 @@ put-answer-requires-2 : tie.Need-put-answer-requires-2
 put-answer-requires-2 c κs =
     let k = c .before .before in
     let a = S (Name3 k) .args in
-    printed-room (a .tables) (a .line .now) (a .out .now) (big (Name3 k)) (fits (S (Name3 k))) (k .ask .result) (a .out .now)
-    (same3 k) (other3 k)
+    printed-room (a .tables) (a .line .now) (a .out .now) (big (Name3 k)) (λ p. absurd (other3 k p)) (k .ask .result) (a .out .now)
+    (same3 k) (λ p. absurd (other3 k p))
 
 returns-4 : tie.Need-returns-4
 returns-4 c =
     let u = c .before .before in
     let k = u .before .before .before in
     let a = S (Name3 k) .args in
-    printed-answer (a .tables) (a .line .now) (a .out .now) (big (Name3 k)) (fits (S (Name3 k))) (k .ask .result) (a .out .now) (same3 k)
-    (other3 k) (u .put-answer2 .last .0) (u .put-answer2 .result) (u .put-answer2 .ensures)
+    printed-answer (a .tables) (a .line .now) (a .out .now) (big (Name3 k)) (λ p. absurd (other3 k p)) (k .ask .result)
+    (a .out .now) (same3 k)
+    (λ p. absurd (other3 k p)) (u .put-answer2 .last .0) (u .put-answer2 .result) (u .put-answer2 .ensures)
 
 pub print-line-spec : {M : Type 1} → statement M
 print-line-spec =

@@ -66,14 +66,14 @@ returns c =
     let a = S w .args in
     let d = c .enum-told .given in
     λ l p.
-    printed-page (a .tables) l (a .out .now) (S w .pre) (fits (S w)) (w .write-page .result) (After w) (same w l p) (d .0 .0) p (d .1)
+    printed-page (a .tables) l (a .out .now) (S w .pre) (λ q. fits (S w)) (w .write-page .result) (After w) (same w l p) (d .0 .0) p (d .1)
 
 put-answer-requires : tie.Need-put-answer-requires
 put-answer-requires c κs =
     let k = c .before in
     let w = Written (k .before) in
     let a = S w .args in
-    printed-room (a .tables) _ (a .out .now) (S w .pre) (fits (S w)) (w .write-page .result) (After w) (same w _ page-line)
+    printed-room (a .tables) _ (a .out .now) (S w .pre) (λ q. fits (S w)) (w .write-page .result) (After w) (same w _ page-line)
     (λ q. done-not (w .write-page .result .answer) (k .match .keys2))
 
 returns-2 : tie.Need-returns-2
@@ -83,7 +83,7 @@ returns-2 c =
     let w = Written (k .before) in
     let a = S w .args in
     λ l p.
-    printed-answer (a .tables) l (a .out .now) (S w .pre) (fits (S w)) (w .write-page .result) (After w) (same w l p)
+    printed-answer (a .tables) l (a .out .now) (S w .pre) (λ q. fits (S w)) (w .write-page .result) (After w) (same w l p)
     (λ q. done-not (w .write-page .result .answer) (k .match .keys2))
     (u .put-answer .last .0) (u .put-answer .result) (u .put-answer .ensures)
 
