@@ -46,3 +46,7 @@ longestLine = 72
 
 abbrev pub pageRoom : ℕ
 pageRoom = 8192
+
+-- the digits of a number on a page, at most
+abbrev pub pageDigits : ℕ
+pageDigits = 13

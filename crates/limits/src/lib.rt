@@ -32,3 +32,6 @@ pub const MOST_UNITS: u64 = 4095;
 pub const LONGEST_LINE: usize = 72;
 
 pub const PAGE_ROOM: usize = 8192;
+
+// The digits of a number on a page, at most.
+pub const PAGE_DIGITS: usize = 13;

@@ -52,25 +52,53 @@ numberKey = "number"
 abbrev pub endKey : String
 endKey = "end"
 
--- the states whose chains are shown
+-- the states whose chains are shown; the key is `chain` and the state's digit
 abbrev pub chained : List ℕ
 chained = scheduled ∷ general ∷ disc ∷ suspended ∷ []
+
+abbrev pub keyOfChain : ℕ → List ℕ
+keyOfChain s = text chainKey ++ decimal s
+
+-- THE WORDS that values have: the first line's, the last line's, for none, for global, and before the number of each reason
+abbrev pub firstWord : String
+firstWord = "rte2"
+
+abbrev pub lastWord : String
+lastWord = "page"
+
+abbrev pub dash : String
+dash = "-"
+
+abbrev pub globalWord : String
+globalWord = "global"
+
+abbrev pub tracksWord : String
+tracksWord = "tracks:"
+
+abbrev pub sonWord : String
+sonWord = "son:"
+
+abbrev pub lockWord : String
+lockWord = "lock:"
+
+abbrev pub anyNumber : String
+anyNumber = "number"
 
 -- VALUES
 -- a number that may be absent
 abbrev pub orDash : Bool → ℕ → List ℕ
-orDash there n = cond there (decimal n) (text "-")
+orDash there n = cond there (decimal n) (text dash)
 
 -- a holder or an owner: a number or `global`
 abbrev pub party : ℕ → List ℕ
-party h = cond (eqb h globally) (text "global") (decimal h)
+party h = cond (eqb h globally) (text globalWord) (decimal h)
 
 abbrev pub reason : Why → List ℕ
-reason Nothing = text "-"
-reason (Tracks n) = text "tracks:" ++ decimal n
-reason (Son k) = text "son:" ++ decimal k
-reason (Lock r) = text "lock:" ++ decimal r
-reason Number = text "number"
+reason Nothing = text dash
+reason (Tracks n) = text tracksWord ++ decimal n
+reason (Son k) = text sonWord ++ decimal k
+reason (Lock r) = text lockWord ++ decimal r
+reason Number = text anyNumber
 
 -- LINES
 abbrev pub line : String → List ℕ → Line
@@ -83,7 +111,7 @@ paired (k ∷ ks) [] = []
 paired (k ∷ ks) (v ∷ vs) = line k v ∷ paired ks vs
 
 abbrev pub headLines : ℕ → ℕ → ℕ → ℕ → ℕ → List Line
-headLines clock T S R n = paired headKeys (text "rte2" ∷ decimal clock ∷ decimal T ∷ decimal S ∷ decimal R ∷ decimal n ∷ [])
+headLines clock T S R n = paired headKeys (text firstWord ∷ decimal clock ∷ decimal T ∷ decimal S ∷ decimal R ∷ decimal n ∷ [])
 
 -- the numbers of the used records, upward
 unfoldable pub usedIn : List Program → List ℕ
@@ -99,9 +127,9 @@ recorded p r =
 unfoldable pub recordLines : List Program → List Line
 recordLines ps = join (map (λ p. recorded p (recordAt ps p)) (usedIn ps))
 
--- `chain` and the state's digit; the programs joined by commas
+-- the programs joined by commas
 abbrev pub chainLine : ℕ → List ℕ → Line
-chainLine s c = record { key = text chainKey ++ decimal s; value = between 44 (map decimal c) }
+chainLine s c = record { key = keyOfChain s; value = between 44 (map decimal c) }
 
 unfoldable pub chainLines : List (List ℕ) → List Line
 chainLines m = map (λ s. chainLine s (getD m s [])) chained
@@ -129,7 +157,7 @@ abbrev pub parts : State lists → List (List Line)
 parts a =
     let b : Book = a .book in
     headLines (b .clock) (b .tracks) (b .system) (b .numbers) (length (usedIn (b .programs))) ∷ recordLines (b .programs)
-    ∷ chainLines (a .kept) ∷ heldLines (b .holders) ∷ numberLines (b .numbers) (b .resources) ∷ (line endKey (text "page") ∷ []) ∷ []
+    ∷ chainLines (a .kept) ∷ heldLines (b .holders) ∷ numberLines (b .numbers) (b .resources) ∷ (line endKey (text lastWord) ∷ []) ∷ []
 
 unfoldable pub lines : State lists → List Line
 lines a = join (parts a)

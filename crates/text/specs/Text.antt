@@ -43,6 +43,12 @@ unfoldable pub parts : ℕ → List ℕ → List (List ℕ)
 parts d [] = [] ∷ []
 parts d (x ∷ xs) = cond (eqb x d) ([] ∷ parts d xs) (onFirst x (parts d xs))
 
+-- what stands behind a word that a text begins with
+unfoldable pub behind : List ℕ → List ℕ → Option (List ℕ)
+behind [] s = some s
+behind (w ∷ ws) [] = none
+behind (w ∷ ws) (c ∷ cs) = elim (eqb w c) [ true ↦ behind ws cs | false ↦ none ]
+
 -- texts with a byte between each two
 abbrev pub between : ℕ → List (List ℕ) → List ℕ
 between d [] = []

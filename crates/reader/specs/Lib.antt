@@ -1,0 +1,4 @@
+pub mod Shapes
+pub mod Order
+pub mod Said
+pub mod Reading

@@ -1,0 +1,130 @@
+-- WHICH LINE MAY COME NEXT on a page (OUTLINE, "The page and the console line"), and the first one that may not. A line is well
+-- formed exactly when its key may come next and its value has the key's shape.
+-- Assumes nothing.
+use Prim.Native.Nat.{ℕ, zero, suc}
+use Prim.Native.String.{String}
+use mathlib.Core.Bool.{Bool, true, false}
+use mathlib.Core.List.{List, [], _∷_, _++_, map}
+use mathlib.Core.Option.{Option, none, some}
+use Rattle.lists.specs.Lists.{alike}
+use Rattle.text.specs.Text.{text, behind}
+use Rattle.records.specs.Names.{nameOf}
+use Rattle.page.specs.Page.{headKeys, recordKeys, heldKey, numberKey, endKey, chained, keyOfChain, firstWord, lastWord}
+use Rattle.reader.specs.Shapes.{there, the, figure, figureOrDash, reasonOf, listed, runIn, numbered}
+
+-- a kind of line: its key, and whether a value has its shape
+pub record Form : Type 0 where
+  pub key : List ℕ
+  pub shape : List ℕ → Bool
+
+abbrev pub form : String → (List ℕ → Bool) → Form
+form key shape = record { key = text key; shape = shape }
+
+-- each key with the shape at its place
+abbrev pub formed : List String → List (List ℕ → Bool) → List Form
+formed [] ss = []
+formed (k ∷ ks) [] = []
+formed (k ∷ ks) (s ∷ ss) = form k s ∷ formed ks ss
+
+abbrev pub number : List ℕ → Bool
+number v = there (figure v)
+
+abbrev pub numberOrDash : List ℕ → Bool
+numberOrDash v = there (figureOrDash v)
+
+abbrev pub headForms : List Form
+headForms = formed headKeys ((λ v. alike v (text firstWord)) ∷ number ∷ number ∷ number ∷ number ∷ number ∷ [])
+
+abbrev pub recordForms : List Form
+recordForms =
+    formed recordKeys
+    (number ∷ (λ v. there (nameOf v)) ∷ number ∷ number ∷ (λ v. there (reasonOf v)) ∷ numberOrDash ∷ numberOrDash ∷ [])
+
+abbrev pub chainForms : List Form
+chainForms = map (λ s. record { key = keyOfChain s; shape = λ v. there (listed v) }) chained
+
+abbrev pub heldForm : Form
+heldForm = form heldKey (λ v. there (runIn v))
+
+abbrev pub numberForm : Form
+numberForm = form numberKey (λ v. there (numbered v))
+
+abbrev pub endForm : Form
+endForm = form endKey (λ v. alike v (text lastWord))
+
+-- where a reader of the page stands
+pub data Place : Type 0 where
+  heading : List Form → Place  -- these lines of the head come, and then the records
+  recording : List Form → ℕ → Place  -- these lines of a record, and then so many records
+  chaining : List Form → Place  -- these chains, and then what is held
+  holding : Place  -- tracks that are held, as many as there are; or what may stand behind them
+  numbering : Place  -- numbers, as many as there are; or the last line
+  ended : Place  -- nothing
+
+-- n records come, and then the chains
+abbrev pub records : ℕ → Place
+records zero = chaining chainForms
+records (suc n) = recording recordForms n
+
+-- a kind of line that may come, and where the reader stands behind it, by its value
+pub record Choice : Type 0 where
+  pub kind : Form
+  pub then : List ℕ → Place
+
+abbrev pub _⇒_ : Form → Place → Choice
+_⇒_ f p = record { kind = f; then = λ v. p }
+
+infixl 90 _⇒_
+-- the kinds that may come: the records as many as the head's last line says
+abbrev pub mayCome : Place → List Choice
+mayCome (heading []) = []
+mayCome (heading (f ∷ [])) = record { kind = f; then = λ v. records (the 0 (figure v)) } ∷ []
+mayCome (heading (f ∷ g ∷ fs)) = f ⇒ heading (g ∷ fs) ∷ []
+mayCome (recording [] n) = []
+mayCome (recording (f ∷ []) n) = f ⇒ records n ∷ []
+mayCome (recording (f ∷ g ∷ fs) n) = f ⇒ recording (g ∷ fs) n ∷ []
+mayCome (chaining []) = []
+mayCome (chaining (f ∷ [])) = f ⇒ holding ∷ []
+mayCome (chaining (f ∷ g ∷ fs)) = f ⇒ chaining (g ∷ fs) ∷ []
+mayCome holding = heldForm ⇒ holding ∷ numberForm ⇒ numbering ∷ endForm ⇒ ended ∷ []
+mayCome numbering = numberForm ⇒ numbering ∷ endForm ⇒ ended ∷ []
+mayCome ended = []
+
+-- what a line of that key has behind its `=`
+unfoldable pub valueBehind : List ℕ → List ℕ → Option (List ℕ)
+valueBehind key l = behind (key ++ (61 ∷ [])) l
+
+-- where the reader stands behind a line of one of these kinds: nowhere, where it is of none
+abbrev pub afterKind : Place → Bool → Option Place → Option Place
+afterKind p true o = some p
+afterKind p false o = o
+
+abbrev pub afterOne : List Choice → List ℕ → Option Place
+afterOne [] l = none
+afterOne (c ∷ cs) l =
+    elim (valueBehind (c .kind .key) l) [
+      | none ↦ afterOne cs l
+      | some v ↦ afterKind (c .then v) (c .kind .shape v) (afterOne cs l)
+    ]
+
+-- the place behind a line that is well formed at a place; none where it is not
+unfoldable pub behindLine : Place → List ℕ → Option Place
+unfolding valueBehind
+behindLine p l = afterOne (mayCome p) l
+
+-- The lines of a text are its parts between the bytes 10; behind the last byte 10 nothing stands. The first line, the next being line n,
+-- that is not well formed, or the line after the last where the page stops short; 0 where there is none.
+abbrev pub behindAll : Place → ℕ → List ℕ → ℕ
+behindAll ended n [] = 0
+behindAll ended n (c ∷ cs) = n
+behindAll (heading fs) n l = n
+behindAll (recording fs k) n l = n
+behindAll (chaining fs) n l = n
+behindAll holding n l = n
+behindAll numbering n l = n
+
+unfoldable pub firstBad : Place → ℕ → List (List ℕ) → ℕ
+unfolding behindLine
+firstBad p n [] = n
+firstBad p n (l ∷ []) = behindAll p n l
+firstBad p n (l ∷ m ∷ ls) = elim (behindLine p l) [ none ↦ n | some q ↦ firstBad q (suc n) (m ∷ ls) ]
