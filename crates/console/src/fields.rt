@@ -32,7 +32,7 @@ pub(crate) fn read_numbers(s: &[u8], at: usize, k: usize) -> Numbers
         return Numbers::Not;
     }
     let end = text::part_end(s, at, b',');
-    let Number::Is(n) = text::read_number(s, at, end) else {
+    let Number::Is(n) = text::read_number(s, at, end, 10) else {
         return Numbers::Not;
     };
     let Numbers::Are(a, b, _) = read_numbers(s, end + 1, k - 1) else {

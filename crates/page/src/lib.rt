@@ -1,5 +1,5 @@
 // The page: what the tables say, in lines of key=value.
-mod keys;
+pub mod keys;
 mod lines;
 mod sections;
 mod values;

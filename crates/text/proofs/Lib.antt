@@ -2,3 +2,4 @@ pub mod Laws
 pub mod Fields
 pub mod Read
 pub mod Exact
+pub mod Words

@@ -8,7 +8,9 @@ use lib.ListN.{length, drop}
 use lib.Seq.{sets, slice}
 use Rattle.text.specs.declared.Number.{Number}
 use Rattle.text.specs.declared.Number.the-variants.{Is, Not}
-use Rattle.text.specs.Text.{parts}
+use Rattle.text.specs.declared.Place.{Place}
+use Rattle.text.specs.declared.Place.the-variants as place
+use Rattle.text.specs.Text.{parts, behind}
 
 -- a number that was read, or none
 abbrev pub read : Number → Option ℕ
@@ -26,3 +28,14 @@ pub record PartEnd (d : ℕ) (s : List ℕ) (from e : ℕ) : Type 0 where
   pub high : e ≤ length s
   pub last : e ≡ length s → parts d (drop from s) ≡ slice from e s ∷ []
   pub more : e < length s → parts d (drop from s) ≡ slice from e s ∷ parts d (drop (e + 1) s)
+
+-- i is the place behind w, with which the bytes of s from `from` up to `to` begin
+pub record BehindAt (w s : List ℕ) (from to i : ℕ) : Type 0 where
+  pub place : i ≡ from + length w
+  pub high : i ≤ to
+  pub rest : behind w (slice from to s) ≡ some (slice i to s)
+
+-- r is the place behind w, or none where they do not begin with it
+pub record Behind (w s : List ℕ) (from to : ℕ) (r : Place) : Type 0 where
+  pub at : (i : ℕ) → r ≡ place.At i → BehindAt w s from to i
+  pub not : r ≡ place.Not → behind w (slice from to s) ≡ none

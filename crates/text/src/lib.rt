@@ -6,7 +6,7 @@ ghost use lib.ListN.{length};
 ghost use lib.Seq.{slice};
 ghost use Rattle.lists.specs.Lists.{alike};
 ghost use Rattle.text.specs.Text.{decimal, horner, numberOf, entry};
-ghost use Rattle.text.specs.Inner.{Wrote, PartEnd, read};
+ghost use Rattle.text.specs.Inner.{Wrote, PartEnd, Behind, read};
 
 // Puts b at `at`. Each function that puts bytes hands back the place behind them.
 pub fn put_byte(buf: &mut [u8], at: usize, b: u8) -> usize
@@ -103,6 +103,31 @@ pub fn is_word(s: &[u8], from: usize, to: usize, w: &[u8]) -> bool
     true
 }
 
+// The place behind a word, or none.
+pub enum Place {
+    At(usize),
+    Not,
+}
+
+// The place behind w, where s[from..to] begins with it.
+pub fn behind(s: &[u8], from: usize, to: usize, w: &[u8]) -> Place
+    requires { ⌜ from ≤ to ⌝ }
+    requires { ⌜ to ≤ length (now s) ⌝ }
+    ensures { λ r. ⌜ Behind (now (w .entry)) (now (s .entry)) from to r ⌝ }
+{
+    if to - from < w.len() {
+        return Place::Not;
+    }
+    let mut o = from;
+    for i in 0..w.len() {
+        if s[o] != w[i] {
+            return Place::Not;
+        }
+        o += 1;
+    }
+    Place::At(o)
+}
+
 // A number, or none where the bytes are not one.
 pub enum Number {
     Is(u64),
@@ -112,7 +137,7 @@ pub enum Number {
 // What the digits s[from..to] say.
 fn read_digits(s: &[u8], from: usize, to: usize) -> Number
     requires { ⌜ from ≤ to ⌝ }
-    requires { ⌜ to ≤ from + 10 ⌝ }
+    requires { ⌜ to ≤ from + 19 ⌝ }
     requires { ⌜ to ≤ length (now s) ⌝ }
     ensures { λ r. ⌜ read r ≡ horner 0 (slice from to (now (s .entry))) ⌝ }
 {
@@ -130,17 +155,18 @@ fn read_digits(s: &[u8], from: usize, to: usize) -> Number
     Number::Is(a)
 }
 
-// s[from..to] as a number of 1 to 10 digits without leading zeros.
-pub fn read_number(s: &[u8], from: usize, to: usize) -> Number
+// s[from..to] as a number of 1 to `most` digits without leading zeros.
+pub fn read_number(s: &[u8], from: usize, to: usize, most: usize) -> Number
     requires { ⌜ from ≤ to ⌝ }
     requires { ⌜ to ≤ length (now s) ⌝ }
-    ensures { λ r. ⌜ read r ≡ numberOf 10 (slice from to (now (s .entry))) ⌝ }
+    requires { ⌜ most ≤ 19 ⌝ }
+    ensures { λ r. ⌜ read r ≡ numberOf most (slice from to (now (s .entry))) ⌝ }
 {
     let n = to - from;
     if n == 0 {
         return Number::Not;
     }
-    if 10 < n {
+    if most < n {
         return Number::Not;
     }
     if n == 1 {

@@ -18,9 +18,9 @@ Inv-loop s from to a₀ i₀ a i = (from ≤ i) × (i ≤ to) × (a < ten (i - f
 abbrev μ-loop : tie.MeasureT-loop
 μ-loop s from to a₀ i₀ a i = to - i
 
--- in a turn a has at most 9 digits
-small : (c : tie.In-loop Inv-loop μ-loop) → c .before .loop .a < 1000000000
-small c = omega (arith, ten-mono (c .before .loop .i - c .before .before .args .from) 9 (omega arith))
+-- in a turn a has at most 18 digits
+small : (c : tie.In-loop Inv-loop μ-loop) → c .before .loop .a < 1000000000000000000
+small c = omega (arith, ten-mono (c .before .loop .i - c .before .before .args .from) 18 (omega arith))
 
 loop-holds : tie.Need-loop-holds Inv-loop μ-loop
 loop-holds c = (omega arith, omega arith, ten-mono 0 (c .args .from - c .args .from) (omega arith), refl)

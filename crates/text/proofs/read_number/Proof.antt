@@ -18,22 +18,22 @@ long : (s : tie.Start) → length (Part s) ≡ s .args .to - s .args .from
 long s = length-slice (s .args .from) (s .args .to) (s .args .s .now) (omega arith)
 
 returns : tie.Need-returns
-returns c = let s = c .before .before in sym (numberOf-none 10 (Part s) (omega (arith, long s)))
+returns c = let s = c .before .before in sym (numberOf-none (s .args .most) (Part s) (omega (arith, long s)))
 
 returns-2 : tie.Need-returns-2
-returns-2 c = let s = c .before .before .before in sym (numberOf-long 10 (Part s) (omega (arith, long s)))
+returns-2 c = let s = c .before .before .before in sym (numberOf-long (s .args .most) (Part s) (omega (arith, long s)))
 
 returns-3 : tie.Need-returns-3
 returns-3 c =
     let s = c .before .before .before .before .before in
     c .read-digits .ensures
-    ∙ sym (numberOf-plain 10 (Part s) (omega (arith, long s)) (omega (arith, long s)) (λ l q. omega (arith, long s)))
+    ∙ sym (numberOf-plain (s .args .most) (Part s) (omega (arith, long s)) (omega (arith, long s)) (λ l q. omega (arith, long s)))
 
 returns-4 : tie.Need-returns-4
 returns-4 c =
     let s = c .before .before .before .before .before .before in
     let a = s .args in
-    sym (numberOf-zero 10 (Part s) (omega (arith, long s))
+    sym (numberOf-zero (s .args .most) (Part s) (omega (arith, long s))
     (slice-head (a .s .now) (a .from) (a .to) (omega arith) (omega arith) ∙ c .if4 .taken))
 
 returns-5 : tie.Need-returns-5
@@ -42,7 +42,7 @@ returns-5 c =
     let a = s .args in
     let e = slice-head (a .s .now) (a .from) (a .to) (omega arith) (omega arith) in
     c .read-digits2 .ensures
-    ∙ sym (numberOf-plain 10 (Part s) (omega (arith, long s)) (omega (arith, long s)) (λ l q. c .before .if4 .left (sym e ∙ q)))
+    ∙ sym (numberOf-plain (s .args .most) (Part s) (omega (arith, long s)) (omega (arith, long s)) (λ l q. c .before .if4 .left (sym e ∙ q)))
 
 pub read-number-spec : {M : Type 1} → statement M
 read-number-spec =
