@@ -2,7 +2,6 @@ pub mod AnswerLaws
 pub mod LongLines
 pub mod LineEnds
 pub mod FieldLaws
-pub mod NameBytes
 pub mod WordLaws
 pub mod KeyLaws
 pub mod OneLine

@@ -3,6 +3,7 @@ ghost use Prim.Native.Nat.{_≤_};
 ghost use lib.ListN.{length};
 ghost use Rattle.limits.specs.Limits.{longestLine};
 ghost use Rattle.console.specs.Inner.{NumbersRead, NameRead};
+use records::Name;
 use text::Number;
 
 // The numbers that a line ends with, 0 where there are fewer than three; or not, where they are not there.
@@ -49,19 +50,8 @@ pub(crate) fn name_field(s: &[u8], at: usize) -> NameField
         return NameField::Not;
     }
     let end = text::part_end(s, at, b',');
-    if 5 < end - at {
+    let Name::Is(a, b, c, d, e) = records::read_name(s, at, end) else {
         return NameField::Not;
-    }
-    let mut name = [b' '; 5];
-    for i in at..end {
-        let c = s[i];
-        if c == b' ' {
-            return NameField::Not;
-        }
-        name[i - at] = c;
-    }
-    if !records::is_legal(name) {
-        return NameField::Not;
-    }
-    NameField::Is(name[0], name[1], name[2], name[3], name[4], end + 1)
+    };
+    NameField::Is(a, b, c, d, e, end + 1)
 }

@@ -1,4 +1,5 @@
 pub mod Names
+pub mod NameBytes
 pub mod Search
 pub mod Find
 pub mod Table

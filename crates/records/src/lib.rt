@@ -4,13 +4,14 @@ ghost use mathlib.Core.Bool.{_&&_, _||_};
 ghost use mathlib.Core.List.{map};
 ghost use Prim.Native.Nat.{_≤_};
 ghost use lib.Dec.{eqb};
-ghost use lib.ListN.{drop, replicate};
+ghost use lib.ListN.{length, drop, replicate};
+ghost use lib.Seq.{slice};
 ghost use Rattle.limits.specs.Limits.{mostNumbers};
 ghost use Rattle.lists.specs.Lists.{alike, any, every, first, from};
-ghost use Rattle.records.specs.Names.{letter, digit, blank, legal};
+ghost use Rattle.records.specs.Names.{letter, digit, blank, legal, nameOf};
 ghost use Rattle.records.specs.Records.{unused, newcomer, inState, withPriority, withTimer, find, lowestUnused};
 ghost use Rattle.records.specs.Numbers.{free, resources, tableOf, numberAt, withNumber, concerns, without};
-ghost use Rattle.records.specs.Inner.{Fit, Within};
+ghost use Rattle.records.specs.Inner.{named, Fit, Within};
 use limits::DORMANT;
 use limits::MOST_NUMBERS;
 use limits::MOST_PROGRAMS;
@@ -99,6 +100,35 @@ pub fn is_legal(name: [u8; 5]) -> bool
         }
     }
     true
+}
+
+// The five bytes of a name, or none where the bytes are not one.
+pub enum Name {
+    Is(u8, u8, u8, u8, u8),
+    Not,
+}
+
+// s[from..to] as a name without its blanks.
+pub fn read_name(s: &[u8], from: usize, to: usize) -> Name
+    requires { ⌜ from ≤ to ⌝ }
+    requires { ⌜ to ≤ length (now s) ⌝ }
+    ensures { λ r. ⌜ named r ≡ nameOf (slice from to (now (s .entry))) ⌝ }
+{
+    if 5 < to - from {
+        return Name::Not;
+    }
+    let mut name = [b' '; 5];
+    for i in from..to {
+        let c = s[i];
+        if c == b' ' {
+            return Name::Not;
+        }
+        name[i - from] = c;
+    }
+    if !is_legal(name) {
+        return Name::Not;
+    }
+    Name::Is(name[0], name[1], name[2], name[3], name[4])
 }
 
 pub fn same_name(a: [u8; 5], b: [u8; 5]) -> bool

@@ -1,23 +1,30 @@
--- Laws of a name in a field: its bytes, stored one by one over five blanks, are the name padded, and no blank is among them.
+-- Laws of a name without its blanks: its bytes, stored one by one over five blanks, are the name padded, and no blank is among them.
 -- Assumes nothing.
 use Prim.Native.Nat.{ℕ, zero, suc, _+_, _-_, _<_, _≤_}
+use native.Mathlib.Numerals.{add-one}
 use native.Mathlib.Omega.{arith}
 use mathlib.Core.Path.{_≡_, refl, sym, ap, ap₂, _∙_}
 use mathlib.Core.Bool.{Bool, true, false, cond, not, _&&_}
 use mathlib.Core.List.{List, [], _∷_, _++_}
 use mathlib.Core.Option.{none, some}
 use lib.ListN.{length, getD, set, drop, replicate, length-append, length-replicate, length-set}
-use lib.Seq.{sets, sets-eq, slice, length-slice}
+use lib.Seq.{sets, sets-eq, slice, slice-cons, slice-empty, length-slice}
 use borrow.Author.Tests.{eq-eqb, ne-eqb}
 use Rattle.lists.specs.Lists.{every}
-use Rattle.text.proofs.Fields.{slice-next, slice-none}
 use Rattle.records.specs.Names.{letter, blank, rest, legal, padded, nameOf}
 
 abbrev plain : List ℕ → Bool
 plain f = every (λ c. not (blank c)) f
 
+-- the next byte of a part, and a part that is over
+slice-next : (l : List ℕ) (i t : ℕ) → i < t → t ≤ length l → slice i t l ≡ getD l i 0 ∷ slice (i + 1) t l
+slice-next l i t h k = rw (add-one i) (slice-cons i t l 0 h k)
+
+slice-none : (l : List ℕ) (i t : ℕ) → i ≡ t → slice i t l ≡ []
+slice-none l i t e = rw e (slice-empty t l)
+
 -- five bytes
-pub five : (l : List ℕ) → length l ≡ 5 → l ≡ getD l 0 0 ∷ getD l 1 0 ∷ getD l 2 0 ∷ getD l 3 0 ∷ getD l 4 0 ∷ []
+five : (l : List ℕ) → length l ≡ 5 → l ≡ getD l 0 0 ∷ getD l 1 0 ∷ getD l 2 0 ∷ getD l 3 0 ∷ getD l 4 0 ∷ []
 five [] h = absurd (omega arith)
 five (a ∷ []) h = absurd (omega arith)
 five (a ∷ b ∷ []) h = absurd (omega arith)
@@ -57,7 +64,7 @@ pub name-long : (f : List ℕ) → 5 < length f → nameOf f ≡ none
 name-long f h = name-by f false (plain f) (legal-length (padded f)
     (λ e. omega (arith, length-append f (replicate (5 - length f) 32), length-replicate {A = ℕ} (5 - length f) 32))) refl
 
--- the loop that stores: what is left of the field, stored over the name, gives what the whole field does over blanks
+-- the loop that stores: what is left, stored over the name, gives what the whole does over blanks
 pub record Filling (s : List ℕ) (at end : ℕ) (name : List ℕ) (i : ℕ) : Type 0 where
   pub low : at ≤ i
   pub high : i ≤ end
