@@ -2,3 +2,5 @@ pub mod Shapes
 pub mod Order
 pub mod Said
 pub mod Reading
+pub mod Inner
+pub mod Walks

@@ -1,1 +1,94 @@
-// Reads a page back.
+// A page read back: exactly the bytes that the writer makes from some sound tables are read.
+mod lines;
+mod parts;
+mod values;
+
+ghost use mathlib.Core.Path.{_≡_};
+ghost use Prim.Native.Nat.{_≤_};
+ghost use lib.ListN.{length, drop};
+ghost use Rattle.tables.specs.Calls.{told};
+ghost use Rattle.reader.specs.Reading.{notRead, judged, reading};
+use clock::Clock;
+use ledger::Ledger;
+use limits::PAGE_ROOM;
+use rules::Answer;
+use tables::Outcome;
+use tables::Tables;
+
+// The page is not read: the line, or 0, and the smallest tables.
+fn not_read(line: u64) -> Outcome
+    ensures { λ r. ⌜ told r ≡ notRead line ⌝ }
+{
+    let least = Tables::fresh(1, 0, 0);
+    Outcome {
+        answer: Answer::NotRead(line),
+        tables: least.tables,
+    }
+}
+
+// All lines are well formed and say these tables: they are read where they are sound and written again give the bytes from `at` on.
+fn judge(s: &[u8], at: usize, tables: Tables) -> Outcome
+    requires { ⌜ at ≤ length (now s) ⌝ }
+    ensures { λ r. ⌜ told r ≡ judged (drop at (now (s .entry))) 0 tables ⌝ }
+{
+    let mut space = [0u8; PAGE_ROOM];
+    let w = page::write_page(tables, &mut space);
+    let Answer::Done(length) = w.answer else {
+        return not_read(0);
+    };
+    let n = length as usize;
+    if !text::is_word(s, at, s.len(), &space[..n]) {
+        return not_read(0);
+    }
+    Outcome {
+        answer: Answer::Done(0),
+        tables: tables,
+    }
+}
+
+// The page that stands from a place on.
+pub fn read_from(s: &[u8], at: usize) -> Outcome
+    ensures { λ r. ⌜ told r ≡ reading (drop at (now (s .entry))) ⌝ }
+{
+    if s.len() < at {
+        return not_read(1);
+    }
+    let head = parts::read_head(s, at);
+    if head.bad != 0 {
+        return not_read(head.bad);
+    }
+    let records = parts::read_records(s, head.at, 7, head.programs);
+    if records.bad != 0 {
+        return not_read(records.bad);
+    }
+    let chains = parts::read_chains(s, records.at, records.line);
+    if chains.bad != 0 {
+        return not_read(chains.bad);
+    }
+    let fresh = Tables::fresh(head.tracks, head.system, head.numbers);
+    let begun = fresh.tables;
+    let blank = begun.ledger;
+    let held = parts::read_held(s, chains.at, chains.line, blank.tracks);
+    if held.bad != 0 {
+        return not_read(held.bad);
+    }
+    let numbers = parts::read_numbers(s, held.at, held.line, blank.numbers);
+    if numbers.bad != 0 {
+        return not_read(numbers.bad);
+    }
+    let last = parts::read_end(s, numbers.at, numbers.line);
+    if last != 0 {
+        return not_read(last);
+    }
+    let ledger = Ledger {
+        programs: records.programs,
+        clock: Clock { ticks: head.clock },
+        tracks: held.tracks,
+        numbers: numbers.numbers,
+    };
+    let tables = Tables {
+        ledger: ledger,
+        links: chains.links,
+    };
+    judge(s, at, tables)
+}

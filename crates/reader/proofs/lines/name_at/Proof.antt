@@ -1,0 +1,62 @@
+use borrow.Author.Needs.{needs}
+use Rattle.reader.proofs.lines.name_at.Statement.{statement}
+use Rattle.reader.proofs.lines.name_at.Tie as tie
+use Rattle.reader.proofs.lines.name_at.Reads as reads
+use Rattle.reader.proofs.lines.name_at.Lts as lts
+use Rattle.reader.proofs.lines.value_at.Reads as value-at-reads
+use Rattle.records.proofs.read_name.Reads as read-name-reads
+
+-- src/lines.rt:85:31
+value-at-requires : tie.Need-value-at-requires
+value-at-requires c κs = search needs
+
+-- src/lines.rt:85:19
+enum-known-from : tie.Need-enum-known-from
+enum-known-from c = search needs
+
+-- src/lines.rt:86:9
+enum-told : tie.Need-enum-told
+enum-told c = search needs
+
+-- src/lines.rt:86:9
+returns : tie.Need-returns
+returns c = ?
+
+-- src/lines.rt:88:35
+read-name-requires : tie.Need-read-name-requires
+read-name-requires c κs = ?
+
+-- src/lines.rt:88:18
+enum-known-a : tie.Need-enum-known-a
+enum-known-a c = search needs
+
+-- src/lines.rt:89:9
+enum-told-2 : tie.Need-enum-told-2
+enum-told-2 c = search needs
+
+-- src/lines.rt:89:9
+returns-2 : tie.Need-returns-2
+returns-2 c = ?
+
+-- src/lines.rt:91:33
+add-t13 : tie.Need-add-t13
+add-t13 c = ?
+
+-- src/lines.rt:81:1
+returns-3 : tie.Need-returns-3
+returns-3 c = ?
+
+pub name-at-spec : {M : Type 1} → statement M
+name-at-spec =
+    tie.close
+    (tie.spec
+    value-at-requires
+    enum-known-from
+    enum-told
+    returns
+    read-name-requires
+    enum-known-a
+    enum-told-2
+    returns-2
+    add-t13
+    returns-3)

@@ -1,0 +1,41 @@
+use borrow.Author.Needs.{needs}
+use Rattle.reader.proofs.parts.chain_key.Statement.{statement}
+use Rattle.reader.proofs.parts.chain_key.Tie as tie
+use Rattle.reader.proofs.parts.chain_key.Reads as reads
+use Rattle.reader.proofs.parts.chain_key.Lts as lts
+use Rattle.text.proofs.put_bytes.Reads as put-bytes-reads
+
+-- src/parts.rt:220:21
+slice-aggregate-put-bytes : tie.Need-slice-aggregate-put-bytes
+slice-aggregate-put-bytes c = search needs
+
+-- src/parts.rt:220:34
+slice-aggregate-put-bytes-2 : tie.Need-slice-aggregate-put-bytes-2
+slice-aggregate-put-bytes-2 c = search needs
+
+-- src/parts.rt:220:5
+put-bytes-requires : tie.Need-put-bytes-requires
+put-bytes-requires c κs = search needs
+
+-- src/parts.rt:221:14
+add-key : tie.Need-add-key
+add-key c = search needs
+
+-- src/parts.rt:221:5
+array-write-key : tie.Need-array-write-key
+array-write-key c = search needs
+
+-- src/parts.rt:215:1
+returns : tie.Need-returns
+returns c = ?
+
+pub chain-key-spec : {M : Type 1} → statement M
+chain-key-spec =
+    tie.close
+    (tie.spec
+    slice-aggregate-put-bytes
+    slice-aggregate-put-bytes-2
+    put-bytes-requires
+    add-key
+    array-write-key
+    returns)

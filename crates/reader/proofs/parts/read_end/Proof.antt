@@ -1,0 +1,56 @@
+use borrow.Author.Needs.{needs}
+use Rattle.reader.proofs.parts.read_end.Statement.{statement}
+use Rattle.reader.proofs.parts.read_end.Tie as tie
+use Rattle.reader.proofs.parts.read_end.Reads as reads
+use Rattle.reader.proofs.parts.read_end.Lts as lts
+use Rattle.reader.proofs.lines.word_at.Reads as word-at-reads
+
+-- src/parts.rt:359:46
+slice-aggregate-word-at : tie.Need-slice-aggregate-word-at
+slice-aggregate-word-at c = search needs
+
+-- src/parts.rt:359:58
+slice-aggregate-word-at-2 : tie.Need-slice-aggregate-word-at-2
+slice-aggregate-word-at-2 c = search needs
+
+-- src/parts.rt:359:24
+word-at-requires : tie.Need-word-at-requires
+word-at-requires c κs = search needs
+
+-- src/parts.rt:359:19
+enum-known-o : tie.Need-enum-known-o
+enum-known-o c = search needs
+
+-- src/parts.rt:360:9
+enum-told : tie.Need-enum-told
+enum-told c = search needs
+
+-- src/parts.rt:360:9
+returns : tie.Need-returns
+returns c = ?
+
+-- src/parts.rt:363:16
+add-result : tie.Need-add-result
+add-result c = search needs
+
+-- src/parts.rt:363:9
+returns-2 : tie.Need-returns-2
+returns-2 c = ?
+
+-- src/parts.rt:354:1
+returns-3 : tie.Need-returns-3
+returns-3 c = ?
+
+pub read-end-spec : {M : Type 1} → statement M
+read-end-spec =
+    tie.close
+    (tie.spec
+    slice-aggregate-word-at
+    slice-aggregate-word-at-2
+    word-at-requires
+    enum-known-o
+    enum-told
+    returns
+    add-result
+    returns-2
+    returns-3)

@@ -1,0 +1,366 @@
+// The parts of a page, each from a place on: the head, the records, the chains, what is held, the numbers, the last line. Where a line is
+// not well formed, `bad` is that line's number; else it is 0, `at` is where the next part begins and `line` the number of its first line.
+ghost use Prim.Native.Nat.{_+_, _≤_};
+ghost use lib.ListN.{length};
+ghost use Rattle.page.specs.Page.{keyOfChain};
+ghost use mathlib.Core.Path.{_≡_};
+ghost use Rattle.records.specs.Inner as records;
+ghost use Rattle.tracks.specs.Inner.{Fit};
+ghost use Rattle.reader.specs.Walks.{HeadRead, RecordRead, RecordsRead, ChainsRead, HeldRead, NumbersRead, EndRead};
+use super::lines;
+use super::lines::Figure;
+use super::lines::NameLine;
+use super::lines::ReasonLine;
+use super::lines::Value;
+use super::values;
+use super::values::Resource;
+use super::values::Run;
+use chains::SLOTS;
+use limits::MOST_PROGRAMS;
+use page::keys;
+use records::Numbers;
+use records::Program;
+use text::Place;
+use tracks::Tracks;
+
+pub(crate) struct Head {
+    pub(crate) bad: u64,
+    pub(crate) at: usize,
+    pub(crate) clock: u64,
+    pub(crate) tracks: u64,
+    pub(crate) system: u64,
+    pub(crate) numbers: u64,
+    pub(crate) programs: u64,
+}
+
+// A record's lines: how many of them are well formed, and, where all are, what they say and the place behind them.
+pub(crate) struct Record {
+    pub(crate) good: u64,
+    pub(crate) at: usize,
+    pub(crate) id: u64,
+    pub(crate) program: Program,
+}
+
+pub(crate) struct Records {
+    pub(crate) bad: u64,
+    pub(crate) at: usize,
+    pub(crate) line: u64,
+    pub(crate) programs: [Program; MOST_PROGRAMS],
+}
+
+pub(crate) struct Chains {
+    pub(crate) bad: u64,
+    pub(crate) at: usize,
+    pub(crate) line: u64,
+    pub(crate) links: [u8; SLOTS],
+}
+
+pub(crate) struct Held {
+    pub(crate) bad: u64,
+    pub(crate) at: usize,
+    pub(crate) line: u64,
+    pub(crate) tracks: Tracks,
+}
+
+pub(crate) struct Numbered {
+    pub(crate) bad: u64,
+    pub(crate) at: usize,
+    pub(crate) line: u64,
+    pub(crate) numbers: Numbers,
+}
+
+// Line `bad` of the head is not well formed.
+fn no_head(bad: u64) -> Head
+    ensures { λ r. ⌜ r .bad ≡ bad ⌝ }
+{
+    Head {
+        bad: bad,
+        at: 0,
+        clock: 0,
+        tracks: 0,
+        system: 0,
+        numbers: 0,
+        programs: 0,
+    }
+}
+
+pub(crate) fn read_head(s: &[u8], at: usize) -> Head
+    requires { ⌜ at ≤ length (now s) ⌝ }
+    ensures { λ r. ⌜ HeadRead (now (s .entry)) at r ⌝ }
+{
+    let Place::At(a) = lines::word_at(s, at, &keys::PAGE, &keys::RTE2) else {
+        return no_head(1);
+    };
+    let Figure::Is(clock, b) = lines::figure_at(s, a, &keys::CLOCK) else {
+        return no_head(2);
+    };
+    let Figure::Is(tracks, c) = lines::figure_at(s, b, &keys::TRACKS) else {
+        return no_head(3);
+    };
+    let Figure::Is(system, d) = lines::figure_at(s, c, &keys::SYSTEM) else {
+        return no_head(4);
+    };
+    let Figure::Is(numbers, e) = lines::figure_at(s, d, &keys::NUMBERS) else {
+        return no_head(5);
+    };
+    let Figure::Is(programs, f) = lines::figure_at(s, e, &keys::PROGRAMS) else {
+        return no_head(6);
+    };
+    Head {
+        bad: 0,
+        at: f,
+        clock: clock,
+        tracks: tracks,
+        system: system,
+        numbers: numbers,
+        programs: programs,
+    }
+}
+
+// So many lines of a record are well formed, and the next is not.
+fn stopped(good: u64, at: usize) -> Record
+    ensures { λ r. ⌜ r .good ≡ good ⌝ }
+{
+    Record {
+        good: good,
+        at: at,
+        id: 0,
+        program: records::unused_record(),
+    }
+}
+
+fn read_record(s: &[u8], at: usize) -> Record
+    requires { ⌜ at ≤ length (now s) ⌝ }
+    ensures { λ r. ⌜ RecordRead (now (s .entry)) at r ⌝ }
+{
+    let Figure::Is(id, a) = lines::figure_at(s, at, &keys::ID) else {
+        return stopped(0, at);
+    };
+    let NameLine::Is(n0, n1, n2, n3, n4, b) = lines::name_at(s, a, &keys::NAME) else {
+        return stopped(1, at);
+    };
+    let Figure::Is(priority, c) = lines::figure_at(s, b, &keys::PRIORITY) else {
+        return stopped(2, at);
+    };
+    let Figure::Is(state, d) = lines::figure_at(s, c, &keys::STATE) else {
+        return stopped(3, at);
+    };
+    let ReasonLine::Is(why, e) = lines::reason_at(s, d, &keys::WHY) else {
+        return stopped(4, at);
+    };
+    let Figure::Is(due, f) = lines::dashed_at(s, e, &keys::DUE) else {
+        return stopped(5, at);
+    };
+    let Figure::Is(interval, g) = lines::dashed_at(s, f, &keys::INTERVAL) else {
+        return stopped(6, at);
+    };
+    let program = Program {
+        used: true,
+        name: [n0, n1, n2, n3, n4],
+        priority: values::two_bytes(priority),
+        state: values::byte(state),
+        why: why,
+        due: due,
+        interval: interval,
+    };
+    Record {
+        good: 7,
+        at: g,
+        id: id,
+        program: program,
+    }
+}
+
+// So many records. One whose id is none of a record is passed over.
+pub(crate) fn read_records(s: &[u8], at: usize, line: u64, count: u64) -> Records
+    requires { ⌜ at ≤ length (now s) ⌝ }
+    requires { ⌜ line ≤ at + 1 ⌝ }
+    ensures { λ r. ⌜ RecordsRead (now (s .entry)) at line count r ⌝ }
+{
+    let unused = records::unused_record();
+    let mut programs = [unused; MOST_PROGRAMS];
+    let mut o = at;
+    let mut n = line;
+    let mut left = count;
+    while 0 < left {
+        let r = read_record(s, o);
+        if r.good < 7 {
+            return Records {
+                bad: n + r.good,
+                at: o,
+                line: n,
+                programs: programs,
+            };
+        }
+        let id = r.id;
+        if 1 <= id {
+            if id <= MOST_PROGRAMS as u64 {
+                let program = r.program;
+                programs[(id - 1) as usize] = program;
+            }
+        }
+        o = r.at;
+        n += 7;
+        left -= 1;
+    }
+    Records {
+        bad: 0,
+        at: o,
+        line: n,
+        programs: programs,
+    }
+}
+
+// The key of a state's chain.
+fn chain_key(state: u8) -> [u8; 6]
+    requires { ⌜ state ≤ 9 ⌝ }
+    ensures { λ r. ⌜ r ≡ keyOfChain state ⌝ }
+{
+    let mut key = [0u8; 6];
+    text::put_bytes(&mut key, 0, &keys::CHAIN);
+    key[5] = 48 + state;
+    key
+}
+
+// The chains of the states that are shown.
+pub(crate) fn read_chains(s: &[u8], at: usize, line: u64) -> Chains
+    requires { ⌜ at ≤ length (now s) ⌝ }
+    requires { ⌜ line ≤ at + 1 ⌝ }
+    ensures { λ r. ⌜ ChainsRead (now (s .entry)) at line r ⌝ }
+{
+    let states = keys::CHAINED;
+    let mut links = [0u8; SLOTS];
+    let mut o = at;
+    let mut n = line;
+    for i in 0..4 {
+        let state = states[i];
+        let key = chain_key(state);
+        let Value::Is(from, to) = lines::value_at(s, o, &key) else {
+            return Chains {
+                bad: n,
+                at: o,
+                line: n,
+                links: links,
+            };
+        };
+        let chain = values::read_chain(s, from, to, links, state as usize);
+        if !chain.ok {
+            return Chains {
+                bad: n,
+                at: o,
+                line: n,
+                links: links,
+            };
+        }
+        links = chain.links;
+        o = to + 1;
+        n += 1;
+    }
+    Chains {
+        bad: 0,
+        at: o,
+        line: n,
+        links: links,
+    }
+}
+
+// The tracks that are held. A run that is not one of these tracks is passed over.
+pub(crate) fn read_held(s: &[u8], at: usize, line: u64, tracks: Tracks) -> Held
+    requires { ⌜ at ≤ length (now s) ⌝ }
+    requires { ⌜ line ≤ at + 1 ⌝ }
+    requires { ⌜ Fit tracks ⌝ }
+    ensures { λ r. ⌜ HeldRead (now (s .entry)) at line tracks r ⌝ }
+{
+    let mut table = tracks;
+    let mut o = at;
+    let mut n = line;
+    while o < s.len() {
+        let Value::Is(from, to) = lines::value_at(s, o, &keys::HELD) else {
+            return Held {
+                bad: 0,
+                at: o,
+                line: n,
+                tracks: table,
+            };
+        };
+        let Run::Is(first, last, holder) = values::read_run(s, from, to) else {
+            return Held {
+                bad: n,
+                at: o,
+                line: n,
+                tracks: table,
+            };
+        };
+        if first <= last {
+            if last < table.count as u64 {
+                table = table.filled(first as usize, (last - first + 1) as usize, holder);
+            }
+        }
+        o = to + 1;
+        n += 1;
+    }
+    Held {
+        bad: 0,
+        at: o,
+        line: n,
+        tracks: table,
+    }
+}
+
+// The numbers that are allocated. One that is none of these numbers is passed over.
+pub(crate) fn read_numbers(s: &[u8], at: usize, line: u64, numbers: Numbers) -> Numbered
+    requires { ⌜ at ≤ length (now s) ⌝ }
+    requires { ⌜ line ≤ at + 1 ⌝ }
+    requires { ⌜ records.Fit numbers ⌝ }
+    ensures { λ r. ⌜ NumbersRead (now (s .entry)) at line numbers r ⌝ }
+{
+    let mut table = numbers;
+    let mut o = at;
+    let mut n = line;
+    while o < s.len() {
+        let Value::Is(from, to) = lines::value_at(s, o, &keys::NUMBER) else {
+            return Numbered {
+                bad: 0,
+                at: o,
+                line: n,
+                numbers: table,
+            };
+        };
+        let Resource::Is(r, owner, lock) = values::read_resource(s, from, to) else {
+            return Numbered {
+                bad: n,
+                at: o,
+                line: n,
+                numbers: table,
+            };
+        };
+        if 1 <= r {
+            if r <= table.count as u64 {
+                table = table.with_number(r as usize, owner, lock);
+            }
+        }
+        o = to + 1;
+        n += 1;
+    }
+    Numbered {
+        bad: 0,
+        at: o,
+        line: n,
+        numbers: table,
+    }
+}
+
+// The last line, and nothing behind it: 0, or the line that is not well formed.
+pub(crate) fn read_end(s: &[u8], at: usize, line: u64) -> u64
+    requires { ⌜ at ≤ length (now s) ⌝ }
+    requires { ⌜ line ≤ at + 1 ⌝ }
+    ensures { λ r. ⌜ EndRead (now (s .entry)) at line r ⌝ }
+{
+    let Place::At(o) = lines::word_at(s, at, &keys::END, &keys::PAGE) else {
+        return line;
+    };
+    if o < s.len() {
+        return line + 1;
+    }
+    0
+}
