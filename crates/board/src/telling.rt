@@ -24,6 +24,7 @@ fn first_value(answer: Answer) -> u64
         Answer::Waits(s) => s as u64,
         Answer::WrongState(s) => s as u64,
         Answer::TooShort(n) => n,
+        Answer::NotRead(n) => n,
         Answer::NoCaller
         | Answer::NotAllowed
         | Answer::NoProgram

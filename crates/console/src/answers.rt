@@ -33,6 +33,7 @@ pub fn number_of(answer: Answer) -> u64
         Answer::TooShort(_) => 12,
         Answer::NotUnderstood => 13,
         Answer::NotSound => 14,
+        Answer::NotRead(_) => 15,
     }
 }
 
@@ -67,6 +68,7 @@ fn value_of(answer: Answer) -> u64
         Answer::TooShort(n) => n,
         Answer::NotUnderstood => 0,
         Answer::NotSound => 0,
+        Answer::NotRead(n) => n,
     }
 }
 

@@ -6,7 +6,7 @@ use Rattle.clock.specs.Clock.{partsOf}
 use Rattle.rules.specs.declared.Answer.{Answer}
 use Rattle.rules.specs.declared.Answer.the-variants.{Done, Told, Waits, NoCaller, NotAllowed, NoProgram, WrongState, NameInUse}
 use Rattle.rules.specs.declared.Answer.the-variants.{AllUsed, NoRoom, NotHolder, NotAllocated, AtCeiling, TooShort, NotUnderstood}
-use Rattle.rules.specs.declared.Answer.the-variants.{NotSound}
+use Rattle.rules.specs.declared.Answer.the-variants.{NotSound, NotRead}
 
 abbrev pub number : Answer → ℕ
 number (Done v) = 0
@@ -25,6 +25,7 @@ number AtCeiling = 11
 number (TooShort n) = 12
 number NotUnderstood = 13
 number NotSound = 14
+number (NotRead n) = 15
 
 -- one value, or the five parts of the time
 abbrev pub values : Answer → List ℕ
@@ -44,3 +45,4 @@ values AtCeiling = 0 ∷ []
 values (TooShort n) = n ∷ []
 values NotUnderstood = 0 ∷ []
 values NotSound = 0 ∷ []
+values (NotRead n) = n ∷ []

@@ -19,6 +19,7 @@ pub enum Answer {
     TooShort(u64),
     NotUnderstood,
     NotSound,
+    NotRead(u64),
 }
 
 // What the operator asks of a program. A name stands beside a request, since an enum holds no array.
