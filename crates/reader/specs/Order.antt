@@ -54,17 +54,26 @@ endForm = form endKey (λ v. alike v (text lastWord))
 
 -- where a reader of the page stands
 pub data Place : Type 0 where
-  heading : List Form → Place  -- these lines of the head come, and then the records
-  recording : List Form → ℕ → Place  -- these lines of a record, and then so many records
-  chaining : List Form → Place  -- these chains, and then what is held
+  heading : List Form → Place  -- lines of the head come
+  recording : List Form → ℕ → Place  -- lines of a record, and then so many records
+  chaining : List Form → Place  -- chains
   holding : Place  -- tracks that are held, as many as there are; or what may stand behind them
   numbering : Place  -- numbers, as many as there are; or the last line
   ended : Place  -- nothing
 
--- n records come, and then the chains
+-- these chains come, and then what is held
+abbrev pub chains : List Form → Place
+chains [] = holding
+chains (f ∷ fs) = chaining (f ∷ fs)
+
+-- n records come, and then the chains; these lines of a record, and then n records
 abbrev pub records : ℕ → Place
-records zero = chaining chainForms
+records zero = chains chainForms
 records (suc n) = recording recordForms n
+
+abbrev pub recordAnd : List Form → ℕ → Place
+recordAnd [] n = records n
+recordAnd (f ∷ fs) n = recording (f ∷ fs) n
 
 -- a kind of line that may come, and where the reader stands behind it, by its value
 pub record Choice : Type 0 where
@@ -81,11 +90,9 @@ mayCome (heading []) = []
 mayCome (heading (f ∷ [])) = record { kind = f; then = λ v. records (the 0 (figure v)) } ∷ []
 mayCome (heading (f ∷ g ∷ fs)) = f ⇒ heading (g ∷ fs) ∷ []
 mayCome (recording [] n) = []
-mayCome (recording (f ∷ []) n) = f ⇒ records n ∷ []
-mayCome (recording (f ∷ g ∷ fs) n) = f ⇒ recording (g ∷ fs) n ∷ []
+mayCome (recording (f ∷ fs) n) = f ⇒ recordAnd fs n ∷ []
 mayCome (chaining []) = []
-mayCome (chaining (f ∷ [])) = f ⇒ holding ∷ []
-mayCome (chaining (f ∷ g ∷ fs)) = f ⇒ chaining (g ∷ fs) ∷ []
+mayCome (chaining (f ∷ fs)) = f ⇒ chains fs ∷ []
 mayCome holding = heldForm ⇒ holding ∷ numberForm ⇒ numbering ∷ endForm ⇒ ended ∷ []
 mayCome numbering = numberForm ⇒ numbering ∷ endForm ⇒ ended ∷ []
 mayCome ended = []
