@@ -1,0 +1,3 @@
+pub mod Text
+pub mod Scan
+pub mod Values
