@@ -1,3 +1,5 @@
 pub mod Text
 pub mod Scan
 pub mod Values
+pub mod Joined
+pub mod NameBack
