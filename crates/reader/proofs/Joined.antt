@@ -18,9 +18,9 @@ use Rattle.tracks.specs.declared.held.Run.{Run}
 use Rattle.tracks.specs.Runs.{runOf}
 use Rattle.page.specs.Page.{orDash, party}
 use Rattle.page.proofs.Writing.{party-global, party-program}
-use Rattle.reader.specs.Shapes.{byte, figure, figureOrDash, partyOf, next, over, Span, spanOf, runIn, Numbered, numbered}
+use Rattle.reader.specs.Shapes.{figure, figureOrDash, partyOf, next, over, Span, spanOf, runIn, Numbered, numbered}
 use Rattle.reader.proofs.Text.{decimal-only, parts-at, parts-last}
-use Rattle.reader.proofs.Values.{Short, byte-small, figure-decimal, dash-back, party-back}
+use Rattle.reader.proofs.Values.{Short, figure-decimal, dash-back, party-back}
 
 -- bytes that a party or a number that may be absent has not
 pub party-only : (c h : ℕ) → (48 ≤ c → 57 < c) → count c (text "global") ≡ 0 → count c (party h) ≡ 0
@@ -65,13 +65,12 @@ span-back f l s t =
     ∙ ap₂ spanning (figure-decimal f s) (figure-decimal l t)
 
 abbrev running : Option Span → Option ℕ → Option Run
-running a b = elim a [ none ↦ none | some s ↦ elim b [ none ↦ none | some h ↦ some (runOf (s .first) (s .last) (byte h)) ] ]
+running a b = elim a [ none ↦ none | some s ↦ elim b [ none ↦ none | some h ↦ some (runOf (s .first) (s .last) h) ] ]
 
-pub run-back : (f l h : ℕ) → Short f → Short l → h < 256 → runIn (runText f l h) ≡ some (runOf f l h)
+pub run-back : (f l h : ℕ) → Short f → Short l → Short h → runIn (runText f l h) ≡ some (runOf f l h)
 run-back f l h s t u =
-    ap (next spanOf (λ s. next partyOf (λ h. over (runOf (s .first) (s .last) (byte h))))) (run-parts f l h)
-    ∙ ap₂ running (span-back f l s t) (party-back h (omega arith))
-    ∙ ap (λ (k : ℕ). some (runOf f l k)) (byte-small h u)
+    ap (next spanOf (λ s. next partyOf (λ h. over (runOf (s .first) (s .last) h)))) (run-parts f l h)
+    ∙ ap₂ running (span-back f l s t) (party-back h u)
 
 pub run-clean : (f l h : ℕ) → count 10 (runText f l h) ≡ 0
 unfolding same
@@ -107,15 +106,14 @@ numberOf r o l = record { number = r; resource = record { owner = o; lock = l } 
 abbrev numbering : Option ℕ → Option ℕ → Option ℕ → Option Numbered
 numbering a b c = elim a [
   | none ↦ none
-  | some r ↦ elim b [ none ↦ none | some o ↦ elim c [ none ↦ none | some l ↦ some (numberOf r (byte o) (byte l)) ] ]
+  | some r ↦ elim b [ none ↦ none | some o ↦ elim c [ none ↦ none | some l ↦ some (numberOf r o l) ] ]
 ]
 
-pub number-back : (r o l : ℕ) → Short r → o < 256 → l < 256 → numbered (numberText r o l) ≡ some (numberOf r o l)
+pub number-back : (r o l : ℕ) → Short r → Short o → Short l → numbered (numberText r o l) ≡ some (numberOf r o l)
 number-back r o l s t u =
-    ap (next figure (λ r. next partyOf (λ o. next figureOrDash (λ l. over (numberOf r (byte o) (byte l)))))) (number-parts r o l)
+    ap (next figure (λ r. next partyOf (λ o. next figureOrDash (λ l. over (numberOf r o l))))) (number-parts r o l)
     ∙ ap (λ (a : Option ℕ). numbering a (partyOf (party o)) (figureOrDash (orDash (ltb 0 l) l))) (figure-decimal r s)
-    ∙ ap₂ (numbering (some r)) (party-back o (omega arith)) (dash-back (ltb 0 l) l (omega arith) (λ e. omega (arith, ltb-false 0 l e)))
-    ∙ ap₂ (λ (a b : ℕ). some (numberOf r a b)) (byte-small o t) (byte-small l u)
+    ∙ ap₂ (numbering (some r)) (party-back o t) (dash-back (ltb 0 l) l u (λ e. omega (arith, ltb-false 0 l e)))
 
 pub number-clean : (r o l : ℕ) → count 10 (numberText r o l) ≡ 0
 unfolding same

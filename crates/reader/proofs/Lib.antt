@@ -1,5 +1,6 @@
 pub mod Text
-pub mod Scan
 pub mod Values
 pub mod Joined
 pub mod NameBack
+pub mod Scan
+pub mod Head

@@ -36,8 +36,7 @@ blanks-bare [] e = (refl, refl, refl)
 blanks-bare (c ∷ cs) e =
     let b = both (blank c) (every blank cs) e in
     let r = blanks-bare cs (b .1) in
-    let w : c ≡ 32 = eqb-true c 32 (b .0) in
-    (
+    let w : c ≡ 32 = eqb-true c 32 (b .0) in (
       ap (λ (t : Bool). cond (not t) (c ∷ bare cs) (bare cs)) (b .0) ∙ r .0,
       ap₂ _∷_ w (r .1),
       omega (arith, same-ne 10 c (λ z. omega arith), r .2),

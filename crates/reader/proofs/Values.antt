@@ -25,19 +25,13 @@ use Rattle.tracks.specs.declared.held.Run.{Run}
 use Rattle.tracks.specs.Runs.{runOf}
 use Rattle.page.specs.Page.{orDash, party, reason, dash, globalWord}
 use Rattle.page.proofs.Writing.{party-global, party-program}
-use Rattle.reader.specs.Shapes.{the, into, orElse, byte, twoBytes, figure, word, coded, figureOrDash, partyOf, reasonOf}
-use Rattle.reader.specs.Shapes.{next, over, each, listed, Span, spanOf, runIn, Numbered, numbered}
+use Rattle.reader.specs.Shapes.{into, orElse, figure, word, coded, figureOrDash, partyOf, reasonOf}
+use Rattle.reader.specs.Shapes.{each, listed}
 use Rattle.reader.proofs.Text.{decimal-only, parts-at, parts-last, Without, between-parts}
 
 -- what numbers on a page are below: 13 digits
 abbrev pub Short : ℕ → Type 0
 Short n = n < 10_000_000_000_000
-
-pub byte-small : (n : ℕ) → n < 256 → byte n ≡ n
-byte-small n h = ap (λ (b : Bool). cond b n 255) (lt-ltb n 256 h)
-
-pub two-small : (n : ℕ) → n < 65536 → twoBytes n ≡ n
-two-small n h = ap (λ (b : Bool). cond b n 65535) (lt-ltb n 65536 h)
 
 pub figure-decimal : (n : ℕ) → Short n → figure (decimal n) ≡ some n
 figure-decimal n h = numberOf-decimal 12 n (omega arith) (omega arith)
@@ -66,26 +60,20 @@ party-back h s = go (ℕ-discrete h globally)
         ∙ ap (λ (o : Option ℕ). orElse o (figure (decimal h))) (not-word globally h 103 (text "lobal") (λ l. omega arith))
         ∙ figure-decimal h s
 
--- a why whose number fits its bytes
+-- a why whose number is short
 abbrev pub Fitting : Why → Type 0
 Fitting Nothing = Unit {0}
-Fitting (Tracks n) = n < 65536
-Fitting (Son k) = k < 256
-Fitting (Lock r) = r < 256
+Fitting (Tracks n) = Short n
+Fitting (Son k) = Short k
+Fitting (Lock r) = Short r
 Fitting Number = Unit {0}
 
 pub reason-back : (w : Why) → Fitting w → reasonOf (reason w) ≡ some w
 unfolding behind
 reason-back Nothing f = refl
-reason-back (Tracks n) f =
-    ap (λ (o : Option ℕ). orElse (into (λ n. Tracks (twoBytes n)) o) none) (figure-decimal n (omega arith))
-    ∙ ap (λ (k : ℕ). some (Tracks k)) (two-small n f)
-reason-back (Son k) f =
-    ap (λ (o : Option ℕ). orElse (into (λ k. Son (byte k)) o) none) (figure-decimal k (omega arith))
-    ∙ ap (λ (k : ℕ). some (Son k)) (byte-small k f)
-reason-back (Lock r) f =
-    ap (λ (o : Option ℕ). orElse (into (λ r. Lock (byte r)) o) none) (figure-decimal r (omega arith))
-    ∙ ap (λ (k : ℕ). some (Lock k)) (byte-small r f)
+reason-back (Tracks n) f = ap (λ (o : Option ℕ). orElse (into Tracks o) none) (figure-decimal n f)
+reason-back (Son k) f = ap (λ (o : Option ℕ). orElse (into Son o) none) (figure-decimal k f)
+reason-back (Lock r) f = ap (λ (o : Option ℕ). orElse (into Lock o) none) (figure-decimal r f)
 reason-back Number f = refl
 
 -- numbers with commas between them
@@ -110,7 +98,3 @@ listed-back (x ∷ xs) s =
     ap (λ (b : Bool). cond b (some []) (each (parts 44 v))) (ne-eqb (length v) 0 (λ e. omega (arith, between-pos x xs)))
     ∙ ap each (between-parts 44 (decimal x) (map decimal xs) (digits-without 44 (x ∷ xs) (λ l. absurd (omega arith))))
     ∙ each-back (x ∷ xs) s
-
-pub bytes-small : (c : List ℕ) → ((x : ℕ) → 1 ≤ count x c → x < 256) → map byte c ≡ c
-bytes-small [] s = refl
-bytes-small (x ∷ xs) s = ap₂ _∷_ (byte-small x (s x (omega (arith, same-refl x)))) (bytes-small xs (λ y h. s y (omega arith)))
