@@ -4,3 +4,5 @@ pub mod Joined
 pub mod NameBack
 pub mod Scan
 pub mod Head
+pub mod Copying
+pub mod RecordsBack
