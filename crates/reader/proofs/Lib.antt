@@ -6,3 +6,4 @@ pub mod Scan
 pub mod Head
 pub mod Copying
 pub mod RecordsBack
+pub mod ChainsBack

@@ -33,15 +33,19 @@ behind-append [] v = refl
 behind-append (c ∷ w) v =
     ap (λ (b : Bool). elim b [ true ↦ behind w (w ++ v) | false ↦ none ]) (eq-eqb c c refl) ∙ behind-append w v
 
+pub value-behind : (key v : List ℕ) → valueBehind key (key ++ (61 ∷ v)) ≡ some v
+unfolding valueBehind
+value-behind key v =
+    ap (behind (key ++ (61 ∷ []))) (sym (append-assoc key (61 ∷ []) v)) ∙ behind-append (key ++ (61 ∷ [])) v
+
 -- a line of the first kind that may come, whose value has its shape
 pass : (f : Form) (then : List ℕ → Place) (cs : List Choice) (v : List ℕ) → f .shape v ≡ true
     → afterOne (record { kind = f; then = then } ∷ cs) (f .key ++ (61 ∷ v)) ≡ some (then v)
 unfolding valueBehind
 pass f then cs v e =
     let l : List ℕ = f .key ++ (61 ∷ v) in
-    let b : valueBehind (f .key) l ≡ some v =
-    ap (behind (f .key ++ (61 ∷ []))) (sym (append-assoc (f .key) (61 ∷ []) v)) ∙ behind-append (f .key ++ (61 ∷ [])) v in
-    ap (λ (o : Option (List ℕ)). elim o [ none ↦ afterOne cs l | some w ↦ afterKind (then w) (f .shape w) (afterOne cs l) ]) b
+    ap (λ (o : Option (List ℕ)). elim o [ none ↦ afterOne cs l | some w ↦ afterKind (then w) (f .shape w) (afterOne cs l) ])
+    (value-behind (f .key) v)
     ∙ ap (λ (t : Bool). afterKind (then v) t (afterOne cs l)) e
 
 -- lines of the head, the last of which says how many records come
