@@ -7,3 +7,5 @@ pub mod Head
 pub mod Copying
 pub mod RecordsBack
 pub mod ChainsBack
+pub mod NumbersBack
+pub mod HeldBack
