@@ -1,0 +1,273 @@
+-- The used records of a page, read back: put one by one into unused ones they are the programs.
+-- Assumes nothing.
+use Prim.Native.Nat.{ℕ, zero, suc, _+_, _-_, _≤_, _<_}
+use native.Mathlib.Omega.{arith}
+use native.Mathlib.Decide.{ℕ-discrete}
+use mathlib.Core.Path.{_≡_, refl, sym, ap, ap₂, _∙_}
+use mathlib.Core.Logic.{_≢_}
+use mathlib.Core.Bool.{Bool, true, false, cond, not, _&&_, _||_}
+use mathlib.Core.List.{List, [], _∷_, _++_, map}
+use mathlib.Core.Option.{Option, none, some}
+use lib.Dec.{ltb, eqb}
+use lib.ListN.{length, getD, set, replicate, length-replicate, getD-replicate}
+use borrow.Author.Tests.{eqb-true, ltb-false}
+use Rattle.lists.specs.Lists.{same, count, keep, join, upTo}
+use Rattle.lists.proofs.Laws.{same-refl, count-append, count-keep, keep-in}
+use Rattle.lists.proofs.Tests.{false-true, both, upTo-true}
+use Rattle.text.specs.Text.{text, decimal, behind}
+use Rattle.clock.specs.Clock.{ceiling, farthest}
+use Rattle.records.specs.declared.Program.{Program}
+use Rattle.records.specs.declared.Why.{Why}
+use Rattle.records.specs.declared.Why.the-variants.{Nothing, Tracks, Son, Lock, Number}
+use Rattle.records.specs.Names.{legal, bare, nameOf}
+use Rattle.records.specs.Records.{Known, known, all, missing, unused, recordAt}
+use Rattle.rules.specs.Book.{Book, at, altered}
+use Rattle.rules.specs.Keeper.{lists, State}
+use Rattle.rules.specs.Sound.{suits, Names, Zeros, Whys, Limits, Dues}
+use Rattle.rules.proofs.shared.Places.{known-is, all-in, all-one}
+use Rattle.page.specs.Page.{Line, chained, reason, orDash, usedIn, recorded, recordLines}
+use Rattle.reader.specs.Shapes.{there, otherwise, figure, figureOrDash, reasonOf}
+use Rattle.reader.specs.Order.{valueBehind, recordsAhead}
+use Rattle.reader.specs.Said.{valueOf, onBook, withRecord, chainsSaid, recordsSaid}
+use Rattle.reader.proofs.Text.{decimal-only, told, told-append, Clean, clean-append, clean-line}
+use Rattle.reader.proofs.Values.{Short, figure-decimal, dash-back, Fitting, reason-back}
+use Rattle.reader.proofs.Joined.{dash-only}
+use Rattle.reader.proofs.NameBack.{name-back, name-clean}
+use Rattle.reader.proofs.Scan.{Good, record-step}
+use Rattle.reader.proofs.Head.{figure-there, figure-clean}
+use Rattle.reader.proofs.Copying.{copied, Copies, copies-all}
+
+-- a used record whose values are read back
+record Readable (p : ℕ) (r : Program) : Type 0 where
+  known : Known p
+  used : r .used ≡ true
+  name : legal (r .name) ≡ true
+  priority : Short (r .priority)
+  state : Short (r .state)
+  why : Fitting (r .why)
+  due : Short (r .due)
+  interval : Short (r .interval)
+  timeless : r .due ≡ 0 → r .interval ≡ 0
+
+-- a why that fits, and its state
+module _ (b : Book) (L : Limits b) (p s : ℕ) where
+  idle : (x y : Bool) → eqb s 0 ≡ x → eqb s 1 ≡ y → (x || y || eqb s 6) ≡ true → Short s
+  idle true y h k e = omega (arith, eqb-true s 0 h)
+  idle false true h k e = omega (arith, eqb-true s 1 k)
+  idle false false h k e = omega (arith, eqb-true s 6 e)
+
+  why-fits : (w : Why) → suits b p s w ≡ true → Short s × Fitting w
+  why-fits Nothing e = (idle (eqb s 0) (eqb s 1) refl refl e, tt)
+  why-fits (Tracks n) e =
+      let h = both (eqb s 5) (upTo 1 (b .tracks) n) e in
+      (omega (arith, eqb-true s 5 (h .0)), omega (arith, upTo-true 1 (b .tracks) n (h .1), L .most))
+  why-fits (Son k) e =
+      let h = both (eqb s 3) (known k) (both _ _ (both _ _ (both _ _ e .0) .0) .0) in
+      (omega (arith, eqb-true s 3 (h .0)), omega (arith, upTo-true 1 32 k (h .1)))
+  why-fits (Lock r) e =
+      let h = both (eqb s 3) (upTo 1 (b .numbers) r) e in
+      (omega (arith, eqb-true s 3 (h .0)), omega (arith, upTo-true 1 (b .numbers) r (h .1), L .few))
+  why-fits Number e = (omega (arith, eqb-true s 3 e), tt)
+
+due-short : (b : Book) → Limits b → Dues b → (p : ℕ) → Known p → Short (at b p .due)
+due-short b L D p P = go (ℕ-discrete (at b p .due) 0)
+  where
+    go : Dec (at b p .due ≡ 0) → Short (at b p .due)
+    go (yes e) = omega arith
+    go (no n) = omega (arith, D .near p P n, L .time)
+
+readable : (b : Book) → Names b → Zeros b → Whys b → Limits b → Dues b → (p : ℕ) → Known p → at b p .used ≡ true → Readable p (at b p)
+readable b N Z W L D p P u =
+    let w = why-fits b L p (at b p .state) (at b p .why) (W .fitting p P) in
+    record {
+      known = P;
+      used = u;
+      name = N .lawful p P u;
+      priority = omega (arith, L .priority p P);
+      state = w .0;
+      why = w .1;
+      due = due-short b L D p P;
+      interval = omega (arith, D .steps p P);
+      timeless = Z .timeless p P;
+    }
+
+-- ONE RECORD
+abbrev read : Option (List ℕ) → Option ℕ → Option ℕ → Option Why → Option ℕ → Option ℕ → Program
+read name priority state why due interval = record {
+  used = true;
+  name = otherwise [] name;
+  priority = otherwise 0 priority;
+  state = otherwise 0 state;
+  why = otherwise Nothing why;
+  due = otherwise 0 due;
+  interval = otherwise 0 interval;
+}
+
+reason-clean : (w : Why) → count 10 (reason w) ≡ 0
+unfolding same
+reason-clean Nothing = refl
+reason-clean (Tracks n) = count-append 10 (text "tracks:") (decimal n) ∙ omega (arith, decimal-only 10 n (λ l. absurd (omega arith)))
+reason-clean (Son k) = count-append 10 (text "son:") (decimal k) ∙ omega (arith, decimal-only 10 k (λ l. absurd (omega arith)))
+reason-clean (Lock r) = count-append 10 (text "lock:") (decimal r) ∙ omega (arith, decimal-only 10 r (λ l. absurd (omega arith)))
+reason-clean Number = refl
+
+module _ (p : ℕ) (r : Program) (K : Readable p r) where
+  due-back : figureOrDash (orDash (ltb 0 (r .due)) (r .due)) ≡ some (r .due)
+  due-back = dash-back (ltb 0 (r .due)) (r .due) (K .due) (λ e. omega (arith, ltb-false 0 (r .due) e))
+
+  interval-back : figureOrDash (orDash (ltb 0 (r .due)) (r .interval)) ≡ some (r .interval)
+  interval-back = dash-back (ltb 0 (r .due)) (r .interval) (K .interval) (λ e. K .timeless (omega (arith, ltb-false 0 (r .due) e)))
+
+  record-clean : Clean (recorded p r)
+  unfolding same
+  record-clean = (
+    figure-clean (text "id") refl p,
+    (
+      clean-line (text "name") (bare (r .name)) refl (name-clean (r .name) (K .name)),
+      (
+        figure-clean (text "priority") refl (r .priority),
+        (
+          figure-clean (text "state") refl (r .state),
+          (
+            clean-line (text "why") (reason (r .why)) refl (reason-clean (r .why)),
+            (
+              clean-line (text "due") (orDash (ltb 0 (r .due)) (r .due)) refl
+                  (dash-only 10 (ltb 0 (r .due)) (r .due) (λ l. absurd (omega arith)) refl),
+              (
+                clean-line (text "interval") (orDash (ltb 0 (r .due)) (r .interval)) refl
+                    (dash-only 10 (ltb 0 (r .due)) (r .interval) (λ l. absurd (omega arith)) refl),
+                tt,
+              ),
+            ),
+          ),
+        ),
+      ),
+    ),
+  )
+
+  record-good : (n : ℕ) (rs : List (List ℕ)) → Good (recordsAhead n) rs → Good (recordsAhead (suc n)) (told (recorded p r) rs)
+  record-good n rs g =
+      record-step (decimal p) (figure-there p (omega (arith, K .known)))
+      (record-step (bare (r .name)) (ap there (name-back (r .name) (K .name)))
+      (record-step (decimal (r .priority)) (figure-there (r .priority) (K .priority))
+      (record-step (decimal (r .state)) (figure-there (r .state) (K .state))
+      (record-step (reason (r .why)) (ap there (reason-back (r .why) (K .why)))
+      (record-step (orDash (ltb 0 (r .due)) (r .due)) (ap there due-back)
+      (record-step (orDash (ltb 0 (r .due)) (r .interval)) (ap there interval-back) g))))))
+
+  read-back : read (nameOf (bare (r .name))) (figure (decimal (r .priority))) (figure (decimal (r .state))) (reasonOf (reason (r .why)))
+      (figureOrDash (orDash (ltb 0 (r .due)) (r .due))) (figureOrDash (orDash (ltb 0 (r .due)) (r .interval))) ≡ r
+  read-back =
+      ap₂ (λ (x : Option (List ℕ)) (y : Option ℕ). read x y (figure (decimal (r .state))) (reasonOf (reason (r .why)))
+      (figureOrDash (orDash (ltb 0 (r .due)) (r .due))) (figureOrDash (orDash (ltb 0 (r .due)) (r .interval))))
+      (name-back (r .name) (K .name)) (figure-decimal (r .priority) (K .priority))
+      ∙ ap₂ (λ (x : Option ℕ) (y : Option Why). read (some (r .name)) (some (r .priority)) x y
+      (figureOrDash (orDash (ltb 0 (r .due)) (r .due))) (figureOrDash (orDash (ltb 0 (r .due)) (r .interval))))
+      (figure-decimal (r .state) (K .state)) (reason-back (r .why) (K .why))
+      ∙ ap₂ (read (some (r .name)) (some (r .priority)) (some (r .state)) (some (r .why))) due-back interval-back
+      ∙ (let u = K .used in λ i. record {
+        used = sym u i;
+        name = r .name;
+        priority = r .priority;
+        state = r .state;
+        why = r .why;
+        due = r .due;
+        interval = r .interval;
+      })
+
+  record-said : (n : ℕ) (a : State lists) (rs : List (List ℕ))
+      → recordsSaid (suc n) a (told (recorded p r) rs) ≡ recordsSaid n (withRecord p r a) rs
+  unfolding recordsSaid valueOf valueBehind behind
+  record-said n a rs =
+      ap₂ (λ (q : Option ℕ) (x : Program). recordsSaid n (withRecord (otherwise 0 q) x a) rs)
+      (figure-decimal p (omega (arith, K .known))) read-back
+
+-- ALL OF THEM
+-- the state with other programs
+abbrev pub withPrograms : List Program → State lists → State lists
+withPrograms qs a = onBook (λ b. altered b qs (b .clock) (b .holders) (b .resources)) a
+
+module _ (ps : List Program) where
+  abbrev linesOf : List ℕ → List Line
+  linesOf c = join (map (λ p. recorded p (recordAt ps p)) c)
+
+  abbrev Each : List ℕ → Type 0
+  Each c = (p : ℕ) → 1 ≤ count p c → Readable p (recordAt ps p)
+
+  first-of : (p : ℕ) (c : List ℕ) → Each (p ∷ c) → Readable p (recordAt ps p)
+  first-of p c R = R p (omega (arith, same-refl p))
+
+  others-of : (p : ℕ) (c : List ℕ) → Each (p ∷ c) → Each c
+  others-of p c R q h = R q (omega arith)
+
+  each-clean : (c : List ℕ) → Each c → Clean (linesOf c)
+  each-clean [] R = tt
+  each-clean (p ∷ c) R =
+      clean-append (recorded p (recordAt ps p)) (linesOf c) (record-clean p (recordAt ps p) (first-of p c R)) (each-clean c (others-of p c R))
+
+  each-good : (c : List ℕ) → Each c → (rs : List (List ℕ)) → Good (recordsAhead 0) rs → Good (recordsAhead (length c)) (told (linesOf c) rs)
+  each-good [] R rs g = g
+  each-good (p ∷ c) R rs g =
+      record-good p (recordAt ps p) (first-of p c R) (length c) (told (linesOf c) rs) (each-good c (others-of p c R) rs g)
+
+  put-with : (p : ℕ) → Known p → (r : Program) (qs : List Program) (a : State lists)
+      → withRecord p r (withPrograms qs a) ≡ withPrograms (set qs (p - 1) r) a
+  put-with p P r qs a =
+      ap (λ (t : Bool). record { book = cond t (withPrograms (set qs (p - 1) r) a .book) (withPrograms qs a .book); kept = a .kept })
+      (known-is p P)
+
+  each-said : (c : List ℕ) → Each c → (qs : List Program) (a : State lists) (rs : List (List ℕ))
+      → recordsSaid (length c) (withPrograms qs a) (told (linesOf c) rs)
+      ≡ chainsSaid chained (withPrograms (copied missing (λ r. false) ps c qs) a) rs
+  unfolding recordsSaid
+  each-said [] R qs a rs = refl
+  each-said (p ∷ c) R qs a rs =
+      let K = first-of p c R in
+      record-said p (recordAt ps p) K (length c) (withPrograms qs a) (told (linesOf c) rs)
+      ∙ ap (λ (x : State lists). recordsSaid (length c) x (told (linesOf c) rs)) (put-with p (K .known) (recordAt ps p) qs a)
+      ∙ each-said c (others-of p c R) (set qs (p - 1) (recordAt ps p)) a rs
+
+-- the used ones of a sound book, put into unused ones
+module _ (b : Book) (l : length (b .programs) ≡ 32) (N : Names b) (Z : Zeros b) (W : Whys b) (L : Limits b) (D : Dues b) where
+  used-each : Each (b .programs) (usedIn (b .programs))
+  unfolding usedIn
+  used-each p h =
+      let k = keep-in (λ q. recordAt (b .programs) q .used) p all h in
+      readable b N Z W L D p (all-in p (k .1)) (k .0)
+
+  not-used : (p : ℕ) → Known p → count p (usedIn (b .programs)) ≡ 0 → at b p .used ≡ false
+  unfolding usedIn
+  not-used p P h = go (at b p .used) (count-keep (λ q. recordAt (b .programs) q .used) p all)
+    where
+      go : (t : Bool) → count p (keep (λ q. recordAt (b .programs) q .used) all) ≡ cond t (count p all) 0 → t ≡ false
+      go true e = absurd (omega (arith, all-one p P))
+      go false e = refl
+
+  used-copies : Copies missing (λ r. false) (b .programs) (usedIn (b .programs)) (replicate 32 unused)
+  used-copies = record {
+    long = length-replicate 32 unused ∙ sym l;
+    left = λ j h k.
+        let P : Known (suc j) = (omega arith, omega arith) in
+        let e : suc j - 1 ≡ j = omega arith in
+        getD-replicate 32 j unused missing (omega arith) ∙ sym (Z .empty (suc j) P (not-used (suc j) P k))
+        ∙ ap (λ (i : ℕ). getD (b .programs) i missing) e;
+    skipped = λ j h k. false-true k;
+  }
+
+  pub records-clean : Clean (recordLines (b .programs))
+  unfolding recordLines
+  records-clean = each-clean (b .programs) (usedIn (b .programs)) used-each
+
+  pub records-good : (rs : List (List ℕ)) → Good (recordsAhead 0) rs
+      → Good (recordsAhead (length (usedIn (b .programs)))) (told (recordLines (b .programs)) rs)
+  unfolding recordLines
+  records-good = each-good (b .programs) (usedIn (b .programs)) used-each
+
+  pub records-said : (a : State lists) (rs : List (List ℕ))
+      → recordsSaid (length (usedIn (b .programs))) (withPrograms (replicate 32 unused) a) (told (recordLines (b .programs)) rs)
+      ≡ chainsSaid chained (withPrograms (b .programs) a) rs
+  unfolding recordLines
+  records-said a rs =
+      each-said (b .programs) (usedIn (b .programs)) used-each (replicate 32 unused) a rs
+      ∙ ap (λ (qs : List Program). chainsSaid chained (withPrograms qs a) rs)
+      (copies-all missing (λ r. false) (b .programs) (usedIn (b .programs)) (replicate 32 unused) used-copies)
