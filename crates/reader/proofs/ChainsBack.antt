@@ -25,7 +25,7 @@ use Rattle.reader.specs.Shapes.{there, otherwise, listed}
 use Rattle.reader.specs.Order.{holding, recordsAhead}
 use Rattle.reader.specs.Said.{withChain, restSaid, chainsSaid}
 use Rattle.reader.proofs.Text.{decimal-only, content, told, Clean, clean-line}
-use Rattle.reader.proofs.Values.{Short, listed-back}
+use Rattle.reader.proofs.ValuesBack.{Short, listed-back}
 use Rattle.reader.proofs.Scan.{Good, value-behind, chain-step}
 
 -- a chain's line

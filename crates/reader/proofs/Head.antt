@@ -14,7 +14,7 @@ use Rattle.reader.specs.Shapes.{there, otherwise, figure}
 use Rattle.reader.specs.Order.{valueBehind, isFigure, headForms, heading, recordsAhead}
 use Rattle.reader.specs.Said.{valueOf, started, recordsSaid, said}
 use Rattle.reader.proofs.Text.{decimal-only, told, Clean, clean-line}
-use Rattle.reader.proofs.Values.{Short, figure-decimal}
+use Rattle.reader.proofs.ValuesBack.{Short, figure-decimal}
 use Rattle.reader.proofs.Scan.{Good, head-step, head-last}
 
 -- a number's digits have the shape of one, and no byte 10

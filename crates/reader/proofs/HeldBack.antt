@@ -26,7 +26,7 @@ use Rattle.reader.specs.Shapes.{there, runIn}
 use Rattle.reader.specs.Order.{valueBehind, holding}
 use Rattle.reader.specs.Said.{onBook, withRun, withLine, restSaid}
 use Rattle.reader.proofs.Text.{told, told-append, Clean, clean-append, clean-line}
-use Rattle.reader.proofs.Values.{Short}
+use Rattle.reader.proofs.ValuesBack.{Short}
 use Rattle.reader.proofs.Joined.{runText, run-back, run-clean}
 use Rattle.reader.proofs.Scan.{Good, held-step}
 

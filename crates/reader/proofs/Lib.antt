@@ -1,5 +1,5 @@
 pub mod Text
-pub mod Values
+pub mod ValuesBack
 pub mod Joined
 pub mod NameBack
 pub mod Scan

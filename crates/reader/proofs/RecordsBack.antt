@@ -30,7 +30,7 @@ use Rattle.reader.specs.Shapes.{there, otherwise, figure, figureOrDash, 
 use Rattle.reader.specs.Order.{valueBehind, recordsAhead}
 use Rattle.reader.specs.Said.{valueOf, onBook, withRecord, chainsSaid, recordsSaid}
 use Rattle.reader.proofs.Text.{decimal-only, told, told-append, Clean, clean-append, clean-line}
-use Rattle.reader.proofs.Values.{Short, figure-decimal, dash-back, Fitting, reason-back}
+use Rattle.reader.proofs.ValuesBack.{Short, figure-decimal, dash-back, Fitting, reason-back}
 use Rattle.reader.proofs.Joined.{dash-only}
 use Rattle.reader.proofs.NameBack.{name-back, name-clean}
 use Rattle.reader.proofs.Scan.{Good, record-step}
