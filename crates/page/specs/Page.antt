@@ -33,12 +33,45 @@ bytesOf l = entry (l .key) (l .value)
 unfoldable pub bytes : List Line → List ℕ
 bytes ls = join (map bytesOf ls)
 
--- THE KEYS, as they come on the page; src/keys.rt has the code's, and what puts a line promises the key that stands here
-abbrev pub headKeys : List String
-headKeys = "page" ∷ "clock" ∷ "tracks" ∷ "system" ∷ "numbers" ∷ "programs" ∷ []
+-- THE KEYS; src/keys.rt has the code's, and what puts a line promises the key that stands here
+abbrev pub pageKey : String
+pageKey = "page"
 
-abbrev pub recordKeys : List String
-recordKeys = "id" ∷ "name" ∷ "priority" ∷ "state" ∷ "why" ∷ "due" ∷ "interval" ∷ []
+abbrev pub clockKey : String
+clockKey = "clock"
+
+abbrev pub tracksKey : String
+tracksKey = "tracks"
+
+abbrev pub systemKey : String
+systemKey = "system"
+
+abbrev pub numbersKey : String
+numbersKey = "numbers"
+
+abbrev pub programsKey : String
+programsKey = "programs"
+
+abbrev pub idKey : String
+idKey = "id"
+
+abbrev pub nameKey : String
+nameKey = "name"
+
+abbrev pub priorityKey : String
+priorityKey = "priority"
+
+abbrev pub stateKey : String
+stateKey = "state"
+
+abbrev pub whyKey : String
+whyKey = "why"
+
+abbrev pub dueKey : String
+dueKey = "due"
+
+abbrev pub intervalKey : String
+intervalKey = "interval"
 
 abbrev pub chainKey : String
 chainKey = "chain"
@@ -51,6 +84,13 @@ numberKey = "number"
 
 abbrev pub endKey : String
 endKey = "end"
+
+-- the head's and a record's, as they come on the page
+abbrev pub headKeys : List String
+headKeys = pageKey ∷ clockKey ∷ tracksKey ∷ systemKey ∷ numbersKey ∷ programsKey ∷ []
+
+abbrev pub recordKeys : List String
+recordKeys = idKey ∷ nameKey ∷ priorityKey ∷ stateKey ∷ whyKey ∷ dueKey ∷ intervalKey ∷ []
 
 -- the states whose chains are shown; the key is `chain` and the state's digit
 abbrev pub chained : List ℕ

@@ -10,7 +10,7 @@ use Rattle.lists.specs.Lists.{alike}
 use Rattle.text.specs.Text.{text, behind}
 use Rattle.records.specs.Names.{nameOf}
 use Rattle.page.specs.Page.{headKeys, recordKeys, heldKey, numberKey, endKey, chained, keyOfChain, firstWord, lastWord}
-use Rattle.reader.specs.Shapes.{there, the, figure, figureOrDash, reasonOf, listed, runIn, numbered}
+use Rattle.reader.specs.Shapes.{there, otherwise, figure, figureOrDash, reasonOf, listed, runIn, numbered}
 
 -- a kind of line: its key, and whether a value has its shape
 pub record Form : Type 0 where
@@ -26,19 +26,19 @@ formed [] ss = []
 formed (k ∷ ks) [] = []
 formed (k ∷ ks) (s ∷ ss) = form k s ∷ formed ks ss
 
-abbrev pub number : List ℕ → Bool
-number v = there (figure v)
+abbrev pub isFigure : List ℕ → Bool
+isFigure v = there (figure v)
 
-abbrev pub numberOrDash : List ℕ → Bool
-numberOrDash v = there (figureOrDash v)
+abbrev pub isFigureOrDash : List ℕ → Bool
+isFigureOrDash v = there (figureOrDash v)
 
 abbrev pub headForms : List Form
-headForms = formed headKeys ((λ v. alike v (text firstWord)) ∷ number ∷ number ∷ number ∷ number ∷ number ∷ [])
+headForms = formed headKeys ((λ v. alike v (text firstWord)) ∷ isFigure ∷ isFigure ∷ isFigure ∷ isFigure ∷ isFigure ∷ [])
 
 abbrev pub recordForms : List Form
 recordForms =
     formed recordKeys
-    (number ∷ (λ v. there (nameOf v)) ∷ number ∷ number ∷ (λ v. there (reasonOf v)) ∷ numberOrDash ∷ numberOrDash ∷ [])
+    (isFigure ∷ (λ v. there (nameOf v)) ∷ isFigure ∷ isFigure ∷ (λ v. there (reasonOf v)) ∷ isFigureOrDash ∷ isFigureOrDash ∷ [])
 
 abbrev pub chainForms : List Form
 chainForms = map (λ s. record { key = keyOfChain s; shape = λ v. there (listed v) }) chained
@@ -62,39 +62,38 @@ pub data Place : Type 0 where
   ended : Place  -- nothing
 
 -- these chains come, and then what is held
-abbrev pub chains : List Form → Place
-chains [] = holding
-chains (f ∷ fs) = chaining (f ∷ fs)
+abbrev pub chainsAhead : List Form → Place
+chainsAhead [] = holding
+chainsAhead (f ∷ fs) = chaining (f ∷ fs)
 
 -- n records come, and then the chains; these lines of a record, and then n records
-abbrev pub records : ℕ → Place
-records zero = chains chainForms
-records (suc n) = recording recordForms n
+abbrev pub recordsAhead : ℕ → Place
+recordsAhead zero = chainsAhead chainForms
+recordsAhead (suc n) = recording recordForms n
 
-abbrev pub recordAnd : List Form → ℕ → Place
-recordAnd [] n = records n
-recordAnd (f ∷ fs) n = recording (f ∷ fs) n
+abbrev pub recordAhead : List Form → ℕ → Place
+recordAhead [] n = recordsAhead n
+recordAhead (f ∷ fs) n = recording (f ∷ fs) n
 
 -- a kind of line that may come, and where the reader stands behind it, by its value
 pub record Choice : Type 0 where
   pub kind : Form
   pub then : List ℕ → Place
 
-abbrev pub _⇒_ : Form → Place → Choice
-_⇒_ f p = record { kind = f; then = λ v. p }
+abbrev pub choice : Form → Place → Choice
+choice f p = record { kind = f; then = λ v. p }
 
-infixl 90 _⇒_
 -- the kinds that may come: the records as many as the head's last line says
 abbrev pub mayCome : Place → List Choice
 mayCome (heading []) = []
-mayCome (heading (f ∷ [])) = record { kind = f; then = λ v. records (the 0 (figure v)) } ∷ []
-mayCome (heading (f ∷ g ∷ fs)) = f ⇒ heading (g ∷ fs) ∷ []
+mayCome (heading (f ∷ [])) = record { kind = f; then = λ v. recordsAhead (otherwise 0 (figure v)) } ∷ []
+mayCome (heading (f ∷ g ∷ fs)) = choice f (heading (g ∷ fs)) ∷ []
 mayCome (recording [] n) = []
-mayCome (recording (f ∷ fs) n) = f ⇒ recordAnd fs n ∷ []
+mayCome (recording (f ∷ fs) n) = choice f (recordAhead fs n) ∷ []
 mayCome (chaining []) = []
-mayCome (chaining (f ∷ fs)) = f ⇒ chains fs ∷ []
-mayCome holding = heldForm ⇒ holding ∷ numberForm ⇒ numbering ∷ endForm ⇒ ended ∷ []
-mayCome numbering = numberForm ⇒ numbering ∷ endForm ⇒ ended ∷ []
+mayCome (chaining (f ∷ fs)) = choice f (chainsAhead fs) ∷ []
+mayCome holding = choice heldForm holding ∷ choice numberForm numbering ∷ choice endForm ended ∷ []
+mayCome numbering = choice numberForm numbering ∷ choice endForm ended ∷ []
 mayCome ended = []
 
 -- what a line of that key has behind its `=`
@@ -119,8 +118,7 @@ unfoldable pub behindLine : Place → List ℕ → Option Place
 unfolding valueBehind
 behindLine p l = afterOne (mayCome p) l
 
--- The lines of a text are its parts between the bytes 10; behind the last byte 10 nothing stands. The first line, the next being line n,
--- that is not well formed, or the line after the last where the page stops short; 0 where there is none.
+-- what stands behind the last byte 10, as line n: it has to be nothing, and the page at its end
 abbrev pub behindAll : Place → ℕ → List ℕ → ℕ
 behindAll ended n [] = 0
 behindAll ended n (c ∷ cs) = n
@@ -130,6 +128,8 @@ behindAll (chaining fs) n l = n
 behindAll holding n l = n
 behindAll numbering n l = n
 
+-- The lines of a text are its parts between the bytes 10. The first of them, counted on from n, that is not well formed, or the line
+-- after the last where the page stops short; 0 where there is none.
 unfoldable pub firstBad : Place → ℕ → List (List ℕ) → ℕ
 unfolding behindLine
 firstBad p n [] = n

@@ -1,12 +1,13 @@
--- What the lines of a page say, where all of them are well formed: fresh tables of those sizes, in which each line puts what it says. A line
--- that names no record, no tracks or no number of these tables puts nothing.
+-- What the lines of a page say, where all of them are well formed: fresh tables of those sizes, in which each line puts what
+-- it says. A line that names no record, no tracks or no number of these tables puts nothing.
 -- Assumes nothing.
 use Prim.Native.Nat.{ℕ, zero, suc, _-_}
+use Prim.Native.String.{String}
 use mathlib.Core.Bool.{true, cond, _&&_}
-use mathlib.Core.List.{List, [], _∷_, map}
+use mathlib.Core.List.{List, [], _∷_}
 use mathlib.Core.Option.{none, some}
-use lib.ListN.{length, getD, set, drop}
-use lib.Dec.{leb, ltb, eqb}
+use lib.ListN.{length, set, take, drop}
+use lib.Dec.{leb, ltb}
 use Rattle.lists.specs.Lists.{upTo}
 use Rattle.text.specs.Text.{text}
 use Rattle.records.specs.declared.Program.{Program}
@@ -20,21 +21,19 @@ use Rattle.tracks.specs.Tracks.{filled}
 use Rattle.rules.specs.Book.{Book, put, withClock, withHolders, withResources, freshBook}
 use Rattle.rules.specs.Rules.{sizes}
 use Rattle.rules.specs.Keeper.{lists, State}
-use Rattle.page.specs.Page.{headKeys, recordKeys, heldKey, numberKey, chained}
-use Rattle.reader.specs.Shapes.{the, byte, twoBytes, figure, figureOrDash, reasonOf, listed, runIn, Numbered, numbered}
+use Rattle.page.specs.Page.{clockKey, tracksKey, systemKey, numbersKey, programsKey, idKey, nameKey, priorityKey, stateKey, whyKey, dueKey}
+use Rattle.page.specs.Page.{intervalKey, headKeys, recordKeys, heldKey, numberKey, chained, keyOfChain}
+use Rattle.reader.specs.Shapes.{otherwise, figure, figureOrDash, reasonOf, listed, runIn, Numbered, numbered}
 use Rattle.reader.specs.Order.{valueBehind}
 
--- what a line has behind its first `=`; a number there
-abbrev pub value : List ℕ → List ℕ
-value [] = []
-value (c ∷ cs) = cond (eqb c 61) cs (value cs)
+-- the value of the line of that key among some lines; a number there
+unfoldable pub valueOf : String → List (List ℕ) → List ℕ
+unfolding valueBehind
+valueOf key [] = []
+valueOf key (l ∷ ls) = elim (valueBehind (text key) l) [ some v ↦ v | none ↦ valueOf key ls ]
 
-abbrev pub figureIn : List ℕ → ℕ
-figureIn l = the 0 (figure (value l))
-
--- line i of these, from 0 on
-abbrev pub lineAt : ℕ → List (List ℕ) → List ℕ
-lineAt i ls = getD ls i []
+abbrev pub figureOf : String → List (List ℕ) → ℕ
+figureOf key ls = otherwise 0 (figure (valueOf key ls))
 
 -- the state with another book, or another chain of state s
 abbrev pub onBook : (Book → Book) → State lists → State lists
@@ -43,21 +42,24 @@ onBook f a = record { book = f (a .book); kept = a .kept }
 abbrev pub withChain : ℕ → List ℕ → State lists → State lists
 withChain s c a = record { book = a .book; kept = set (a .kept) s c }
 
--- the head: what FRESH yields for these sizes, at that time
-abbrev pub begun : ℕ → ℕ → ℕ → ℕ → State lists
-begun clock T S R =
+-- the head: what FRESH yields for these sizes, the smallest where they are not allowed, at that time
+abbrev pub started : ℕ → ℕ → ℕ → ℕ → State lists
+started clock T S R =
     record { book = withClock clock (cond (sizes T S R) (freshBook T S R) (freshBook 1 0 0)); kept = lists .none }
 
--- a record, by its lines: the first is its id
+abbrev pub headIn : List (List ℕ) → State lists
+headIn ls = started (figureOf clockKey ls) (figureOf tracksKey ls) (figureOf systemKey ls) (figureOf numbersKey ls)
+
+-- a record, by its lines
 abbrev pub recordIn : List (List ℕ) → Program
 recordIn ls = record {
   used = true;
-  name = the [] (nameOf (value (lineAt 1 ls)));
-  priority = twoBytes (figureIn (lineAt 2 ls));
-  state = byte (figureIn (lineAt 3 ls));
-  why = the Nothing (reasonOf (value (lineAt 4 ls)));
-  due = the 0 (figureOrDash (value (lineAt 5 ls)));
-  interval = the 0 (figureOrDash (value (lineAt 6 ls)));
+  name = otherwise [] (nameOf (valueOf nameKey ls));
+  priority = figureOf priorityKey ls;
+  state = figureOf stateKey ls;
+  why = otherwise Nothing (reasonOf (valueOf whyKey ls));
+  due = otherwise 0 (figureOrDash (valueOf dueKey ls));
+  interval = otherwise 0 (figureOrDash (valueOf intervalKey ls));
 }
 
 abbrev pub withRecord : ℕ → Program → State lists → State lists
@@ -100,17 +102,19 @@ unfoldable pub chainsSaid : List ℕ → State lists → List (List ℕ) → Sta
 unfolding restSaid
 chainsSaid [] a ls = restSaid a ls
 chainsSaid (s ∷ ss) a [] = a
-chainsSaid (s ∷ ss) a (l ∷ ls) = chainsSaid ss (withChain s (map byte (the [] (listed (value l)))) a) ls
+chainsSaid (s ∷ ss) a (l ∷ ls) = chainsSaid ss (withChain s (otherwise [] (listed (otherwise [] (valueBehind (keyOfChain s) l)))) a) ls
 
 -- n records, and what comes behind
 unfoldable pub recordsSaid : ℕ → State lists → List (List ℕ) → State lists
 unfolding chainsSaid
 recordsSaid zero a ls = chainsSaid chained a ls
-recordsSaid (suc n) a ls = recordsSaid n (withRecord (figureIn (lineAt 0 ls)) (recordIn ls) a) (drop (length recordKeys) ls)
+recordsSaid (suc n) a ls =
+    let own : List (List ℕ) = take (length recordKeys) ls in
+    recordsSaid n (withRecord (figureOf idKey own) (recordIn own) a) (drop (length recordKeys) ls)
 
 -- all of them
 unfoldable pub said : List (List ℕ) → State lists
 unfolding recordsSaid
 said ls =
-    recordsSaid (figureIn (lineAt 5 ls)) (begun (figureIn (lineAt 1 ls)) (figureIn (lineAt 2 ls)) (figureIn (lineAt 3 ls))
-    (figureIn (lineAt 4 ls))) (drop (length headKeys) ls)
+    let own : List (List ℕ) = take (length headKeys) ls in
+    recordsSaid (figureOf programsKey own) (headIn own) (drop (length headKeys) ls)

@@ -7,7 +7,7 @@ use mathlib.Core.Bool.{Bool, true, false, cond}
 use mathlib.Core.List.{List, [], _∷_}
 use mathlib.Core.Option.{Option, none, some}
 use lib.ListN.{length}
-use lib.Dec.{eqb, ltb}
+use lib.Dec.{eqb}
 use Rattle.limits.specs.Limits.{pageDigits}
 use Rattle.lists.specs.Lists.{alike}
 use Rattle.text.specs.Text.{text, behind, numberOf, parts}
@@ -18,16 +18,15 @@ use Rattle.records.specs.Numbers.{globally}
 use Rattle.tracks.specs.declared.held.Run.{Run}
 use Rattle.page.specs.Page.{dash, globalWord, tracksWord, sonWord, lockWord, anyNumber}
 
--- there is one; the one that is there, or d
+-- What a shape gives: whether it gives something; that, or otherwise d; something made of it; or else what another gives
 abbrev pub there : {A : Type 0} → Option A → Bool
 there none = false
 there (some a) = true
 
-abbrev pub the : {A : Type 0} → A → Option A → A
-the d none = d
-the d (some a) = a
+abbrev pub otherwise : {A : Type 0} → A → Option A → A
+otherwise d none = d
+otherwise d (some a) = a
 
--- what is made of the one that is there; this, or else that
 abbrev pub into : {A : Type 0} → {B : Type 0} → (A → B) → Option A → Option B
 into f none = none
 into f (some a) = some (f a)
@@ -35,14 +34,6 @@ into f (some a) = some (f a)
 abbrev pub orElse : {A : Type 0} → Option A → Option A → Option A
 orElse none y = y
 orElse (some a) y = some a
-
--- A number that is kept in one byte, or in two, of the tables: where it is larger than these hold, it is put as the largest
--- that they hold, which sound tables have nowhere.
-abbrev pub byte : ℕ → ℕ
-byte n = cond (ltb n 256) n 255
-
-abbrev pub twoBytes : ℕ → ℕ
-twoBytes n = cond (ltb n 65536) n 65535
 
 -- a number of 1 to 13 digits without leading zeros
 abbrev pub figure : List ℕ → Option ℕ
@@ -67,9 +58,9 @@ partyOf v = orElse (word globalWord globally v) (figure v)
 abbrev pub reasonOf : List ℕ → Option Why
 reasonOf v =
     orElse (word dash Nothing v)
-    (orElse (into (λ n. Tracks (twoBytes n)) (coded tracksWord v))
-    (orElse (into (λ k. Son (byte k)) (coded sonWord v))
-    (orElse (into (λ r. Lock (byte r)) (coded lockWord v)) (word anyNumber Number v))))
+    (orElse (into Tracks (coded tracksWord v))
+    (orElse (into Son (coded sonWord v))
+    (orElse (into Lock (coded lockWord v)) (word anyNumber Number v))))
 
 -- parts of a value one behind another: the next has its shape; no part is left
 abbrev pub Parts : Type 0 → Type 0
@@ -83,7 +74,7 @@ abbrev pub over : {A : Type 0} → A → Parts A
 over a [] = some a
 over a (f ∷ fs) = none
 
--- numbers with commas between them, or nothing at all
+-- each part is a number; numbers with commas between them, or nothing at all
 abbrev pub each : Parts (List ℕ)
 each [] = some []
 each (f ∷ fs) = elim (figure f) [ none ↦ none | some n ↦ into (λ ns. n ∷ ns) (each fs) ]
@@ -100,7 +91,7 @@ abbrev pub spanOf : List ℕ → Option Span
 spanOf v = next figure (λ a. next figure (λ b. over (record { first = a; last = b }))) (parts 45 v)
 
 abbrev pub runIn : List ℕ → Option Run
-runIn v = next spanOf (λ s. next partyOf (λ h. over (record { first = s .first; last = s .last; holder = byte h }))) (parts 58 v)
+runIn v = next spanOf (λ s. next partyOf (λ h. over (record { first = s .first; last = s .last; holder = h }))) (parts 58 v)
 
 -- `r:owner:lock`
 pub record Numbered : Type 0 where
@@ -110,4 +101,4 @@ pub record Numbered : Type 0 where
 abbrev pub numbered : List ℕ → Option Numbered
 numbered v =
     next figure (λ r. next partyOf (λ o. next figureOrDash (λ l.
-    over (record { number = r; resource = record { owner = byte o; lock = byte l } })))) (parts 58 v)
+    over (record { number = r; resource = record { owner = o; lock = l } })))) (parts 58 v)
