@@ -1,9 +1,10 @@
--- Demand 3 of the tables themselves: from any sound tables, and from fresh ones, after any run of calls the chains are what the replay
--- says, which keeps none, and every call is told what the replay tells. Sound tables and the notes of their replay stay so under every
--- call; all else is read off one such pair.
+-- Demand 3 of the tables themselves: from any sound tables, from fresh ones and from those of a page, after any run of calls the chains are
+-- what the replay says, which keeps none, and every call is told what the replay tells. Sound tables and the notes of their replay stay so
+-- under every call; all else is read off one such pair.
 -- Assumes nothing.
 use Prim.Native.Nat.{ℕ, zero, suc, _+_, _<_}
 use native.Mathlib.Omega.{arith}
+use native.Mathlib.Decide.{ℕ-discrete}
 use mathlib.Core.Path.{_≡_, refl, sym, ap, ap₂, _∙_, subst}
 use mathlib.Core.Logic.{_≢_}
 use mathlib.Core.Bool.{Bool, true, false, not}
@@ -24,13 +25,13 @@ use Rattle.rules.proofs.Statements as rules
 use Rattle.rules.specs.Sound.{Sound}
 use Rattle.rules.proofs.keepers.Alike.{Alike, fresh-alike, order-alike, asks-alike, after-alike}
 use Rattle.rules.proofs.keepers.Notes.{accounts-alike, alike-accounts}
-use Rattle.rules.proofs.keepers.Notes as accounts
-use Rattle.rules.proofs.keepers.Demand.{demand, accounted}
+use Rattle.rules.proofs.keepers.Demand.{demand}
 use Rattle.rules.proofs.refusals.Refusals.{answered}
 use Rattle.rules.proofs.soundness.SoundFresh.{sound-fresh}
 use Rattle.rules.proofs.soundness.SoundRuns.{sound-after}
+use Rattle.chains.specs.Links.{linksOf}
 use Rattle.tables.specs.declared.Tables.{Tables}
-use Rattle.tables.specs.Tables.{plain, lay, Arrays}
+use Rattle.tables.specs.Tables.{plain, lay, freshly, smallest, Arrays}
 use Rattle.tables.specs.Sound.{sound}
 use Rattle.tables.specs.Calls.{laid, planned, asked, made}
 use Rattle.tables.proofs.Agree.{sound-clauses, sound-test}
@@ -42,11 +43,14 @@ use Rattle.page.specs.Paging.{Written, linked, written, paged}
 use Rattle.console.specs.Line.{Line, bad, PAGE, lineOf}
 use Rattle.console.specs.Line as line
 use Rattle.console.specs.Console.{obeyedIn, keyedIn, obeyed, keyed}
-use Rattle.history.specs.Runs.{Made, step, run, outcomes}
+use Rattle.reader.specs.Reading.{reading}
+use Rattle.history.specs.Runs.{Made, step, run, outcomes, Beginning, begins}
 use Rattle.history.specs.Runs as calls
-use Rattle.history.specs.Demand.{sortedOut, replaying, toldOf, ActsFor, for-none, for-first, Agrees, Demanded}
+use Rattle.history.specs.Demand.{sortedOut, replaying, toldOf, ActsFor, for-none, for-first, Agrees, Demanded, firstEntries, notesOf}
 use Rattle.history.proofs.Steps.{asked-planned}
 use Rattle.history.proofs.Begins.{requested-asked, requested-replayed}
+use Rattle.history.proofs.FirstEntries.{first-accounts}
+use Rattle.history.proofs.Readings.{accepted, not-read}
 use Rattle.rules.proofs.Statements.{Acts}
 
 -- sound tables, laid out as their plain state is, and the notes of a replay that it is alike to
@@ -238,20 +242,61 @@ module _ (t : Tables) (A : Arrays t) (s : sound t ≡ true) where
       → run linked t cs ≡ lay (sortedOut (run replaying (record { book = plain t .book; kept = e }) cs))
   laid-sound e a = kept-laid t (record { book = plain t .book; kept = e }) (kept-accounted e a)
 
-  -- such entries there are always
+  -- such entries there are always: the first entries
+  first-accounted : Accounts (plain t) (firstEntries (plain t) .kept)
+  first-accounted =
+      first-accounts (plain t) (plainly .shape .chains) (plainly .shape .dormant) (plainly .chains)
+      (sound-orderly t A (sound-clauses t s) .states)
+
+  kept-first : Kept t (firstEntries (plain t))
+  kept-first = kept-accounted (firstEntries (plain t) .kept) first-accounted
+
   pub demand-any : (e : Entries) × Accounts (plain t) e × ((cs : List Made) → Demanded t (record { book = plain t .book; kept = e }) cs)
   demand-any =
-      let e : Entries = accounts.notes (plain t .book) (plain t .kept) in
-      (e, accounted (plain t) plainly, demand-sound e (accounted (plain t) plainly))
+      let e : Entries = firstEntries (plain t) .kept in
+      (e, first-accounted, demand-sound e first-accounted)
 
 -- from fresh tables of any accepted sizes on
 module _ (T S R : ℕ) (e : sizes T S R ≡ true) where
+  kept-new : Kept (freshly T S R) (fresh entries T S R)
+  kept-new = kept-lay (fresh lists T S R) (sound-fresh T S R e) (fresh entries T S R) (fresh-alike T S R)
+
   kept-fresh : Kept (made T S R .tables) (fresh entries T S R)
   unfolding madeBy
-  kept-fresh = rw (e, madeBy) (kept-lay (fresh lists T S R) (sound-fresh T S R e) (fresh entries T S R) (fresh-alike T S R))
+  kept-fresh = rw (e, madeBy) kept-new
 
   pub demand-fresh : (cs : List Made) → Demanded (made T S R .tables) (fresh entries T S R) cs
   demand-fresh = kept-demanded (made T S R .tables) (fresh entries T S R) kept-fresh
 
   pub laid-fresh : (cs : List Made) → run linked (made T S R .tables) cs ≡ lay (sortedOut (run replaying (fresh entries T S R) cs))
   laid-fresh = kept-laid (made T S R .tables) (fresh entries T S R) kept-fresh
+
+-- from whatever begins a run on: FRESH, and where it is refused the smallest tables
+kept-made : (T S R : ℕ) (b : Bool) → sizes T S R ≡ b → Kept (made T S R .tables) (madeBy (fresh entries) T S R .tables)
+unfolding madeBy
+kept-made T S R true e = rw (e, madeBy) (kept-new T S R e)
+kept-made T S R false e = rw (e, madeBy) (kept-new 1 0 0 refl)
+
+-- a reading, whose tables are sound where it is accepted, and where it is refused the smallest
+smallest-arrays : Arrays smallest
+unfolding linksOf
+smallest-arrays = record { programs = refl; links = refl; holders = refl; resources = refl }
+
+module _ (accepted-arrays : (bytes : List ℕ) → reading bytes .number ≡ 0 → Arrays (reading bytes .tables)) where
+  kept-read : (bytes : List ℕ) → Dec (reading bytes .number ≡ 0)
+      → Kept (reading bytes .tables) (firstEntries (plain (reading bytes .tables)))
+  kept-read bytes (yes e) = kept-first (reading bytes .tables) (accepted-arrays bytes e) (accepted bytes e .0)
+  kept-read bytes (no n) =
+      subst (λ (t : Tables). Kept t (firstEntries (plain t))) (sym (not-read bytes n))
+      (kept-first smallest smallest-arrays (kept-new 1 0 0 refl .test))
+
+  kept-begun : (b : Beginning) → Kept (begins b) (notesOf b)
+  unfolding begins notesOf
+  kept-begun (calls.fresh T S R) = kept-made T S R (sizes T S R) refl
+  kept-begun (calls.read bytes) = kept-read bytes (ℕ-discrete (reading bytes .number) 0)
+
+  pub demand-begun : (b : Beginning) (cs : List Made) → Demanded (begins b) (notesOf b) cs
+  demand-begun b = kept-demanded (begins b) (notesOf b) (kept-begun b)
+
+  pub laid-begun : (b : Beginning) (cs : List Made) → run linked (begins b) cs ≡ lay (sortedOut (run replaying (notesOf b) cs))
+  laid-begun b = kept-laid (begins b) (notesOf b) (kept-begun b)

@@ -2,4 +2,6 @@ pub mod Steps
 pub mod Demand1
 pub mod Frames
 pub mod Begins
+pub mod FirstEntries
+pub mod Readings
 pub mod Demand3

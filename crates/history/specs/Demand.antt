@@ -8,15 +8,15 @@ use mathlib.Core.List.{List, [], _∷_, map}
 use lib.ListN.{getD}
 use lib.Dec.{eqb}
 use Rattle.limits.specs.Limits.{scheduled, states}
-use Rattle.lists.specs.Lists.{from, every}
+use Rattle.lists.specs.Lists.{from, every, join}
 use Rattle.records.specs.declared.Program.{Program}
 use Rattle.records.specs.Records.{Known}
-use Rattle.rules.specs.Book.{at, stateOf}
+use Rattle.rules.specs.Book.{Book, at, stateOf}
 use Rattle.rules.specs.Requests.{Call, Request, FRESH, running}
 use Rattle.rules.specs.Plans.{numberOf, valuesOf}
 use Rattle.rules.specs.Rules.{sizes, call}
-use Rattle.rules.specs.Keeper.{lists, entries, sorted, State, view, asks, after, fresh}
-use Rattle.rules.specs.Engine.{Handed, Engine}
+use Rattle.rules.specs.Keeper.{lists, Entries, entries, sorted, State, view, asks, after, fresh}
+use Rattle.rules.specs.Engine.{Handed, Engine, madeBy}
 use Rattle.rules.specs.Replay.{Fits, First}
 use Rattle.rules.specs.Frame.{Party, Concerned}
 use Rattle.tables.specs.declared.Tables.{Tables}
@@ -27,7 +27,8 @@ use Rattle.page.specs.Page.{page}
 use Rattle.page.specs.Paging.{linked}
 use Rattle.console.specs.Line.{lineOf}
 use Rattle.console.specs.Line as line
-use Rattle.history.specs.Runs.{Made, lentTo, step, run, outcomes}
+use Rattle.reader.specs.Reading.{reading}
+use Rattle.history.specs.Runs.{Beginning, Made, lentTo, step, run, outcomes}
 use Rattle.history.specs.Runs as calls
 
 -- DEMAND 1, of a call c on any tables t: its number is of the outline's list; where that is a refusal, the tables and
@@ -50,6 +51,21 @@ replaying = record {
   fresh = fresh entries;
   page = λ n. page (sortedOut n);
 }
+
+-- THE FIRST ENTRIES, of tables that were read: the programs in chains enter one after another, in the order in which the chains list them
+-- and one chain behind another, and so are numbered from 1 on. Which chain comes first is no matter: entries are compared within a
+-- chain only, and demand 3 holds with any entries that account for the chains (proofs/Demand3.antt `demand-sound`).
+unfoldable pub inTurn : Book → List ℕ → Entries → Entries
+inTurn b [] e = e
+inTurn b (p ∷ ps) e = inTurn b ps (entries .entered b p (stateOf b p) e)
+
+abbrev pub firstEntries : State lists → State entries
+firstEntries a = record { book = a .book; kept = inTurn (a .book) (join (a .kept)) (entries .none) }
+
+-- what the replay begins with: fresh notes, of the smallest sizes where FRESH is refused; of tables that were read, the first entries
+unfoldable pub notesOf : Beginning → State entries
+notesOf (calls.fresh T S R) = madeBy (fresh entries) T S R .tables
+notesOf (calls.read s) = firstEntries (plain (reading s .tables))
 
 -- what a call is told: its number, its values, and the buffer that was lent to it, without the tables
 abbrev pub toldOf : {S : Type 0} → Handed S → Handed (Unit {0})

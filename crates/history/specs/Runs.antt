@@ -1,5 +1,6 @@
 -- Runs of calls on an engine: requests, PAGE with any buffer, console lines of any bytes (demand 3). Each step is the definition that the
--- call's contract cites; FRESH, which takes no tables, lets the run go on with those it had where it is refused.
+-- call's contract cites; FRESH, which takes no tables, lets the run go on with those it had where it is refused. A run begins with FRESH or
+-- with the reading of a page.
 -- Assumes nothing.
 use Prim.Native.Nat.{ℕ}
 use mathlib.Core.Bool.{cond}
@@ -7,7 +8,20 @@ use mathlib.Core.List.{List, [], _∷_}
 use lib.Dec.{eqb}
 use Rattle.rules.specs.Requests.{Request, FRESH, LOAD, operator, TICK, running}
 use Rattle.rules.specs.Engine.{Reply, Handed, beside, madeBy, Engine, pagedIn}
+use Rattle.tables.specs.declared.Tables.{Tables}
+use Rattle.tables.specs.Calls.{made}
+use Rattle.reader.specs.Reading.{reading}
 use Rattle.console.specs.Console.{keyedIn}
+
+-- WHAT BEGINS A RUN: FRESH of some sizes, or the reading of a page. Neither takes tables; a reading is no call within a run.
+pub data Beginning : Type 0 where
+  fresh : ℕ → ℕ → ℕ → Beginning  -- T, S, R
+  read : List ℕ → Beginning  -- the page's bytes
+
+-- the tables that it yields: the smallest where FRESH or the reading is refused
+unfoldable pub begins : Beginning → Tables
+begins (fresh T S R) = made T S R .tables
+begins (read s) = reading s .tables
 
 -- a call of a run, with the buffer that is lent to it
 pub data Made : Type 0 where
