@@ -19,10 +19,11 @@ use tables::Tables;
 fn not_read(line: u64) -> Outcome
     ensures { λ r. ⌜ told r ≡ notRead line ⌝ }
 {
-    let least = Tables::fresh(1, 0, 0);
+    let fresh = Tables::fresh(1, 0, 0);
+    let smallest = fresh.tables;
     Outcome {
         answer: Answer::NotRead(line),
-        tables: least.tables,
+        tables: smallest,
     }
 }
 
@@ -33,7 +34,8 @@ fn judge(s: &[u8], at: usize, tables: Tables) -> Outcome
 {
     let mut space = [0u8; PAGE_ROOM];
     let w = page::write_page(tables, &mut space);
-    let Answer::Done(length) = w.answer else {
+    let answer = w.answer;
+    let Answer::Done(length) = answer else {
         return not_read(0);
     };
     let n = length as usize;
@@ -80,15 +82,22 @@ pub fn read_from(s: &[u8], at: usize) -> Outcome
     if last != 0 {
         return not_read(last);
     }
+    let programs = records.programs;
+    let links = chains.links;
+    let tracks = held.tracks;
+    let resources = numbers.numbers;
     let ledger = Ledger {
-        programs: records.programs,
-        clock: Clock { ticks: head.clock },
-        tracks: held.tracks,
-        numbers: numbers.numbers,
+        programs: programs,
+        clock: Clock::from_ticks(head.clock),
+        tracks: tracks,
+        numbers: resources,
     };
-    let tables = Tables {
-        ledger: ledger,
-        links: chains.links,
-    };
-    judge(s, at, tables)
+    judge(
+        s,
+        at,
+        Tables {
+            ledger: ledger,
+            links: links,
+        },
+    )
 }

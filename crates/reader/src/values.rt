@@ -202,7 +202,13 @@ pub(crate) fn read_resource(s: &[u8], from: usize, to: usize) -> Resource
 }
 
 // The programs of a chain, joined by commas, put into the links from a slot on.
-pub(crate) fn read_chain(s: &[u8], from: usize, to: usize, links: [u8; SLOTS], state: usize) -> Chain
+pub(crate) fn read_chain(
+    s: &[u8],
+    from: usize,
+    to: usize,
+    links: [u8; SLOTS],
+    state: usize,
+) -> Chain
     requires { ⌜ from ≤ to ⌝ }
     requires { ⌜ to ≤ length (now s) ⌝ }
     ensures { λ r. ⌜ ChainRead (slice from to (now (s .entry))) links state r ⌝ }
@@ -219,7 +225,10 @@ pub(crate) fn read_chain(s: &[u8], from: usize, to: usize, links: [u8; SLOTS], s
     while o <= to {
         let end = mark(s, o, to, b',');
         let Number::Is(n) = read_figure(s, o, end) else {
-            return Chain { ok: false, links: l };
+            return Chain {
+                ok: false,
+                links: l,
+            };
         };
         let p = byte(n);
         if slot < SLOTS {
@@ -234,5 +243,8 @@ pub(crate) fn read_chain(s: &[u8], from: usize, to: usize, links: [u8; SLOTS], s
         }
         o = end + 1;
     }
-    Chain { ok: false, links: l }
+    Chain {
+        ok: false,
+        links: l,
+    }
 }

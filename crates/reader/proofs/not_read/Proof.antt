@@ -1,0 +1,17 @@
+use borrow.Author.Needs.{needs}
+use Rattle.reader.proofs.not_read.Statement.{statement}
+use Rattle.reader.proofs.not_read.Tie as tie
+use Rattle.reader.proofs.not_read.Reads as reads
+use Rattle.reader.proofs.not_read.Lts as lts
+use Rattle.tables.proofs.Tables.fresh.Reads as fresh-reads
+
+-- src/lib.rt:22:9
+fresh-requires : tie.Need-fresh-requires
+fresh-requires c κs = search needs
+
+-- src/lib.rt:19:1
+returns : tie.Need-returns
+returns c = ?
+
+pub not-read-spec : {M : Type 1} → statement M
+not-read-spec = tie.close (tie.spec fresh-requires returns)
