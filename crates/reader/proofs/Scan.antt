@@ -39,7 +39,7 @@ value-behind key v =
     ap (behind (key ++ (61 ∷ []))) (sym (append-assoc key (61 ∷ []) v)) ∙ behind-append (key ++ (61 ∷ [])) v
 
 -- a line of the first kind that may come, whose value has its shape
-pass : (f : Form) (then : List ℕ → Place) (cs : List Choice) (v : List ℕ) → f .shape v ≡ true
+pub pass : (f : Form) (then : List ℕ → Place) (cs : List Choice) (v : List ℕ) → f .shape v ≡ true
     → afterOne (record { kind = f; then = then } ∷ cs) (f .key ++ (61 ∷ v)) ≡ some (then v)
 unfolding valueBehind
 pass f then cs v e =

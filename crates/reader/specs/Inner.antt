@@ -3,7 +3,7 @@
 use Prim.Native.Nat.{ℕ, _+_, _≤_, _<_}
 use mathlib.Core.Path.{_≡_}
 use mathlib.Core.Bool.{Bool, true, false, cond}
-use mathlib.Core.List.{List, [], _∷_, map}
+use mathlib.Core.List.{List, [], _∷_, _++_, map}
 use mathlib.Core.Option.{Option, none, some}
 use lib.ListN.{length, drop}
 use lib.Seq.{slice}
@@ -117,27 +117,26 @@ pub record ChainRead (v : List ℕ) (links : List ℕ) (s : ℕ) (r : Chain) : T
   pub nay : r .ok ≡ false → listed v ≡ none
 
 -- LINES
--- the line at a place is ended and has that key; its shape says a; the next line begins at `next`
+-- the line at a place is ended and has that key; its value's shape says a; the next line begins at `next`
 pub record LineIs {A : Type 0} (shape : List ℕ → Option A) (s : List ℕ) (at : ℕ) (key : List ℕ) (a : A) (next : ℕ) : Type 0 where
-  pub line : List ℕ
   pub value : List ℕ
-  pub cut : parts 10 (drop at s) ≡ line ∷ parts 10 (drop next s)
+  pub cut : parts 10 (drop at s) ≡ (key ++ (61 ∷ value)) ∷ parts 10 (drop next s)
   pub beyond : at + 2 ≤ next
   pub within : next ≤ length s
-  pub keyed : valueBehind key line ≡ some value
   pub shaped : shape value ≡ some a
 
 -- it is not ended, or has another key, or its value has not that shape
 pub data NoLine {A : Type 0} (shape : List ℕ → Option A) (s : List ℕ) (at : ℕ) (key : List ℕ) : Type 0 where
   unended : (l : List ℕ) → parts 10 (drop at s) ≡ l ∷ [] → NoLine shape s at key
   keyless : (l : List ℕ) (next : ℕ) → parts 10 (drop at s) ≡ l ∷ parts 10 (drop next s) → valueBehind key l ≡ none → NoLine shape s at key
-  shapeless : (l v : List ℕ) (next : ℕ) → parts 10 (drop at s) ≡ l ∷ parts 10 (drop next s) → valueBehind key l ≡ some v
-      → shape v ≡ none → NoLine shape s at key
+  shapeless : (v : List ℕ) (next : ℕ) → parts 10 (drop at s) ≡ (key ++ (61 ∷ v)) ∷ parts 10 (drop next s) → shape v ≡ none
+      → NoLine shape s at key
 
 pub record ValueIs (s : List ℕ) (at : ℕ) (key : List ℕ) (from to : ℕ) : Type 0 where
   pub low : from ≤ to
   pub high : to < length s
-  pub is : LineIs some s at key (slice from to s) (to + 1)
+  pub beyond : at < to
+  pub cut : parts 10 (drop at s) ≡ (key ++ (61 ∷ slice from to s)) ∷ parts 10 (drop (to + 1) s)
 
 abbrev pub ValueAt : List ℕ → ℕ → List ℕ → Value → Type 0
 ValueAt s at key (value.Is from to) = ValueIs s at key from to

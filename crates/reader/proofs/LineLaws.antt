@@ -1,0 +1,122 @@
+-- Laws of the line at a place: its key, its value, and the scan over it.
+-- Assumes nothing.
+use Prim.Native.Nat.{ℕ, zero, suc, _+_, _<_, _≤_}
+use native.Mathlib.Omega.{arith}
+use mathlib.Core.Path.{_≡_, refl, sym, ap, ap₂, _∙_}
+use mathlib.Core.Bool.{Bool, true, false}
+use mathlib.Core.List.{List, [], _∷_, _++_, append-assoc}
+use mathlib.Core.Option.{Option, none, some, Option·none-ne-some, Option·some-injective}
+use lib.ListN.{length, getD, drop}
+use lib.Seq.{slice}
+use Rattle.text.specs.Text.{behind, parts}
+use Rattle.text.specs.Inner.{PartEnd, BehindAt}
+use Rattle.text.proofs.Fields.{slice-next, slice-none, parts-cut}
+use Rattle.text.proofs.Words.{behind-append, behind-exact}
+use Rattle.reader.specs.Shapes.{there}
+use Rattle.reader.specs.Order.{Form, Place, Choice, valueBehind, mayCome, afterKind, afterOne, behindLine, behindAll, firstBad}
+use Rattle.reader.specs.Inner.{LineIs, NoLine, unended, keyless, shapeless, ValueIs}
+use Rattle.reader.proofs.Scan.{value-behind, pass}
+
+-- where a longer word stands in front, so does its beginning
+no-longer : (w x s : List ℕ) → ((v : List ℕ) → behind w s ≡ some (x ++ v) → ⊥) → behind (w ++ x) s ≡ none
+no-longer w x s h = go (behind (w ++ x) s) refl
+  where
+    go : (o : Option (List ℕ)) → behind (w ++ x) s ≡ o → behind (w ++ x) s ≡ none
+    go none e = e
+    go (some v) e =
+        let t : s ≡ w ++ (x ++ v) = behind-exact (w ++ x) s v e ∙ append-assoc w x v in
+        absurd (h v (ap (behind w) t ∙ behind-append w (x ++ v)))
+
+-- a line that does not begin with the key; or has no `=` behind it
+pub no-key : (key l : List ℕ) → behind key l ≡ none → valueBehind key l ≡ none
+unfolding valueBehind
+no-key key l e = no-longer key (61 ∷ []) l (λ v f. Option·none-ne-some _ (sym e ∙ f))
+
+pub no-equals : (key l r : List ℕ) → behind key l ≡ some r → ((v : List ℕ) → r ≡ 61 ∷ v → ⊥) → valueBehind key l ≡ none
+unfolding valueBehind
+no-equals key l r e h = no-longer key (61 ∷ []) l (λ v f. h v (Option·some-injective _ _ (sym e ∙ f)))
+
+-- the value of a line whose key and `=` were found
+pub value-is : (s key : List ℕ) (at e i : ℕ) → PartEnd 10 s at e → e < length s → BehindAt key s at e i → i < e → getD s i 0 ≡ 61
+    → ValueIs s at key (i + 1) e
+value-is s key at e i p h b l c =
+    let d : slice i e s ≡ 61 ∷ slice (i + 1) e s = slice-next s i e l (omega arith) ∙ ap (λ (x : ℕ). x ∷ slice (i + 1) e s) c in
+    record {
+      low = omega arith;
+      high = h;
+      beyond = omega (arith, b .place);
+      cut = p .more h
+          ∙ ap (λ (x : List ℕ). x ∷ parts 10 (drop (e + 1) s)) (behind-exact key (slice at e s) (slice i e s) (b .rest) ∙ ap (λ (x : List ℕ). key ++ x) d);
+    }
+
+-- a value with and without a shape
+module _ {A : Type 0} (shape : List ℕ → Option A) {s key : List ℕ} {at : ℕ} where
+  pub line-shaped : {from to : ℕ} {a : A} → ValueIs s at key from to → shape (slice from to s) ≡ some a → LineIs shape s at key a (to + 1)
+  line-shaped {from} {to} v e =
+      record { value = slice from to s; cut = v .cut; beyond = omega (arith, v .beyond); within = omega (arith, v .high); shaped = e }
+
+  pub line-unshaped : {from to : ℕ} → ValueIs s at key from to → shape (slice from to s) ≡ none → NoLine shape s at key
+  line-unshaped {from} {to} v e = shapeless (slice from to s) (to + 1) (v .cut) e
+
+  pub line-unkeyed : NoLine {A = List ℕ} some s at key → NoLine shape s at key
+  line-unkeyed (unended l e) = unended l e
+  line-unkeyed (keyless l next e k) = keyless l next e k
+  line-unkeyed (shapeless v next e k) = absurd (Option·none-ne-some v (sym k))
+
+-- lines ahead are never none
+pub some-line : (s : List ℕ) → (l : List ℕ) × (ls : List (List ℕ)) × (parts 10 s ≡ l ∷ ls)
+some-line s = (_, _, parts-cut 10 s)
+
+pub scan-line : (p q : Place) (l s : List ℕ) (n : ℕ) → behindLine p l ≡ some q → firstBad p n (l ∷ parts 10 s) ≡ firstBad q (suc n) (parts 10 s)
+unfolding firstBad
+scan-line p q l s n e =
+    let (m, ls, f) = some-line s in
+    ap (λ (x : List (List ℕ)). firstBad p n (l ∷ x)) f
+    ∙ ap (λ (o : Option Place). elim o [ none ↦ n | some r ↦ firstBad r (suc n) (m ∷ ls) ]) e
+    ∙ ap (firstBad q (suc n)) (sym f)
+
+pub scan-stop : (p : Place) (l s : List ℕ) (n : ℕ) → behindLine p l ≡ none → firstBad p n (l ∷ parts 10 s) ≡ n
+unfolding firstBad
+scan-stop p l s n e =
+    let (m, ls, f) = some-line s in
+    ap (λ (x : List (List ℕ)). firstBad p n (l ∷ x)) f ∙ ap (λ (o : Option Place). elim o [ none ↦ n | some r ↦ firstBad r (suc n) (m ∷ ls) ]) e
+
+-- one that is of another kind, or of the kind but not of its shape
+pub pass-key : (c : Choice) (cs : List Choice) (l : List ℕ) → valueBehind (c .kind .key) l ≡ none → afterOne (c ∷ cs) l ≡ afterOne cs l
+unfolding valueBehind
+pass-key c cs l e =
+    ap (λ (o : Option (List ℕ)). elim o [ none ↦ afterOne cs l | some v ↦ afterKind (c .then v) (c .kind .shape v) (afterOne cs l) ]) e
+
+pub pass-shape : (c : Choice) (cs : List Choice) (v : List ℕ) → c .kind .shape v ≡ false
+    → afterOne (c ∷ cs) (c .kind .key ++ (61 ∷ v)) ≡ afterOne cs (c .kind .key ++ (61 ∷ v))
+unfolding valueBehind
+pass-shape c cs v e =
+    let l : List ℕ = c .kind .key ++ (61 ∷ v) in
+    ap (λ (o : Option (List ℕ)). elim o [ none ↦ afterOne cs l | some w ↦ afterKind (c .then w) (c .kind .shape w) (afterOne cs l) ])
+    (value-behind (c .kind .key) v)
+    ∙ ap (λ (t : Bool). afterKind (c .then v) t (afterOne cs l)) e
+
+-- the scan over the line at a place, of the first kind that may come there
+module _ {A : Type 0} (shape : List ℕ → Option A) (s : List ℕ) (at : ℕ) (p : Place) (c : Choice) (cs : List Choice) (may : mayCome p ≡ c ∷ cs) where
+  pub scan-on : {a : A} {next : ℕ} (l : LineIs shape s at (c .kind .key) a next) → c .kind .shape (l .value) ≡ there (shape (l .value)) → (n : ℕ)
+      → firstBad p n (parts 10 (drop at s)) ≡ firstBad (c .then (l .value)) (suc n) (parts 10 (drop next s))
+  unfolding behindLine
+  scan-on {a} {next} l e n =
+      ap (firstBad p n) (l .cut)
+      ∙ scan-line p (c .then (l .value)) _ (drop next s) n
+      (ap (λ (x : List Choice). afterOne x (c .kind .key ++ (61 ∷ l .value))) may
+      ∙ pass (c .kind) (c .then) cs (l .value) (e ∙ ap there (l .shaped)))
+
+-- and where it is of the only kind that may come there, but is not there
+module _ {A : Type 0} (shape : List ℕ → Option A) (s : List ℕ) (at : ℕ) (p : Place) (c : Choice) (may : mayCome p ≡ c ∷ []) where
+  pub scan-off : ((n : ℕ) (l : List ℕ) → behindAll p n l ≡ n) → ((v : List ℕ) → c .kind .shape v ≡ there (shape v))
+      → NoLine shape s at (c .kind .key) → (n : ℕ) → firstBad p n (parts 10 (drop at s)) ≡ n
+  unfolding behindLine firstBad
+  scan-off b e (unended l k) n = ap (firstBad p n) k ∙ b n l
+  scan-off b e (keyless l next k f) n =
+      ap (firstBad p n) k
+      ∙ scan-stop p l (drop next s) n (ap (λ (x : List Choice). afterOne x l) may ∙ pass-key c [] l f)
+  scan-off b e (shapeless v next k f) n =
+      ap (firstBad p n) k
+      ∙ scan-stop p (c .kind .key ++ (61 ∷ v)) (drop next s) n
+      (ap (λ (x : List Choice). afterOne x (c .kind .key ++ (61 ∷ v))) may ∙ pass-shape c [] v (e v ∙ ap there f))
