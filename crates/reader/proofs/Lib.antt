@@ -9,3 +9,4 @@ pub mod RecordsBack
 pub mod ChainsBack
 pub mod NumbersBack
 pub mod HeldBack
+pub mod RoundTrip

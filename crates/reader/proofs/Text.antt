@@ -63,6 +63,14 @@ pub told-append : (xs ys : List Line) (rs : List (List ℕ)) → told (xs ++ ys)
 told-append [] ys rs = refl
 told-append (x ∷ xs) ys rs = ap (λ (r : List (List ℕ)). content x ∷ r) (told-append xs ys rs)
 
+abbrev pub toldAll : List (List Line) → List (List ℕ) → List (List ℕ)
+toldAll [] rs = rs
+toldAll (x ∷ xs) rs = told x (toldAll xs rs)
+
+pub told-join : (xs : List (List Line)) (rs : List (List ℕ)) → told (join xs) rs ≡ toldAll xs rs
+told-join [] rs = refl
+told-join (x ∷ xs) rs = told-append x (join xs) rs ∙ ap (told x) (told-join xs rs)
+
 -- lines without a byte 10
 abbrev pub Clean : List Line → Type 0
 Clean [] = Unit {0}
@@ -71,6 +79,14 @@ Clean (l ∷ ls) = (count 10 (content l) ≡ 0) × Clean ls
 pub clean-append : (xs ys : List Line) → Clean xs → Clean ys → Clean (xs ++ ys)
 clean-append [] ys h k = k
 clean-append (x ∷ xs) ys h k = (h .0, clean-append xs ys (h .1) k)
+
+abbrev pub CleanAll : List (List Line) → Type 0
+CleanAll [] = Unit {0}
+CleanAll (x ∷ xs) = Clean x × CleanAll xs
+
+pub clean-join : (xs : List (List Line)) → CleanAll xs → Clean (join xs)
+clean-join [] c = tt
+clean-join (x ∷ xs) c = clean-append x (join xs) (c .0) (clean-join xs (c .1))
 
 pub clean-line : (key v : List ℕ) → count 10 key ≡ 0 → count 10 v ≡ 0 → count 10 (key ++ (61 ∷ v)) ≡ 0
 unfolding same
