@@ -10,3 +10,5 @@ pub mod ChainsBack
 pub mod NumbersBack
 pub mod HeldBack
 pub mod RoundTrip
+pub mod Lengths
+pub mod Exact
