@@ -2,9 +2,9 @@
 -- Assumes nothing.
 use Prim.Native.Nat.{ℕ, zero, suc, _+_, _-_, _≤_}
 use native.Mathlib.Omega.{arith}
-use mathlib.Core.Path.{_≡_, refl, sym, ap, _∙_}
+use mathlib.Core.Path.{_≡_, refl, _∙_}
 use mathlib.Core.Bool.{Bool, true, false, cond, _&&_}
-use mathlib.Core.List.{List, [], _∷_, _++_}
+use mathlib.Core.List.{List, [], _∷_}
 use mathlib.Core.Option.{Option, none, some}
 use lib.Dec.{leb, ltb}
 use lib.ListN.{length, set, take, drop, replicate, length-append, length-replicate, length-set}
@@ -13,7 +13,6 @@ use Rattle.lists.specs.Lists.{upTo}
 use Rattle.lists.proofs.Tests.{both, upTo-true}
 use Rattle.text.specs.Text.{text}
 use Rattle.records.specs.declared.Program.{Program}
-use Rattle.records.specs.declared.Resource.{Resource}
 use Rattle.records.specs.Records.{known, unused}
 use Rattle.records.specs.Numbers.{free, withNumber}
 use Rattle.tracks.specs.declared.held.Run.{Run}
@@ -24,11 +23,12 @@ use Rattle.rules.specs.Rules.{sizes}
 use Rattle.rules.specs.Keeper.{lists, State}
 use Rattle.chains.specs.Links.{layChain, layAll, linksOf}
 use Rattle.tables.specs.Tables.{lay, Arrays}
-use Rattle.page.specs.Page.{recordKeys, headKeys, chained, heldKey, numberKey, keyOfChain, programsKey, idKey}
+use Rattle.page.specs.Page.{recordKeys, headKeys, chained, heldKey, numberKey, keyOfChain}
+use Rattle.page.specs.Page.{clockKey, tracksKey, systemKey, numbersKey, programsKey, idKey}
 use Rattle.reader.specs.Shapes.{otherwise, listed, runIn, Numbered, numbered}
 use Rattle.reader.specs.Order.{valueBehind}
-use Rattle.reader.specs.Said.{figureOf, withChain, started, headIn, recordIn, withRecord, withRun, withResource, withHeld, withNumbered}
-use Rattle.reader.specs.Said.{withLine, restSaid, chainsSaid, recordsSaid, said}
+use Rattle.reader.specs.Said.{figureOf, withChain, started, headIn, recordIn, withRecord, withRun, withResource}
+use Rattle.reader.specs.Said.{withHeld, withNumbered, withLine, restSaid, chainsSaid, recordsSaid, said}
 
 -- a book's lists are as long as what they list, and no longer than tables have them
 record Sized (b : Book) : Type 0 where
@@ -158,7 +158,7 @@ unfolding said
 said-sized ls =
     let own : List (List ℕ) = take (length headKeys) ls in
     records-sized (figureOf programsKey own) (drop (length headKeys) ls) (headIn own)
-    (started-sized (figureOf "clock" own) (figureOf "tracks" own) (figureOf "system" own) (figureOf "numbers" own))
+    (started-sized (figureOf clockKey own) (figureOf tracksKey own) (figureOf systemKey own) (figureOf numbersKey own))
 
 -- links are as many as there are slots
 chain-long : (l : List ℕ) (s : ℕ) (c : List ℕ) → length (layChain l s c) ≡ length l

@@ -3,35 +3,33 @@
 -- Assumes nothing.
 use Prim.Native.Nat.{ℕ}
 use native.Mathlib.Omega.{arith}
-use mathlib.Core.Path.{_≡_, refl, sym, ap, ap₂, _∙_}
+use mathlib.Core.Path.{_≡_, refl, ap, ap₂, _∙_}
 use mathlib.Core.Bool.{Bool, true, false, cond}
-use mathlib.Core.List.{List, [], _∷_, _++_}
-use lib.ListN.{length, replicate}
+use mathlib.Core.List.{List, [], _∷_}
+use lib.ListN.{length}
 use borrow.Author.Tests.{le-leb}
-use Rattle.lists.specs.Lists.{same, alike}
+use Rattle.lists.specs.Lists.{same}
 use Rattle.lists.proofs.Tests.{and, upTo-is, alike-refl}
 use Rattle.text.specs.Text.{text, behind, parts}
 use Rattle.records.specs.declared.Program.{Program}
-use Rattle.records.specs.Records.{all, recordAt, unused}
-use Rattle.records.specs.Numbers.{free}
-use Rattle.rules.specs.Book.{Book, withClock, freshBook}
+use Rattle.records.specs.Records.{all, recordAt}
+use Rattle.rules.specs.Book.{withClock, freshBook}
 use Rattle.rules.specs.Rules.{sizes}
 use Rattle.rules.specs.Keeper.{lists, State}
-use Rattle.rules.specs.Sound.{Sound, Limits}
+use Rattle.rules.specs.Sound.{Sound}
 use Rattle.tables.specs.declared.Tables.{Tables}
 use Rattle.tables.specs.Tables.{plain, lay, Arrays}
 use Rattle.tables.specs.Sound.{sound}
-use Rattle.tables.specs.Calls.{Result}
 use Rattle.tables.proofs.Agree.{sound-clauses}
 use Rattle.tables.proofs.Orderly.{sound-orderly, orderly-lay}
 use Rattle.tables.proofs.Plain.{sound-plain}
-use Rattle.page.specs.Page.{Line, line, endKey, lastWord, usedIn, headLines, recordLines, chainLines, heldLines, numberLines, lines, page}
+use Rattle.page.specs.Page.{Line, line, endKey, lastWord, usedIn, recordLines, chainLines, heldLines, numberLines, lines, page}
 use Rattle.page.specs.Page as page
 use Rattle.page.proofs.Weights.{keep-length}
 use Rattle.reader.specs.Order.{valueBehind, heading, headForms, firstBad}
 use Rattle.reader.specs.Said.{started, withLine, restSaid, recordsSaid, said}
 use Rattle.reader.specs.Reading.{wasRead, notRead, writes, judged, reading}
-use Rattle.reader.proofs.Text.{told, toldAll, told-join, Clean, CleanAll, clean-join, bytes-parts}
+use Rattle.reader.proofs.Text.{told, toldAll, told-join, Clean, clean-none, clean-more, clean-append, bytes-parts}
 use Rattle.reader.proofs.Values.{Short}
 use Rattle.reader.proofs.Scan.{Good, lastLines, end-held, end-numbered}
 use Rattle.reader.proofs.Head.{head-clean, head-good, head-said}
@@ -50,7 +48,7 @@ last = line endKey (text lastWord) ∷ []
 
 last-clean : Clean last
 unfolding same
-last-clean = (refl, tt)
+last-clean = clean-more refl clean-none
 
 last-said : (a : State lists) → restSaid a lastLines ≡ a
 unfolding restSaid withLine valueBehind behind
@@ -58,44 +56,33 @@ last-said a = refl
 
 module _ (a : State lists) (S : Sound a) where
   -- the page's lines, part by part
-  parts-clean : CleanAll (page.parts a)
-  parts-clean = (
-    head-clean (a .book .clock) (a .book .tracks) (a .book .system) (a .book .numbers) (length (usedIn (a .book .programs))),
-    (
-      records-clean (a .book) (S .shape .programs) (S .names) (S .zeros) (S .whys) (S .limits) (S .dues),
-      (
-        chains-clean (a .book) (a .kept) (S .chains),
-        (
-          held-clean (a .book) (S .shape .holders) (S .limits) (S .system),
-          (
-            numbers-clean (a .book) (S .shape .resources) (S .limits) (S .unlocked),
-            (last-clean, tt),
-          ),
-        ),
-      ),
-    ),
-  )
+  lines-clean : Clean (lines a)
+  unfolding lines
+  lines-clean =
+      clean-append
+      (head-clean (a .book .clock) (a .book .tracks) (a .book .system) (a .book .numbers) (length (usedIn (a .book .programs))))
+      (clean-append (records-clean (a .book) (S .shape .programs) (S .names) (S .zeros) (S .whys) (S .limits) (S .dues))
+      (clean-append (chains-clean (a .book) (a .kept) (S .chains))
+      (clean-append (held-clean (a .book) (S .shape .holders) (S .limits) (S .system))
+      (clean-append (numbers-clean (a .book) (S .shape .resources) (S .limits) (S .unlocked))
+      (clean-append last-clean clean-none)))))
 
   page-lines : parts 10 (page a) ≡ toldAll (page.parts a) ([] ∷ [])
   unfolding page lines
-  page-lines = bytes-parts (lines a) (clean-join (page.parts a) parts-clean) ∙ told-join (page.parts a) ([] ∷ [])
+  page-lines = bytes-parts lines-clean ∙ told-join (page.parts a) ([] ∷ [])
 
   -- what is left behind each part
   abbrev behindHeld : List (List ℕ)
   behindHeld = told (numberLines (a .book .numbers) (a .book .resources)) lastLines
 
   abbrev behindChains : List (List ℕ)
-  behindChains = told (heldLines (a .book .holders)) (told (numberLines (a .book .numbers) (a .book .resources)) lastLines)
+  behindChains = told (heldLines (a .book .holders)) behindHeld
 
   abbrev behindRecords : List (List ℕ)
-  behindRecords =
-      told (chainLines (a .kept)) (told (heldLines (a .book .holders))
-      (told (numberLines (a .book .numbers) (a .book .resources)) lastLines))
+  behindRecords = told (chainLines (a .kept)) behindChains
 
   abbrev behindHead : List (List ℕ)
-  behindHead =
-      told (recordLines (a .book .programs)) (told (chainLines (a .kept)) (told (heldLines (a .book .holders))
-      (told (numberLines (a .book .numbers) (a .book .resources)) lastLines)))
+  behindHead = told (recordLines (a .book .programs)) behindRecords
 
   -- its figures are short
   clock-short : Short (a .book .clock)
