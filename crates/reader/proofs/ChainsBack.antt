@@ -25,8 +25,8 @@ use Rattle.reader.specs.Shapes.{there, otherwise, listed}
 use Rattle.reader.specs.Order.{holding, recordsAhead}
 use Rattle.reader.specs.Said.{withChain, restSaid, chainsSaid}
 use Rattle.reader.proofs.Text.{decimal-only, content, told, Clean, clean-none, clean-more, clean-line}
-use Rattle.reader.proofs.Values.{Short, listed-back}
-use Rattle.reader.proofs.Scan.{Good, value-behind, chain-step}
+use Rattle.reader.proofs.ValuesBack.{Short, listed-back}
+use Rattle.reader.proofs.ScanLaws.{Good, value-behind, chain-step}
 
 -- a chain's line
 between-clean : (c : List ℕ) → count 10 (between 44 (map decimal c)) ≡ 0

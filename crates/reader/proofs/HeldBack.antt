@@ -27,7 +27,7 @@ use Rattle.reader.specs.Order.{valueBehind, holding}
 use Rattle.reader.specs.Said.{onBook, withRun, withLine, restSaid}
 use Rattle.reader.proofs.Text.{told, told-append, Clean, clean-none, clean-more, clean-append, clean-line}
 use Rattle.reader.proofs.Joined.{runText, run-back, run-clean}
-use Rattle.reader.proofs.Scan.{Good, held-step}
+use Rattle.reader.proofs.ScanLaws.{Good, held-step}
 
 -- ONE RUN, which has no line where it is free or the system's
 abbrev plain : ℕ → Bool

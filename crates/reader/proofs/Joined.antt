@@ -19,7 +19,7 @@ use Rattle.page.specs.Page.{dash, globalWord, orDash, party}
 use Rattle.page.proofs.Writing.{party-global, party-program}
 use Rattle.reader.specs.Shapes.{figure, figureOrDash, partyOf, next, over, Span, spanOf, runIn, Numbered, numbered}
 use Rattle.reader.proofs.Text.{decimal-only, parts-at, parts-last}
-use Rattle.reader.proofs.Values.{Short, figure-decimal, dash-back, party-back}
+use Rattle.reader.proofs.ValuesBack.{Short, figure-decimal, dash-back, party-back}
 
 -- bytes that a party or a number that may be absent has not
 pub party-only : (c h : ℕ) → (48 ≤ c → 57 < c) → count c (text globalWord) ≡ 0 → count c (party h) ≡ 0

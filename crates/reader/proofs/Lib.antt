@@ -1,9 +1,9 @@
 pub mod Text
-pub mod Values
+pub mod ValuesBack
 pub mod Joined
 pub mod NameBack
-pub mod Scan
-pub mod Head
+pub mod ScanLaws
+pub mod HeadBack
 pub mod Copying
 pub mod RecordsBack
 pub mod ChainsBack

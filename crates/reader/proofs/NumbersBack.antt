@@ -23,9 +23,9 @@ use Rattle.reader.specs.Shapes.{there, Numbered, numbered}
 use Rattle.reader.specs.Order.{valueBehind, holding, numbering}
 use Rattle.reader.specs.Said.{onBook, withResource, withLine, restSaid}
 use Rattle.reader.proofs.Text.{told, told-append, Clean, clean-none, clean-more, clean-append, clean-line}
-use Rattle.reader.proofs.Values.{Short}
+use Rattle.reader.proofs.ValuesBack.{Short}
 use Rattle.reader.proofs.Joined.{numberText, numberOf, number-back, number-clean}
-use Rattle.reader.proofs.Scan.{Good, number-first, number-step}
+use Rattle.reader.proofs.ScanLaws.{Good, number-first, number-step}
 use Rattle.reader.proofs.Copying.{copied, Copies, copies-all}
 
 -- ONE NUMBER, which has no line where it is free

@@ -29,11 +29,11 @@ use Rattle.reader.specs.Shapes.{there, otherwise, figure, figureOrDash, 
 use Rattle.reader.specs.Order.{valueBehind, recordsAhead}
 use Rattle.reader.specs.Said.{valueOf, onBook, withRecord, chainsSaid, recordsSaid}
 use Rattle.reader.proofs.Text.{decimal-only, told, Clean, clean-none, clean-more, clean-append, clean-line}
-use Rattle.reader.proofs.Values.{Short, figure-decimal, dash-back, Fitting, reason-back}
+use Rattle.reader.proofs.ValuesBack.{Short, figure-decimal, dash-back, Fitting, reason-back}
 use Rattle.reader.proofs.Joined.{dash-only}
 use Rattle.reader.proofs.NameBack.{name-back, name-clean}
-use Rattle.reader.proofs.Scan.{Good, record-step}
-use Rattle.reader.proofs.Head.{figure-there, figure-clean}
+use Rattle.reader.proofs.ScanLaws.{Good, record-step}
+use Rattle.reader.proofs.HeadBack.{figure-there, figure-clean}
 use Rattle.reader.proofs.Copying.{copied, Copies, copies-all}
 
 -- a used record whose values are read back

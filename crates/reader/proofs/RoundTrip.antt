@@ -30,9 +30,9 @@ use Rattle.reader.specs.Order.{valueBehind, heading, headForms, firstBad
 use Rattle.reader.specs.Said.{started, withLine, restSaid, recordsSaid, said}
 use Rattle.reader.specs.Reading.{wasRead, notRead, writes, judged, reading}
 use Rattle.reader.proofs.Text.{told, toldAll, told-join, Clean, clean-none, clean-more, clean-append, bytes-parts}
-use Rattle.reader.proofs.Values.{Short}
-use Rattle.reader.proofs.Scan.{Good, lastLines, end-held, end-numbered}
-use Rattle.reader.proofs.Head.{head-clean, head-good, head-said}
+use Rattle.reader.proofs.ValuesBack.{Short}
+use Rattle.reader.proofs.ScanLaws.{Good, lastLines, end-held, end-numbered}
+use Rattle.reader.proofs.HeadBack.{head-clean, head-good, head-said}
 use Rattle.reader.proofs.RecordsBack.{withPrograms, records-clean, records-good, records-said}
 use Rattle.reader.proofs.ChainsBack.{chains-clean, chains-good, chains-said}
 use Rattle.reader.proofs.HeldBack.{withTracks, held-clean, held-good, held-said}

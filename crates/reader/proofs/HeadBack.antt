@@ -14,8 +14,8 @@ use Rattle.reader.specs.Shapes.{there, otherwise, figure}
 use Rattle.reader.specs.Order.{valueBehind, isFigure, headForms, heading, recordsAhead}
 use Rattle.reader.specs.Said.{valueOf, started, recordsSaid, said}
 use Rattle.reader.proofs.Text.{decimal-only, told, Clean, clean-none, clean-more, clean-line}
-use Rattle.reader.proofs.Values.{Short, figure-decimal}
-use Rattle.reader.proofs.Scan.{Good, head-step, head-last}
+use Rattle.reader.proofs.ValuesBack.{Short, figure-decimal}
+use Rattle.reader.proofs.ScanLaws.{Good, head-step, head-last}
 
 -- a number's digits have the shape of one, and no byte 10
 pub figure-there : (n : ℕ) → Short n → isFigure (decimal n) ≡ true
