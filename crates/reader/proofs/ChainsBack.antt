@@ -1,22 +1,22 @@
 -- The chains of a page, read back. The chains that no page shows are empty in sound states: no why fits their states.
 -- Assumes nothing.
-use Prim.Native.Nat.{ℕ, suc, _+_, _≤_, _<_}
+use Prim.Native.Nat.{ℕ, _≤_, _<_}
 use native.Mathlib.Omega.{arith}
-use mathlib.Core.Path.{_≡_, refl, sym, ap, ap₂, _∙_}
-use mathlib.Core.Bool.{Bool, true, false, _&&_, _||_}
-use mathlib.Core.List.{List, [], _∷_, _++_, map}
-use mathlib.Core.Option.{Option, none, some}
+use mathlib.Core.Path.{_≡_, refl, sym, ap, _∙_}
+use mathlib.Core.Bool.{true, false}
+use mathlib.Core.List.{List, [], _∷_, map}
+use mathlib.Core.Option.{Option}
 use lib.Dec.{eqb}
 use lib.ListN.{length, getD, replicate}
 use Rattle.limits.specs.Limits.{states}
-use Rattle.lists.specs.Lists.{same, count, upTo}
+use Rattle.lists.specs.Lists.{same, count}
 use Rattle.lists.proofs.Laws.{same-refl, same-ne, count-append}
 use Rattle.lists.proofs.Tests.{clash}
 use Rattle.text.specs.Text.{text, decimal, between}
 use Rattle.records.specs.declared.Why.{Why}
 use Rattle.records.specs.declared.Why.the-variants.{Nothing, Tracks, Son, Lock, Number}
-use Rattle.records.specs.Records.{Known, known}
-use Rattle.rules.specs.Book.{Book, at, stateOf, whyOf}
+use Rattle.records.specs.Records.{Known}
+use Rattle.rules.specs.Book.{Book, stateOf, whyOf}
 use Rattle.rules.specs.Keeper.{lists, State}
 use Rattle.rules.specs.Sound.{suits, Chains, Whys}
 use Rattle.rules.proofs.shared.Places.{known-or, none-other}
@@ -24,9 +24,9 @@ use Rattle.page.specs.Page.{chainKey, chained, keyOfChain, chainLine, chainLine
 use Rattle.reader.specs.Shapes.{there, otherwise, listed}
 use Rattle.reader.specs.Order.{holding, recordsAhead}
 use Rattle.reader.specs.Said.{withChain, restSaid, chainsSaid}
-use Rattle.reader.proofs.Text.{decimal-only, content, told, Clean, clean-line}
+use Rattle.reader.proofs.Text.{decimal-only, content, told, Clean, clean-none, clean-more, clean-line}
 use Rattle.reader.proofs.ValuesBack.{Short, listed-back}
-use Rattle.reader.proofs.Scan.{Good, value-behind, chain-step}
+use Rattle.reader.proofs.ScanLaws.{Good, value-behind, chain-step}
 
 -- a chain's line
 between-clean : (c : List ℕ) → count 10 (between 44 (map decimal c)) ≡ 0
@@ -84,7 +84,10 @@ module _ (b : Book) (m : List (List ℕ)) (C : Chains b m) where
   pub chains-clean : Clean (chainLines m)
   unfolding chainLines
   chains-clean =
-      (chain-clean 1 (getD m 1 []), (chain-clean 3 (getD m 3 []), (chain-clean 5 (getD m 5 []), (chain-clean 6 (getD m 6 []), tt))))
+      clean-more (chain-clean 1 (getD m 1 []))
+      (clean-more (chain-clean 3 (getD m 3 []))
+      (clean-more (chain-clean 5 (getD m 5 []))
+      (clean-more (chain-clean 6 (getD m 6 [])) clean-none)))
 
   pub chains-good : (rs : List (List ℕ)) → Good holding rs → Good (recordsAhead 0) (told (chainLines m) rs)
   unfolding chainLines
@@ -115,7 +118,8 @@ module _ (b : Book) (m : List (List ℕ)) (C : Chains b m) where
   no-why k z o s f t p Number = t
 
   pub chains-said : Whys b → length m ≡ states → getD m 0 [] ≡ [] → (c : Book) (rs : List (List ℕ))
-      → chainsSaid chained (record { book = c; kept = replicate states [] }) (told (chainLines m) rs) ≡ restSaid (record { book = c; kept = m }) rs
+      → chainsSaid chained (record { book = c; kept = replicate states [] }) (told (chainLines m) rs)
+      ≡ restSaid (record { book = c; kept = m }) rs
   unfolding chainLines chainsSaid
   chains-said W l z c rs =
       let a : State lists = record { book = c; kept = replicate states [] } in

@@ -1,6 +1,6 @@
 -- A list written item by item into another of its length: where the other had what is not written, it is that list.
 -- Assumes nothing.
-use Prim.Native.Nat.{ℕ, zero, suc, _-_, _<_}
+use Prim.Native.Nat.{ℕ, suc, _-_, _<_}
 use native.Mathlib.Omega.{arith}
 use native.Mathlib.Decide.{ℕ-discrete}
 use mathlib.Core.Path.{_≡_, refl, sym, ap, _∙_}
@@ -9,7 +9,7 @@ use mathlib.Core.Bool.{Bool, true, false, cond}
 use mathlib.Core.List.{List, [], _∷_}
 use lib.ListN.{length, getD, set, length-set}
 use lib.Seq.{ext-getD, getD-set-same, getD-set-other}
-use Rattle.lists.specs.Lists.{same, count}
+use Rattle.lists.specs.Lists.{count}
 use Rattle.lists.proofs.Laws.{same-ne}
 
 -- the items of these numbers, from 1 on, but those that are skipped

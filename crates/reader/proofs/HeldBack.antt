@@ -3,15 +3,15 @@
 -- Assumes nothing.
 use Prim.Native.Nat.{ℕ, zero, suc, _+_, _-_, _≤_, _<_}
 use native.Mathlib.Omega.{arith}
-use native.Mathlib.Decide.{ℕ-discrete, decLt}
+use native.Mathlib.Decide.{decLt}
 use mathlib.Core.Path.{_≡_, refl, sym, ap, ap₂, _∙_}
-use mathlib.Core.Bool.{Bool, true, false, cond, _&&_, _||_}
+use mathlib.Core.Bool.{Bool, true, false, cond, _||_}
 use mathlib.Core.List.{List, [], _∷_, _++_, map}
 use mathlib.Core.Option.{Option, none, some}
-use lib.Dec.{leb, ltb, eqb}
+use lib.Dec.{eqb}
 use lib.ListN.{length, getD, set, replicate, length-append, length-replicate, getD-replicate, List·getD-append}
 use lib.Seq.{append-snoc, set-at, getD-append-add}
-use borrow.Author.Tests.{eqb-true, eq-eqb, le-leb, lt-ltb}
+use borrow.Author.Tests.{eqb-true, le-leb, lt-ltb}
 use Rattle.lists.specs.Lists.{same, count, join}
 use Rattle.lists.proofs.Tests.{and, otherwise}
 use Rattle.text.specs.Text.{text, behind}
@@ -25,10 +25,9 @@ use Rattle.page.specs.Page.{Line, line, heldKey, heldLine, heldLines}
 use Rattle.reader.specs.Shapes.{there, runIn}
 use Rattle.reader.specs.Order.{valueBehind, holding}
 use Rattle.reader.specs.Said.{onBook, withRun, withLine, restSaid}
-use Rattle.reader.proofs.Text.{told, told-append, Clean, clean-append, clean-line}
-use Rattle.reader.proofs.ValuesBack.{Short}
+use Rattle.reader.proofs.Text.{told, told-append, Clean, clean-none, clean-more, clean-append, clean-line}
 use Rattle.reader.proofs.Joined.{runText, run-back, run-clean}
-use Rattle.reader.proofs.Scan.{Good, held-step}
+use Rattle.reader.proofs.ScanLaws.{Good, held-step}
 
 -- ONE RUN, which has no line where it is free or the system's
 abbrev plain : ℕ → Bool
@@ -53,11 +52,10 @@ unfolding heldLine
 one-clean g = go (plain (g .holder))
   where
     go : (b : Bool) → Clean (lineIf g b)
-    go true = tt
-    go false = (
-      clean-line (text heldKey) (runText (g .first) (g .last) (g .holder)) key-clean (run-clean (g .first) (g .last) (g .holder)),
-      tt,
-    )
+    go true = clean-none
+    go false =
+        clean-more (clean-line (text heldKey) (runText (g .first) (g .last) (g .holder)) key-clean
+        (run-clean (g .first) (g .last) (g .holder))) clean-none
 
 module _ (T : ℕ) (g : Run) (K : Within T g) where
   back : runIn (runText (g .first) (g .last) (g .holder)) ≡ some g
@@ -79,7 +77,8 @@ module _ (T : ℕ) (g : Run) (K : Within T g) where
   line-said a rs true = refl
   line-said a rs false = ap (λ (o : Option Run). restSaid (elim o [ none ↦ a | some y ↦ withRun y a ]) rs) back
 
-  one-said : (a : State lists) (rs : List (List ℕ)) → restSaid a (told (heldLine g) rs) ≡ restSaid (cond (plain (g .holder)) a (withRun g a)) rs
+  one-said : (a : State lists) (rs : List (List ℕ))
+      → restSaid a (told (heldLine g) rs) ≡ restSaid (cond (plain (g .holder)) a (withRun g a)) rs
   unfolding heldLine
   one-said a rs = line-said a rs (plain (g .holder))
 
@@ -110,8 +109,8 @@ All T [] = Unit {0}
 All T (g ∷ gs) = Within T g × All T gs
 
 each-clean : (gs : List Run) → Clean (join (map heldLine gs))
-each-clean [] = tt
-each-clean (g ∷ gs) = clean-append (heldLine g) (join (map heldLine gs)) (one-clean g) (each-clean gs)
+each-clean [] = clean-none
+each-clean (g ∷ gs) = clean-append (one-clean g) (each-clean gs)
 
 each-good : (T : ℕ) (gs : List Run) → All T gs → (rs : List (List ℕ)) → Good holding rs → Good holding (told (join (map heldLine gs)) rs)
 each-good T [] K rs h = h
@@ -220,38 +219,38 @@ stored-all i pre (h ∷ hs) (x ∷ xs) p l f =
     here true e = ap (λ (y : ℕ). pre ++ (y ∷ xs)) (f 0 (omega arith) e)
     here false e = set-at pre x xs h i p
 
--- those of a sound book, filled into fresh tracks
+-- fresh tracks, and those of a sound book filled into them
+abbrev pub freshTracks : ℕ → ℕ → List ℕ
+freshTracks T S = replicate S system ++ replicate (T - S) nobody
+
 module _ (b : Book) (l : length (b .holders) ≡ b .tracks) (L : Limits b) (Y : System b) where
   all-within : All (b .tracks) (runsOf 0 (b .holders))
   all-within = runs-within (b .tracks) 0 (b .holders) (omega arith) (L .most) (λ k h. L .holder k (omega arith))
 
-  abbrev fresh : List ℕ
-  fresh = replicate (b .system) system ++ replicate (b .tracks - b .system) nobody
-
-  fresh-long : length (replicate (b .system) system ++ replicate (b .tracks - b .system) nobody) ≡ length (b .holders)
+  fresh-long : length (freshTracks (b .tracks) (b .system)) ≡ length (b .holders)
   fresh-long =
       length-append (replicate (b .system) system) (replicate (b .tracks - b .system) nobody)
       ∙ omega (arith, length-replicate (b .system) system, length-replicate (b .tracks - b .system) nobody, L .first)
 
-  below : (k : ℕ) → k < b .system → getD (replicate (b .system) system ++ replicate (b .tracks - b .system) nobody) k nobody ≡ system
+  below : (k : ℕ) → k < b .system → getD (freshTracks (b .tracks) (b .system)) k nobody ≡ system
   below k h =
       List·getD-append (replicate (b .system) system) (replicate (b .tracks - b .system) nobody) nobody k
       (omega (arith, length-replicate (b .system) system))
       ∙ getD-replicate (b .system) k system nobody h
 
   above : (k : ℕ) → b .system ≤ k → k < b .tracks
-      → getD (replicate (b .system) system ++ replicate (b .tracks - b .system) nobody) k nobody ≡ nobody
+      → getD (freshTracks (b .tracks) (b .system)) k nobody ≡ nobody
   above k h m =
       let e : k ≡ length (replicate (b .system) system) + (k - b .system) = omega (arith, length-replicate (b .system) system) in
-      ap (λ (j : ℕ). getD (replicate (b .system) system ++ replicate (b .tracks - b .system) nobody) j nobody) e
+      ap (λ (j : ℕ). getD (freshTracks (b .tracks) (b .system)) j nobody) e
       ∙ getD-append-add (replicate (b .system) system) (replicate (b .tracks - b .system) nobody) (k - b .system) nobody
       ∙ getD-replicate (b .tracks - b .system) (k - b .system) nobody nobody (omega arith)
 
-  fresh-there : Fresh (b .holders) (replicate (b .system) system ++ replicate (b .tracks - b .system) nobody)
+  fresh-there : Fresh (b .holders) (freshTracks (b .tracks) (b .system))
   fresh-there k h e = go (decLt k (b .system)) (eqb (holderOf b k) nobody) refl
     where
       go : Dec (k < b .system) → (t : Bool) → eqb (holderOf b k) nobody ≡ t
-          → getD (replicate (b .system) system ++ replicate (b .tracks - b .system) nobody) k nobody ≡ holderOf b k
+          → getD (freshTracks (b .tracks) (b .system)) k nobody ≡ holderOf b k
       go (yes s) t w = below k s ∙ sym (Y .below k (omega arith) s)
       go (no n) true w = above k (omega (arith, n)) (omega arith) ∙ sym (eqb-true (holderOf b k) nobody w)
       go (no n) false w =
@@ -267,11 +266,11 @@ module _ (b : Book) (l : length (b .holders) ≡ b .tracks) (L : Limits b) (Y : 
   held-good = each-good (b .tracks) (runsOf 0 (b .holders)) all-within
 
   pub held-said : (a : State lists) → a .book .tracks ≡ b .tracks → (rs : List (List ℕ))
-      → restSaid (withTracks (replicate (b .system) system ++ replicate (b .tracks - b .system) nobody) a) (told (heldLines (b .holders)) rs)
+      → restSaid (withTracks (freshTracks (b .tracks) (b .system)) a) (told (heldLines (b .holders)) rs)
       ≡ restSaid (withTracks (b .holders) a) rs
   unfolding heldLines
   held-said a e rs =
-      each-said a (runsOf 0 (b .holders)) (rw e all-within) (replicate (b .system) system ++ replicate (b .tracks - b .system) nobody) rs
+      each-said a (runsOf 0 (b .holders)) (rw e all-within) (freshTracks (b .tracks) (b .system)) rs
       ∙ ap (λ (xs : List ℕ). restSaid (withTracks xs a) rs)
-      (runs-fill 0 (b .holders) (replicate (b .system) system ++ replicate (b .tracks - b .system) nobody)
-      ∙ stored-all 0 [] (b .holders) (replicate (b .system) system ++ replicate (b .tracks - b .system) nobody) refl fresh-long fresh-there)
+      (runs-fill 0 (b .holders) (freshTracks (b .tracks) (b .system))
+      ∙ stored-all 0 [] (b .holders) (freshTracks (b .tracks) (b .system)) refl fresh-long fresh-there)

@@ -3,7 +3,7 @@
 use Prim.Native.Nat.{ℕ, _≤_, _<_}
 use native.Mathlib.Omega.{arith}
 use native.Mathlib.Decide.{ℕ-discrete}
-use mathlib.Core.Path.{_≡_, refl, sym, ap, ap₂, _∙_}
+use mathlib.Core.Path.{_≡_, refl, ap, ap₂, _∙_}
 use mathlib.Core.Bool.{Bool, true, false}
 use mathlib.Core.List.{List, [], _∷_, _++_, append-assoc}
 use mathlib.Core.Option.{Option, none, some}
@@ -12,25 +12,24 @@ use borrow.Author.Tests.{ltb-false}
 use Rattle.lists.specs.Lists.{same, count}
 use Rattle.lists.proofs.Laws.{count-append}
 use Rattle.text.specs.Text.{text, decimal, parts}
-use Rattle.records.specs.declared.Resource.{Resource}
 use Rattle.records.specs.Numbers.{globally}
 use Rattle.tracks.specs.declared.held.Run.{Run}
 use Rattle.tracks.specs.Runs.{runOf}
-use Rattle.page.specs.Page.{orDash, party}
+use Rattle.page.specs.Page.{dash, globalWord, orDash, party}
 use Rattle.page.proofs.Writing.{party-global, party-program}
 use Rattle.reader.specs.Shapes.{figure, figureOrDash, partyOf, next, over, Span, spanOf, runIn, Numbered, numbered}
 use Rattle.reader.proofs.Text.{decimal-only, parts-at, parts-last}
 use Rattle.reader.proofs.ValuesBack.{Short, figure-decimal, dash-back, party-back}
 
 -- bytes that a party or a number that may be absent has not
-pub party-only : (c h : ℕ) → (48 ≤ c → 57 < c) → count c (text "global") ≡ 0 → count c (party h) ≡ 0
+pub party-only : (c h : ℕ) → (48 ≤ c → 57 < c) → count c (text globalWord) ≡ 0 → count c (party h) ≡ 0
 party-only c h k g = go (ℕ-discrete h globally)
   where
     go : Dec (h ≡ globally) → count c (party h) ≡ 0
     go (yes e) = ap (count c) (party-global h e) ∙ g
     go (no n) = ap (count c) (party-program h n) ∙ decimal-only c h k
 
-pub dash-only : (c : ℕ) (b : Bool) (n : ℕ) → (48 ≤ c → 57 < c) → count c (text "-") ≡ 0 → count c (orDash b n) ≡ 0
+pub dash-only : (c : ℕ) (b : Bool) (n : ℕ) → (48 ≤ c → 57 < c) → count c (text dash) ≡ 0 → count c (orDash b n) ≡ 0
 dash-only c true n k d = decimal-only c n k
 dash-only c false n k d = d
 

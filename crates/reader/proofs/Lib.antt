@@ -2,11 +2,14 @@ pub mod Text
 pub mod ValuesBack
 pub mod Joined
 pub mod NameBack
-pub mod Scan
-pub mod Head
+pub mod ScanLaws
+pub mod HeadBack
 pub mod Copying
 pub mod RecordsBack
 pub mod ChainsBack
 pub mod NumbersBack
 pub mod HeldBack
 pub mod LineLaws
+pub mod RoundTrip
+pub mod Lengths
+pub mod Exact

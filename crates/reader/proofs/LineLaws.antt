@@ -15,7 +15,7 @@ use Rattle.text.proofs.Words.{behind-append, behind-exact}
 use Rattle.reader.specs.Shapes.{there}
 use Rattle.reader.specs.Order.{Form, Place, Choice, valueBehind, mayCome, afterKind, afterOne, behindLine, behindAll, firstBad}
 use Rattle.reader.specs.Inner.{LineIs, NoLine, unended, keyless, shapeless, ValueIs}
-use Rattle.reader.proofs.Scan.{value-behind, pass}
+use Rattle.reader.proofs.ScanLaws.{value-behind, pass}
 
 -- where a longer word stands in front, so does its beginning
 no-longer : (w x s : List ℕ) → ((v : List ℕ) → behind w s ≡ some (x ++ v) → ⊥) → behind (w ++ x) s ≡ none

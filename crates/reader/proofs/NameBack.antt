@@ -1,17 +1,17 @@
 -- A legal name without its blanks, read back.
 -- Assumes nothing.
-use Prim.Native.Nat.{ℕ, zero, suc, _+_, _-_, _≤_}
+use Prim.Native.Nat.{ℕ, suc, _-_, _≤_}
 use native.Mathlib.Omega.{arith}
 use mathlib.Core.Path.{_≡_, refl, sym, ap, ap₂, _∙_}
 use mathlib.Core.Bool.{Bool, true, false, cond, not, _&&_, _||_}
 use mathlib.Core.List.{List, [], _∷_, _++_}
-use mathlib.Core.Option.{Option, none, some}
+use mathlib.Core.Option.{none, some}
 use lib.Dec.{eqb}
 use lib.ListN.{length, replicate}
-use borrow.Author.Tests.{eqb-true, ne-eqb, not-true}
-use Rattle.lists.specs.Lists.{same, count, every, keep, upTo}
+use borrow.Author.Tests.{eqb-true, ne-eqb}
+use Rattle.lists.specs.Lists.{count, every, keep}
 use Rattle.lists.proofs.Laws.{same-ne, keep-le}
-use Rattle.lists.proofs.Tests.{false-true, both, and, otherwise, upTo-true}
+use Rattle.lists.proofs.Tests.{false-true, both, and, upTo-true}
 use Rattle.records.specs.Names.{letter, digit, blank, rest, legal, bare, padded, nameOf}
 
 -- a letter or digit is no blank, and no byte 10

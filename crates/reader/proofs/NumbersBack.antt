@@ -1,15 +1,15 @@
 -- The resource numbers of a page, read back: put one by one into free ones they are the numbers.
 -- Assumes nothing.
-use Prim.Native.Nat.{ℕ, suc, _+_, _-_, _≤_, _<_}
+use Prim.Native.Nat.{ℕ, suc, _-_, _≤_}
 use native.Mathlib.Omega.{arith}
-use mathlib.Core.Path.{_≡_, refl, sym, ap, ap₂, _∙_}
+use mathlib.Core.Path.{_≡_, refl, sym, ap, _∙_}
 use mathlib.Core.Bool.{Bool, true, false, cond}
-use mathlib.Core.List.{List, [], _∷_, _++_, map}
+use mathlib.Core.List.{List, [], _∷_, map}
 use mathlib.Core.Option.{Option, none, some}
 use lib.Dec.{eqb}
 use lib.ListN.{length, getD, set, replicate, length-replicate, getD-replicate}
 use borrow.Author.Tests.{eqb-true}
-use Rattle.lists.specs.Lists.{same, count, from, join, upTo}
+use Rattle.lists.specs.Lists.{same, count, from, join}
 use Rattle.lists.proofs.Laws.{same-refl, count-from, from-in}
 use Rattle.lists.proofs.Tests.{upTo-is}
 use Rattle.text.specs.Text.{text, behind}
@@ -22,10 +22,10 @@ use Rattle.page.specs.Page.{Line, line, numberKey, numberLine, numberLines}
 use Rattle.reader.specs.Shapes.{there, Numbered, numbered}
 use Rattle.reader.specs.Order.{valueBehind, holding, numbering}
 use Rattle.reader.specs.Said.{onBook, withResource, withLine, restSaid}
-use Rattle.reader.proofs.Text.{told, told-append, Clean, clean-append, clean-line}
+use Rattle.reader.proofs.Text.{told, told-append, Clean, clean-none, clean-more, clean-append, clean-line}
 use Rattle.reader.proofs.ValuesBack.{Short}
 use Rattle.reader.proofs.Joined.{numberText, numberOf, number-back, number-clean}
-use Rattle.reader.proofs.Scan.{Good, number-first, number-step}
+use Rattle.reader.proofs.ScanLaws.{Good, number-first, number-step}
 use Rattle.reader.proofs.Copying.{copied, Copies, copies-all}
 
 -- ONE NUMBER, which has no line where it is free
@@ -51,8 +51,10 @@ unfolding numberLine
 one-clean r x = go (vacant x)
   where
     go : (b : Bool) → Clean (lineIf r x b)
-    go true = tt
-    go false = (clean-line (text numberKey) (numberText r (x .owner) (x .lock)) key-clean (number-clean r (x .owner) (x .lock)), tt)
+    go true = clean-none
+    go false =
+        clean-more (clean-line (text numberKey) (numberText r (x .owner) (x .lock)) key-clean (number-clean r (x .owner) (x .lock)))
+        clean-none
 
 -- both places at which numbers may come
 record Both (rs : List (List ℕ)) : Type 0 where
@@ -105,14 +107,15 @@ module _ (xs : List Resource) where
   Each n c = (r : ℕ) → 1 ≤ count r c → Readable n r (numberAt xs r)
 
   each-clean : (c : List ℕ) → Clean (linesOf c)
-  each-clean [] = tt
-  each-clean (r ∷ c) = clean-append (numberLine r (numberAt xs r)) (linesOf c) (one-clean r (numberAt xs r)) (each-clean c)
+  each-clean [] = clean-none
+  each-clean (r ∷ c) = clean-append (one-clean r (numberAt xs r)) (each-clean c)
 
   each-good : (n : ℕ) (c : List ℕ) → Each n c → (rs : List (List ℕ)) → Both rs → Both (told (linesOf c) rs)
   each-good n [] R rs g = g
   each-good n (r ∷ c) R rs g =
       rw (told-append (numberLine r (numberAt xs r)) (linesOf c) rs)
-      (one-good n r (numberAt xs r) (R r (omega (arith, same-refl r))) (told (linesOf c) rs) (each-good n c (λ q h. R q (omega arith)) rs g))
+      (one-good n r (numberAt xs r) (R r (omega (arith, same-refl r))) (told (linesOf c) rs)
+      (each-good n c (λ q h. R q (omega arith)) rs g))
 
   each-said : (a : State lists) (c : List ℕ) → Each (a .book .numbers) c → (ys : List Resource) (rs : List (List ℕ))
       → restSaid (withNumbers ys a) (told (linesOf c) rs) ≡ restSaid (withNumbers (copied free vacant xs c ys) a) rs

@@ -1,13 +1,12 @@
 -- The used records of a page, read back: put one by one into unused ones they are the programs.
 -- Assumes nothing.
-use Prim.Native.Nat.{ℕ, zero, suc, _+_, _-_, _≤_, _<_}
+use Prim.Native.Nat.{ℕ, suc, _-_, _≤_}
 use native.Mathlib.Omega.{arith}
 use native.Mathlib.Decide.{ℕ-discrete}
 use mathlib.Core.Path.{_≡_, refl, sym, ap, ap₂, _∙_}
-use mathlib.Core.Logic.{_≢_}
-use mathlib.Core.Bool.{Bool, true, false, cond, not, _&&_, _||_}
-use mathlib.Core.List.{List, [], _∷_, _++_, map}
-use mathlib.Core.Option.{Option, none, some}
+use mathlib.Core.Bool.{Bool, true, false, cond, _||_}
+use mathlib.Core.List.{List, [], _∷_, map}
+use mathlib.Core.Option.{Option, some}
 use lib.Dec.{ltb, eqb}
 use lib.ListN.{length, getD, set, replicate, length-replicate, getD-replicate}
 use borrow.Author.Tests.{eqb-true, ltb-false}
@@ -15,7 +14,6 @@ use Rattle.lists.specs.Lists.{same, count, keep, join, upTo}
 use Rattle.lists.proofs.Laws.{same-refl, count-append, count-keep, keep-in}
 use Rattle.lists.proofs.Tests.{false-true, both, upTo-true}
 use Rattle.text.specs.Text.{text, decimal, behind}
-use Rattle.clock.specs.Clock.{ceiling, farthest}
 use Rattle.records.specs.declared.Program.{Program}
 use Rattle.records.specs.declared.Why.{Why}
 use Rattle.records.specs.declared.Why.the-variants.{Nothing, Tracks, Son, Lock, Number}
@@ -25,16 +23,17 @@ use Rattle.rules.specs.Book.{Book, at, altered}
 use Rattle.rules.specs.Keeper.{lists, State}
 use Rattle.rules.specs.Sound.{suits, Names, Zeros, Whys, Limits, Dues}
 use Rattle.rules.proofs.shared.Places.{known-is, all-in, all-one}
+use Rattle.page.specs.Page.{idKey, nameKey, priorityKey, stateKey, whyKey, dueKey, intervalKey, tracksWord, sonWord, lockWord}
 use Rattle.page.specs.Page.{Line, chained, reason, orDash, usedIn, recorded, recordLines}
 use Rattle.reader.specs.Shapes.{there, otherwise, figure, figureOrDash, reasonOf}
 use Rattle.reader.specs.Order.{valueBehind, recordsAhead}
 use Rattle.reader.specs.Said.{valueOf, onBook, withRecord, chainsSaid, recordsSaid}
-use Rattle.reader.proofs.Text.{decimal-only, told, told-append, Clean, clean-append, clean-line}
+use Rattle.reader.proofs.Text.{decimal-only, told, Clean, clean-none, clean-more, clean-append, clean-line}
 use Rattle.reader.proofs.ValuesBack.{Short, figure-decimal, dash-back, Fitting, reason-back}
 use Rattle.reader.proofs.Joined.{dash-only}
 use Rattle.reader.proofs.NameBack.{name-back, name-clean}
-use Rattle.reader.proofs.Scan.{Good, record-step}
-use Rattle.reader.proofs.Head.{figure-there, figure-clean}
+use Rattle.reader.proofs.ScanLaws.{Good, record-step}
+use Rattle.reader.proofs.HeadBack.{figure-there, figure-clean}
 use Rattle.reader.proofs.Copying.{copied, Copies, copies-all}
 
 -- a used record whose values are read back
@@ -106,9 +105,9 @@ read name priority state why due interval = record {
 reason-clean : (w : Why) → count 10 (reason w) ≡ 0
 unfolding same
 reason-clean Nothing = refl
-reason-clean (Tracks n) = count-append 10 (text "tracks:") (decimal n) ∙ omega (arith, decimal-only 10 n (λ l. absurd (omega arith)))
-reason-clean (Son k) = count-append 10 (text "son:") (decimal k) ∙ omega (arith, decimal-only 10 k (λ l. absurd (omega arith)))
-reason-clean (Lock r) = count-append 10 (text "lock:") (decimal r) ∙ omega (arith, decimal-only 10 r (λ l. absurd (omega arith)))
+reason-clean (Tracks n) = count-append 10 (text tracksWord) (decimal n) ∙ omega (arith, decimal-only 10 n (λ l. absurd (omega arith)))
+reason-clean (Son k) = count-append 10 (text sonWord) (decimal k) ∙ omega (arith, decimal-only 10 k (λ l. absurd (omega arith)))
+reason-clean (Lock r) = count-append 10 (text lockWord) (decimal r) ∙ omega (arith, decimal-only 10 r (λ l. absurd (omega arith)))
 reason-clean Number = refl
 
 module _ (p : ℕ) (r : Program) (K : Readable p r) where
@@ -120,30 +119,16 @@ module _ (p : ℕ) (r : Program) (K : Readable p r) where
 
   record-clean : Clean (recorded p r)
   unfolding same
-  record-clean = (
-    figure-clean (text "id") refl p,
-    (
-      clean-line (text "name") (bare (r .name)) refl (name-clean (r .name) (K .name)),
-      (
-        figure-clean (text "priority") refl (r .priority),
-        (
-          figure-clean (text "state") refl (r .state),
-          (
-            clean-line (text "why") (reason (r .why)) refl (reason-clean (r .why)),
-            (
-              clean-line (text "due") (orDash (ltb 0 (r .due)) (r .due)) refl
-                  (dash-only 10 (ltb 0 (r .due)) (r .due) (λ l. absurd (omega arith)) refl),
-              (
-                clean-line (text "interval") (orDash (ltb 0 (r .due)) (r .interval)) refl
-                    (dash-only 10 (ltb 0 (r .due)) (r .interval) (λ l. absurd (omega arith)) refl),
-                tt,
-              ),
-            ),
-          ),
-        ),
-      ),
-    ),
-  )
+  record-clean =
+      clean-more (figure-clean (text idKey) refl p)
+      (clean-more (clean-line (text nameKey) (bare (r .name)) refl (name-clean (r .name) (K .name)))
+      (clean-more (figure-clean (text priorityKey) refl (r .priority))
+      (clean-more (figure-clean (text stateKey) refl (r .state))
+      (clean-more (clean-line (text whyKey) (reason (r .why)) refl (reason-clean (r .why)))
+      (clean-more (clean-line (text dueKey) (orDash (ltb 0 (r .due)) (r .due)) refl
+      (dash-only 10 (ltb 0 (r .due)) (r .due) (λ l. absurd (omega arith)) refl))
+      (clean-more (clean-line (text intervalKey) (orDash (ltb 0 (r .due)) (r .interval)) refl
+      (dash-only 10 (ltb 0 (r .due)) (r .interval) (λ l. absurd (omega arith)) refl)) clean-none))))))
 
   record-good : (n : ℕ) (rs : List (List ℕ)) → Good (recordsAhead n) rs → Good (recordsAhead (suc n)) (told (recorded p r) rs)
   record-good n rs g =
@@ -201,11 +186,11 @@ module _ (ps : List Program) where
   others-of p c R q h = R q (omega arith)
 
   each-clean : (c : List ℕ) → Each c → Clean (linesOf c)
-  each-clean [] R = tt
-  each-clean (p ∷ c) R =
-      clean-append (recorded p (recordAt ps p)) (linesOf c) (record-clean p (recordAt ps p) (first-of p c R)) (each-clean c (others-of p c R))
+  each-clean [] R = clean-none
+  each-clean (p ∷ c) R = clean-append (record-clean p (recordAt ps p) (first-of p c R)) (each-clean c (others-of p c R))
 
-  each-good : (c : List ℕ) → Each c → (rs : List (List ℕ)) → Good (recordsAhead 0) rs → Good (recordsAhead (length c)) (told (linesOf c) rs)
+  each-good : (c : List ℕ) → Each c → (rs : List (List ℕ)) → Good (recordsAhead 0) rs
+      → Good (recordsAhead (length c)) (told (linesOf c) rs)
   each-good [] R rs g = g
   each-good (p ∷ c) R rs g =
       record-good p (recordAt ps p) (first-of p c R) (length c) (told (linesOf c) rs) (each-good c (others-of p c R) rs g)

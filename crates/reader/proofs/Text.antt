@@ -3,11 +3,11 @@
 -- Assumes nothing.
 use Prim.Native.Nat.{ℕ, zero, suc, _+_, _%_, _/_, _≤_, _<_}
 use native.Mathlib.Omega.{arith}
-use mathlib.Core.Path.{_≡_, refl, sym, ap, ap₂, _∙_}
+use mathlib.Core.Path.{_≡_, refl, ap, _∙_}
 use mathlib.Core.Logic.{_≢_}
 use mathlib.Core.Bool.{Bool, true, false, cond}
-use mathlib.Core.List.{List, [], _∷_, _++_, map, append-assoc}
-use lib.Dec.{ltb, eqb}
+use mathlib.Core.List.{List, [], _∷_, _++_, append-assoc}
+use lib.Dec.{ltb}
 use borrow.Author.Tests.{eq-eqb, ne-eqb, ltb-true, ltb-false}
 use Rattle.lists.specs.Lists.{same, count, join}
 use Rattle.lists.proofs.Laws.{same-refl, same-ne, count-append}
@@ -63,14 +63,22 @@ pub told-append : (xs ys : List Line) (rs : List (List ℕ)) → told (xs ++ ys)
 told-append [] ys rs = refl
 told-append (x ∷ xs) ys rs = ap (λ (r : List (List ℕ)). content x ∷ r) (told-append xs ys rs)
 
--- lines without a byte 10
-abbrev pub Clean : List Line → Type 0
-Clean [] = Unit {0}
-Clean (l ∷ ls) = (count 10 (content l) ≡ 0) × Clean ls
+abbrev pub toldAll : List (List Line) → List (List ℕ) → List (List ℕ)
+toldAll [] rs = rs
+toldAll (x ∷ xs) rs = told x (toldAll xs rs)
 
-pub clean-append : (xs ys : List Line) → Clean xs → Clean ys → Clean (xs ++ ys)
-clean-append [] ys h k = k
-clean-append (x ∷ xs) ys h k = (h .0, clean-append xs ys (h .1) k)
+pub told-join : (xs : List (List Line)) (rs : List (List ℕ)) → told (join xs) rs ≡ toldAll xs rs
+told-join [] rs = refl
+told-join (x ∷ xs) rs = told-append x (join xs) rs ∙ ap (told x) (told-join xs rs)
+
+-- lines without a byte 10
+pub data Clean : List Line → Type 0 where
+  clean-none : Clean []
+  clean-more : {l : Line} {ls : List Line} → count 10 (content l) ≡ 0 → Clean ls → Clean (l ∷ ls)
+
+pub clean-append : {xs ys : List Line} → Clean xs → Clean ys → Clean (xs ++ ys)
+clean-append clean-none k = k
+clean-append (clean-more e h) k = clean-more e (clean-append h k)
 
 pub clean-line : (key v : List ℕ) → count 10 key ≡ 0 → count 10 v ≡ 0 → count 10 (key ++ (61 ∷ v)) ≡ 0
 unfolding same
@@ -81,12 +89,12 @@ entry-content : (l : Line) (s : List ℕ) → bytesOf l ++ s ≡ content l ++ (1
 unfolding entry
 entry-content l s = simp append-assoc
 
-pub bytes-parts : (ls : List Line) → Clean ls → parts 10 (bytes ls) ≡ told ls ([] ∷ [])
+pub bytes-parts : {ls : List Line} → Clean ls → parts 10 (bytes ls) ≡ told ls ([] ∷ [])
 unfolding bytes parts
-bytes-parts [] c = refl
-bytes-parts (l ∷ ls) c =
-    ap (parts 10) (entry-content l (bytes ls)) ∙ parts-at 10 (content l) (bytes ls) (c .0)
-    ∙ ap (λ (r : List (List ℕ)). content l ∷ r) (bytes-parts ls (c .1))
+bytes-parts clean-none = refl
+bytes-parts (clean-more {l} {ls} e c) =
+    ap (parts 10) (entry-content l (bytes ls)) ∙ parts-at 10 (content l) (bytes ls) e
+    ∙ ap (λ (r : List (List ℕ)). content l ∷ r) (bytes-parts c)
 
 -- texts with a byte between each two
 abbrev pub Without : ℕ → List (List ℕ) → Type 0

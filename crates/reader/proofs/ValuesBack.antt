@@ -1,33 +1,28 @@
 -- Each value read back is what was written.
 -- Assumes nothing.
-use Prim.Native.Nat.{ℕ, zero, suc, _+_, _-_, _≤_, _<_}
+use Prim.Native.Nat.{ℕ, _≤_, _<_}
 use native.Mathlib.Omega.{arith}
 use native.Mathlib.Decide.{ℕ-discrete}
 use mathlib.Core.Path.{_≡_, refl, sym, ap, ap₂, _∙_}
-use mathlib.Core.Logic.{_≢_}
 use mathlib.Core.Bool.{Bool, true, false, cond}
-use mathlib.Core.List.{List, [], _∷_, _++_, map, append-assoc}
+use mathlib.Core.List.{List, [], _∷_, map}
 use mathlib.Core.Option.{Option, none, some}
-use lib.Dec.{ltb, eqb}
 use lib.ListN.{length, length-append}
-use borrow.Author.Tests.{eq-eqb, ne-eqb, lt-ltb, ltb-true, ltb-false}
-use Rattle.lists.specs.Lists.{same, count, alike}
-use Rattle.lists.proofs.Laws.{same-refl, count-append}
-use Rattle.text.specs.Text.{text, decimal, behind, parts, numberOf, between}
-use Rattle.text.proofs.Laws.{ten, decimal-pos}
+use borrow.Author.Tests.{ne-eqb}
+use Rattle.lists.specs.Lists.{count, alike}
+use Rattle.lists.proofs.Laws.{same-refl}
+use Rattle.text.specs.Text.{text, decimal, behind, parts, between}
+use Rattle.text.proofs.Laws.{decimal-pos}
 use Rattle.text.proofs.Fields.{alike-not}
 use Rattle.text.proofs.Read.{numberOf-decimal}
-use Rattle.records.specs.declared.Resource.{Resource}
 use Rattle.records.specs.declared.Why.{Why}
 use Rattle.records.specs.declared.Why.the-variants.{Nothing, Tracks, Son, Lock, Number}
 use Rattle.records.specs.Numbers.{globally}
-use Rattle.tracks.specs.declared.held.Run.{Run}
-use Rattle.tracks.specs.Runs.{runOf}
-use Rattle.page.specs.Page.{orDash, party, reason, dash, globalWord}
+use Rattle.page.specs.Page.{orDash, party, reason}
 use Rattle.page.proofs.Writing.{party-global, party-program}
-use Rattle.reader.specs.Shapes.{into, orElse, figure, word, coded, figureOrDash, partyOf, reasonOf}
+use Rattle.reader.specs.Shapes.{into, orElse, figure, figureOrDash, partyOf, reasonOf}
 use Rattle.reader.specs.Shapes.{each, listed}
-use Rattle.reader.proofs.Text.{decimal-only, parts-at, parts-last, Without, between-parts}
+use Rattle.reader.proofs.Text.{decimal-only, Without, between-parts}
 
 -- what numbers on a page are below: 13 digits
 abbrev pub Short : ℕ → Type 0

@@ -6,13 +6,14 @@ use mathlib.Core.Path.{_≡_, refl, sym, ap, _∙_}
 use mathlib.Core.Bool.{Bool, true, false}
 use mathlib.Core.List.{List, [], _∷_, _++_, append-assoc}
 use mathlib.Core.Option.{Option, none, some}
-use lib.Dec.{eqb}
 use borrow.Author.Tests.{eq-eqb}
 use Rattle.text.specs.Text.{text, behind}
+use Rattle.text.proofs.Words.{behind-append}
 use Rattle.page.specs.Page.{line, heldKey, numberKey, endKey, lastWord}
 use Rattle.reader.specs.Shapes.{there, otherwise, figure, runIn, numbered}
-use Rattle.reader.specs.Order.{Form, heldForm, numberForm, endForm, Place, heading, recording, chaining, holding, numbering, ended}
-use Rattle.reader.specs.Order.{Choice, choice, chainsAhead, recordsAhead, recordAhead, valueBehind, afterKind, afterOne, behindLine, firstBad}
+use Rattle.reader.specs.Order.{Form, heldForm, numberForm, endForm, Place, heading, recording, chaining, holding, numbering}
+use Rattle.reader.specs.Order.{ended, Choice, choice, chainsAhead, recordsAhead, recordAhead}
+use Rattle.reader.specs.Order.{valueBehind, afterKind, afterOne, behindLine, firstBad}
 use Rattle.reader.proofs.Text.{content, told}
 
 -- no line is bad, whatever the number of the first
@@ -26,13 +27,7 @@ good-step l [] e g = let z = g .none 1 in absurd (omega arith)
 good-step {p} {q} l (m ∷ ls) e g =
     record { none = λ n. ap (λ (o : Option Place). elim o [ none ↦ n | some r ↦ firstBad r (suc n) (m ∷ ls) ]) e ∙ g .none (suc n) }
 
--- what stands behind a word
-pub behind-append : (w v : List ℕ) → behind w (w ++ v) ≡ some v
-unfolding behind
-behind-append [] v = refl
-behind-append (c ∷ w) v =
-    ap (λ (b : Bool). elim b [ true ↦ behind w (w ++ v) | false ↦ none ]) (eq-eqb c c refl) ∙ behind-append w v
-
+-- the value behind a key
 pub value-behind : (key v : List ℕ) → valueBehind key (key ++ (61 ∷ v)) ≡ some v
 unfolding valueBehind
 value-behind key v =

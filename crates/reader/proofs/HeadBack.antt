@@ -1,21 +1,21 @@
 -- The head of a page, read back.
 -- Assumes nothing.
-use Prim.Native.Nat.{ℕ, _≤_}
+use Prim.Native.Nat.{ℕ}
 use native.Mathlib.Omega.{arith}
 use mathlib.Core.Path.{_≡_, refl, ap, ap₂, _∙_}
 use mathlib.Core.Bool.{true}
-use mathlib.Core.List.{List, [], _∷_, _++_}
+use mathlib.Core.List.{List, _∷_, _++_}
 use mathlib.Core.Option.{Option, some}
 use Rattle.lists.specs.Lists.{same, count}
 use Rattle.text.specs.Text.{text, decimal, behind}
 use Rattle.rules.specs.Keeper.{lists, State}
-use Rattle.page.specs.Page.{firstWord, headLines}
+use Rattle.page.specs.Page.{clockKey, tracksKey, systemKey, numbersKey, programsKey, firstWord, headLines}
 use Rattle.reader.specs.Shapes.{there, otherwise, figure}
 use Rattle.reader.specs.Order.{valueBehind, isFigure, headForms, heading, recordsAhead}
 use Rattle.reader.specs.Said.{valueOf, started, recordsSaid, said}
-use Rattle.reader.proofs.Text.{decimal-only, told, Clean, clean-line}
+use Rattle.reader.proofs.Text.{decimal-only, told, Clean, clean-none, clean-more, clean-line}
 use Rattle.reader.proofs.ValuesBack.{Short, figure-decimal}
-use Rattle.reader.proofs.Scan.{Good, head-step, head-last}
+use Rattle.reader.proofs.ScanLaws.{Good, head-step, head-last}
 
 -- a number's digits have the shape of one, and no byte 10
 pub figure-there : (n : ℕ) → Short n → isFigure (decimal n) ≡ true
@@ -31,19 +31,13 @@ startedBy rs clock T S R n = recordsSaid (otherwise 0 n) (started (otherwise 0 c
 module _ (clock T S R n : ℕ) where
   pub head-clean : Clean (headLines clock T S R n)
   unfolding same
-  head-clean = (
-    refl,
-    (
-      figure-clean (text "clock") refl clock,
-      (
-        figure-clean (text "tracks") refl T,
-        (
-          figure-clean (text "system") refl S,
-          (figure-clean (text "numbers") refl R, (figure-clean (text "programs") refl n, tt)),
-        ),
-      ),
-    ),
-  )
+  head-clean =
+      clean-more refl
+      (clean-more (figure-clean (text clockKey) refl clock)
+      (clean-more (figure-clean (text tracksKey) refl T)
+      (clean-more (figure-clean (text systemKey) refl S)
+      (clean-more (figure-clean (text numbersKey) refl R)
+      (clean-more (figure-clean (text programsKey) refl n) clean-none)))))
 
   module _ (c : Short clock) (t : Short T) (s : Short S) (r : Short R) (m : Short n) (rs : List (List ℕ)) where
     pub head-good : Good (recordsAhead n) rs → Good (heading headForms) (told (headLines clock T S R n) rs)
