@@ -14,7 +14,7 @@ use Rattle.records.specs.Numbers as numbers
 use Rattle.tracks.specs.declared.Tracks.{Tracks}
 use Rattle.tracks.specs.Tracks as tracks
 use Rattle.chains.specs.Links.{slots, layChain}
-use Rattle.rules.specs.Book.{altered, withHolders, withResources}
+use Rattle.rules.specs.Book.{Book, altered, withHolders, withResources}
 use Rattle.rules.specs.Keeper.{lists, State}
 use Rattle.page.specs.Page.{chained}
 use Rattle.reader.specs.declared.parts.Head.{Head}
@@ -141,3 +141,12 @@ pub record NumbersRead (s : List ℕ) (at line : ℕ) (t : Numbers) (r : Numbere
 pub record EndRead (s : List ℕ) (at line r : ℕ) : Type 0 where
   pub scan : firstBad numbering line (ahead s at) ≡ r
   pub says : r ≡ 0 → (a : State lists) → restSaid a (ahead s at) ≡ a
+
+-- a state in the tables' bytes
+abbrev pub narrow : State lists → State lists
+narrow a =
+    let b : Book = a .book in
+    record {
+      book = altered b (map narrowRecord (b .programs)) (b .clock) (map byte (b .holders)) (map narrowResource (b .resources));
+      kept = map (map byte) (a .kept);
+    }
