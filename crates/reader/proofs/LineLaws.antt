@@ -3,7 +3,8 @@
 use Prim.Native.Nat.{ℕ, zero, suc, _+_, _<_, _≤_}
 use native.Mathlib.Omega.{arith}
 use mathlib.Core.Path.{_≡_, refl, sym, ap, ap₂, _∙_}
-use mathlib.Core.Bool.{Bool, true, false}
+use mathlib.Core.Logic.{_≢_}
+use mathlib.Core.Bool.{Bool, true, false, cond}
 use mathlib.Core.List.{List, [], _∷_, _++_, append-assoc}
 use mathlib.Core.Option.{Option, none, some, Option·none-ne-some, Option·some-injective}
 use lib.ListN.{length, getD, drop}
@@ -49,6 +50,22 @@ value-is s key at e i p h b l c =
           ∙ ap (λ (x : List ℕ). x ∷ parts 10 (drop (e + 1) s)) (behind-exact key (slice at e s) (slice i e s) (b .rest) ∙ ap (λ (x : List ℕ). key ++ x) d);
     }
 
+-- and of one that has another key, or ends behind it, or goes on otherwise
+module _ (s key : List ℕ) (at e : ℕ) (p : PartEnd 10 s at e) (h : e < length s) where
+  pub value-none : behind key (slice at e s) ≡ none → NoLine {A = List ℕ} some s at key
+  value-none b = keyless (slice at e s) (e + 1) (p .more h) (no-key key (slice at e s) b)
+
+  pub value-short : (i : ℕ) → BehindAt key s at e i → i ≡ e → NoLine {A = List ℕ} some s at key
+  value-short i b l =
+      keyless (slice at e s) (e + 1) (p .more h)
+      (no-equals key (slice at e s) [] (b .rest ∙ ap some (slice-none s i e l)) (λ v f. absurd (omega (arith, ap length f))))
+
+  pub value-other : (i : ℕ) → BehindAt key s at e i → i ≢ e → getD s i 0 ≢ 61 → NoLine {A = List ℕ} some s at key
+  value-other i b l n =
+      keyless (slice at e s) (e + 1) (p .more h)
+      (no-equals key (slice at e s) (getD s i 0 ∷ slice (i + 1) e s)
+      (b .rest ∙ ap some (slice-next s i e (omega (arith, b .high)) (p .high))) (λ v f. n (ap (λ (x : List ℕ). getD x 0 0) f)))
+
 -- a value with and without a shape
 module _ {A : Type 0} (shape : List ℕ → Option A) {s key : List ℕ} {at : ℕ} where
   pub line-shaped : {from to : ℕ} {a : A} → ValueIs s at key from to → shape (slice from to s) ≡ some a → LineIs shape s at key a (to + 1)
@@ -62,6 +79,10 @@ module _ {A : Type 0} (shape : List ℕ → Option A) {s key : List ℕ} {at : �
   line-unkeyed (unended l e) = unended l e
   line-unkeyed (keyless l next e k) = keyless l next e k
   line-unkeyed (shapeless v next e k) = absurd (Option·none-ne-some v (sym k))
+
+-- whether a value is a word
+abbrev pub wordIf : Bool → Option Bool
+wordIf b = cond b (some true) none
 
 -- lines ahead are never none
 pub some-line : (s : List ℕ) → (l : List ℕ) × (ls : List (List ℕ)) × (parts 10 s ≡ l ∷ ls)

@@ -1,3 +1,10 @@
+-- `word_at` reads the line at a place.
+-- Assumes nothing.
+use native.Mathlib.Omega.{arith}
+use mathlib.Core.Path.{sym, ap, _∙_, subst}
+use borrow.Author.Tests.{not-true, not-false}
+use Rattle.reader.specs.Inner.{ValueAt, wordIs}
+use Rattle.reader.proofs.LineLaws.{line-shaped, line-unshaped, line-unkeyed, wordIf}
 use borrow.Author.Needs.{needs}
 use Rattle.reader.proofs.lines.word_at.Statement.{statement}
 use Rattle.reader.proofs.lines.word_at.Tie as tie
@@ -20,23 +27,32 @@ enum-told c = search needs
 
 -- src/lines.rt:113:9
 returns : tie.Need-returns
-returns c = ?
+returns c =
+    line-unkeyed (wordIs _) (subst (ValueAt _ _ _) (c .enum-told .given .1) (c .before .before .value-at .ensures))
 
 -- src/lines.rt:115:9
 is-word-requires : tie.Need-is-word-requires
-is-word-requires c κs = ?
+is-word-requires c κs =
+    let v = subst (ValueAt _ _ _) (c .before .from .given .1) (c .before .before .before .value-at .ensures) in
+    (v .low, omega (arith, v .high))
 
 -- src/lines.rt:116:9
 returns-2 : tie.Need-returns-2
-returns-2 c = ?
+returns-2 c =
+    let v = subst (ValueAt _ _ _) (c .before .before .before .from .given .1) (c .before .before .before .before .before .value-at .ensures) in
+    line-unshaped (wordIs _) v (ap wordIf (sym (c .before .is-word .ensures) ∙ not-true (c .before .is-word .result) (c .if1 .taken)))
 
 -- src/lines.rt:118:15
 add-t10 : tie.Need-add-t10
-add-t10 c = ?
+add-t10 c =
+    let v = subst (ValueAt _ _ _) (c .before .before .before .from .given .1) (c .before .before .before .before .before .value-at .ensures) in
+    omega (arith, v .high)
 
 -- src/lines.rt:108:1
 returns-3 : tie.Need-returns-3
-returns-3 c = ?
+returns-3 c =
+    let v = subst (ValueAt _ _ _) (c .before .before .before .from .given .1) (c .before .before .before .before .before .value-at .ensures) in
+    line-shaped (wordIs _) v (ap wordIf (sym (c .before .is-word .ensures) ∙ not-false (c .before .is-word .result) (c .if1 .left)))
 
 pub word-at-spec : {M : Type 1} → statement M
 word-at-spec =
