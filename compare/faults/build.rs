@@ -41,18 +41,20 @@ fn make(out: &Path) -> Result<(), String> {
     for (place, patch) in patches()?.iter().enumerate() {
         let number = place + 1;
         let changes = changes(patch, &sources)?;
-        let (choice, sheet) = if changes.iter().all(|(_, change)| change.body.is_some()) {
+        let (choice, sheet, read) = if changes.iter().all(|(_, change)| change.body.is_some()) {
             together.extend(changes.into_iter().map(|placed| (number, placed)));
-            (number, format!("|input| choice::with({number}, || together::sheet(input))"))
+            let chosen = |call| format!("choice::with({number}, || {call})");
+            (number, chosen("together::sheet(input)"), chosen("told!(together, input)"))
         } else {
             let alone = patch.name.replace('-', "_");
             write(out, &alone, &changed(&sources, &changes), "")?;
             modules += &module(out, "mod", &alone);
-            (0, format!("{alone}::sheet"))
+            (0, format!("{alone}::sheet(input)"), format!("told!({alone}, input)"))
         };
         let (name, what) = (&patch.name, &patch.what);
         faults += &format!(
-            "Fault {{ name: {name:?}, what: {what:?}, choice: {choice}, sheet: {sheet} }},\n"
+            "Fault {{ name: {name:?}, what: {what:?}, choice: {choice}, \
+             sheet: |input| {sheet}, read: |input| {read} }},\n"
         );
     }
     write(out, "together", &with_choices(&sources, &together), "use crate::choice;\n")?;

@@ -4,7 +4,6 @@
 //! |---|---|
 //! | `ffi` | the library's three functions |
 //! | `pack` | the engine's tables as the library's bytes, and back |
-//! | `make` | sound tables: some that a run reaches, some that none does |
 //! | `harm` | bytes changed, fields exchanged, another form or length, noise |
 //! | `ask` | a console line for given tables |
 //! | `show` | tables and answers in print |
@@ -23,7 +22,6 @@ pub mod clock;
 pub mod ffi;
 pub mod harm;
 pub mod load;
-pub mod make;
 pub mod natural;
 pub mod pack;
 pub mod show;

@@ -3,9 +3,9 @@
 use crate::ask;
 use crate::ffi::{self, Reply, ANSWER, TABLES};
 use crate::harm;
-use crate::make;
 use crate::pack::{formed, in_form, pack};
 use crate::show;
+use comparer::make;
 use comparer::prng::Prng;
 use comparer::report::shown;
 use engine::raw::Raw;

@@ -4,7 +4,8 @@
 use board::ffi::{Reply, TABLES};
 use board::pack::{in_form, pack, unpack, Bytes, AT_LINKS, AT_NUMBERS, AT_RECORDS, RECORD};
 use board::tables::{engine_side, Cases, Kind};
-use board::{load, make, natural};
+use board::{load, natural};
+use comparer::make;
 use comparer::prng::Prng;
 use comparer::script::generate;
 use engine::raw::{Raw, RawNumber, RawRecord, RawWhy, LINKS, UNUSED};
