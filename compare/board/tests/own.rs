@@ -251,3 +251,32 @@ fn loads() {
         assert!(times(&out, "answer=8,value=0") > 800);
     }
 }
+
+/// The pages that are timed are pages, and the full one is as long as one gets.
+#[test]
+fn timed_pages() {
+    let full = load::full_page();
+    let small = load::small_page();
+    for page in [&full, &small] {
+        let (raw, answer) = engine::read(page);
+        assert_eq!(answer, engine::Answer::new(0, 0));
+        assert_eq!(raw.engine().expect("sound tables").page_bytes(), *page);
+    }
+    let having = |page: &[u8], start: &str| {
+        lines(page).iter().filter(|line| line.starts_with(start.as_bytes())).count()
+    };
+    assert_eq!(
+        (having(&full, "id="), having(&full, "held="), having(&full, "number=")),
+        (32, 256, 16)
+    );
+    assert_eq!(
+        (having(&small, "id="), having(&small, "held="), having(&small, "number=")),
+        (3, 1, 1)
+    );
+    let mut prng = Prng::new(1);
+    for _ in 0..2_000 {
+        let page = make::unreached(&mut prng).engine().expect("sound tables").page_bytes();
+        assert!(page.len() <= full.len());
+    }
+    assert!(full.len() <= 8_192);
+}
