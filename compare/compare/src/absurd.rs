@@ -1,6 +1,7 @@
 //! Pages that no writer makes and every reader has to bear: far more records, members, runs or
 //! numbers than there are places for, and some fixed ones.
 
+use crate::blot::STRANGE;
 use crate::prng::Prng;
 use crate::twist::{bytes_of, having, lines_of, Lines};
 
@@ -114,6 +115,13 @@ pub fn fixed() -> Vec<(&'static str, Vec<u8>)> {
             let mut other = lines.clone();
             other.swap(place - 1, place);
             pages.push(("each line exchanged with the next", bytes_of(&other)));
+        }
+    }
+    for (line, _) in STRANGE {
+        for place in 0..=lines.len() {
+            let mut more = lines.clone();
+            more.insert(place, line.to_string());
+            pages.push(("a line that a page has not", bytes_of(&more)));
         }
     }
     let million = "1".repeat(1_000_000);

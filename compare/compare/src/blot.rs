@@ -26,7 +26,6 @@ pub fn byte(prng: &mut Prng, page: &mut Vec<u8>) {
 pub fn line(prng: &mut Prng, lines: &mut Lines) {
     let one = any_line(prng, lines);
     let two = any_line(prng, lines);
-    let more = ["", "=", "suspend=1", "year=1975", "chain4=", "chain2=", "mail=1:0", "class=1"];
     match prng.below(6) {
         0 => {
             lines.remove(one);
@@ -38,9 +37,28 @@ pub fn line(prng: &mut Prng, lines: &mut Lines) {
         }
         3 => lines.swap(one, two),
         4 if one + 1 < lines.len() => lines.swap(one, one + 1),
-        _ => lines.insert(one, prng.pick(&more).to_string()),
+        _ => {
+            let (new, before) = prng.pick(&STRANGE);
+            let place = having(lines, before).first().copied().unwrap_or(one);
+            lines.insert(if prng.chance(2, 3) { place } else { one }, new.to_string());
+        }
     }
 }
+
+/// Lines that a page has not, those of later requests among them, each with the key before which it
+/// would stand.
+pub const STRANGE: [(&str, &str); 10] = [
+    ("", "end"),
+    ("=", "clock"),
+    ("suspend=1", "chain1"),
+    ("suspend=0", "chain1"),
+    ("year=1975", "tracks"),
+    ("year=1976", "tracks"),
+    ("chain4=", "chain5"),
+    ("chain2=", "chain3"),
+    ("mail=1:0", "end"),
+    ("class=1", "end"),
+];
 
 /// A number with a zero in front of it, stretched, or gone.
 pub fn digits(prng: &mut Prng, lines: &mut Lines) {

@@ -9,7 +9,7 @@ use std::collections::BTreeMap;
 use std::panic::{catch_unwind, AssertUnwindSafe};
 
 /// The pages that the tests use and that `compare pages` takes unless it is told another count.
-/// Within them, and in the fixed ones, every wrong reader is found.
+/// Within them every wrong reader is found.
 pub const CI_PAGES: usize = 6_000;
 
 /// Bytes that are put at every place of the example.
@@ -26,11 +26,11 @@ pub fn engine_reads(page: &[u8]) -> Told {
     (format!("{:?}", answer), format!("{:?}", tables))
 }
 
-/// The fixed pages and so many of this seed, each with what it is.
+/// So many pages of this seed, then the fixed ones, each with what it is.
 pub fn pages(seed: u64, count: usize) -> impl Iterator<Item = (&'static str, Vec<u8>)> {
     let bytes = every_byte(BYTES.iter().copied()).map(|page| ("every byte at every place", page));
     let made = Pages::new(seed).take(count).map(|(kind, page)| (kind.what(), page));
-    fixed().into_iter().chain(bytes).chain(made)
+    made.chain(fixed()).chain(bytes)
 }
 
 /// A page on which two readers differ.

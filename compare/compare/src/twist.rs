@@ -175,8 +175,8 @@ fn ids(lines: &[String]) -> Vec<String> {
 fn holder(prng: &mut Prng, lines: &[String]) -> String {
     let mut holders = ids(lines);
     holders.push(String::from("global"));
-    let strange = prng.pick(&["0", "33", "34", "32", "31", "255"]);
-    if prng.chance(1, 8) {
+    let strange = prng.pick(&["0", "0", "33", "34", "32", "31", "255"]);
+    if prng.chance(1, 4) {
         return strange.to_string();
     }
     prng.pick(&holders)
@@ -272,7 +272,7 @@ fn allocations(prng: &mut Prng, lines: &mut Lines) {
         return;
     }
     let at = prng.pick(&places);
-    match prng.below(5) {
+    match prng.below(6) {
         0 | 1 => {
             let other = prng.pick(&places);
             lines.swap(at, other);
@@ -280,6 +280,12 @@ fn allocations(prng: &mut Prng, lines: &mut Lines) {
         2 => lines.insert(at, lines[at].clone()),
         3 => {
             lines.remove(at);
+        }
+        4 => {
+            // The lock alone.
+            let front = lines[at].rfind(':').map_or(0, |place| place + 1);
+            let locks = [lock, String::from("0"), String::from("-")];
+            lines[at] = format!("{}{}", &lines[at][..front], prng.pick(&locks));
         }
         _ => {
             let r = field(&lines[at]).split(':').next().unwrap_or("1").to_string();
@@ -359,7 +365,7 @@ fn records(prng: &mut Prng, lines: &mut Lines) {
             }
             2 => {
                 lines.drain(one..one + RECORD);
-                count -= 1;
+                count = count.saturating_sub(1);
             }
             3 => lines[one + 1] = lines[two + 1].clone(),
             // The ids alone, so that the records stay upward or not.

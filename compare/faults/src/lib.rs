@@ -13,6 +13,8 @@ pub struct Fault {
     pub what: &'static str,
     /// Its number in `together`; 0 if it is built by itself.
     choice: usize,
+    /// Its reader of pages is wrong: no console line shows it.
+    pub on_pages: bool,
     /// Console lines in, what its `sheet` prints out.
     pub sheet: fn(&[u8]) -> Vec<u8>,
     /// What it reads from a page, in print: the answer, and the tables.
