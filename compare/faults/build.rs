@@ -13,6 +13,8 @@ use std::path::{Path, PathBuf};
 
 const ENGINE: &str = "../engine/src";
 const LIST: &str = "list";
+/// The list of those that are told apart on pages.
+const PAGES: &str = "pages.txt";
 
 /// File by file: its name and its text.
 type Sources = BTreeMap<String, String>;
@@ -38,21 +40,24 @@ fn make(out: &Path) -> Result<(), String> {
     let mut together: Vec<(usize, Placed)> = Vec::new();
     let mut modules = module(out, "pub mod", "together");
     let mut faults = String::new();
-    for (place, patch) in patches()?.iter().enumerate() {
+    for (place, (list, patch)) in patches()?.iter().enumerate() {
         let number = place + 1;
+        let on_pages = list == PAGES;
         let changes = changes(patch, &sources)?;
-        let (choice, sheet) = if changes.iter().all(|(_, change)| change.body.is_some()) {
+        let (choice, sheet, read) = if changes.iter().all(|(_, change)| change.body.is_some()) {
             together.extend(changes.into_iter().map(|placed| (number, placed)));
-            (number, format!("|input| choice::with({number}, || together::sheet(input))"))
+            let chosen = |call| format!("choice::with({number}, || {call})");
+            (number, chosen("together::sheet(input)"), chosen("told!(together, input)"))
         } else {
             let alone = patch.name.replace('-', "_");
             write(out, &alone, &changed(&sources, &changes), "")?;
             modules += &module(out, "mod", &alone);
-            (0, format!("{alone}::sheet"))
+            (0, format!("{alone}::sheet(input)"), format!("told!({alone}, input)"))
         };
         let (name, what) = (&patch.name, &patch.what);
         faults += &format!(
-            "Fault {{ name: {name:?}, what: {what:?}, choice: {choice}, sheet: {sheet} }},\n"
+            "Fault {{ name: {name:?}, what: {what:?}, choice: {choice}, \
+             on_pages: {on_pages}, sheet: |input| {sheet}, read: |input| {read} }},\n"
         );
     }
     write(out, "together", &with_choices(&sources, &together), "use crate::choice;\n")?;
@@ -60,11 +65,13 @@ fn make(out: &Path) -> Result<(), String> {
     put(&out.join("engines.rs"), &text)
 }
 
-fn patches() -> Result<Vec<Patch>, String> {
+/// Each with the list that it stands in.
+fn patches() -> Result<Vec<(String, Patch)>, String> {
     let mut patches = Vec::new();
     for path in files(Path::new(LIST), "txt")? {
         let read = list::read(&read(&path)?);
-        patches.extend(read.map_err(|error| format!("{}: {}", path.display(), error))?);
+        let read = read.map_err(|error| format!("{}: {}", path.display(), error))?;
+        patches.extend(read.into_iter().map(|patch| (name(&path), patch)));
     }
     Ok(patches)
 }

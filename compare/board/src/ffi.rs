@@ -1,4 +1,4 @@
-//! The three functions of `libboard.a`, each behind a safe one. Nothing checks these declarations
+//! The four functions of `libboard.a`, each behind a safe one. Nothing checks these declarations
 //! against the library's source. All the unsafe code there is stands in this file.
 
 /// The tables as bytes; `pack` says which byte is what.
@@ -64,6 +64,14 @@ mod library {
             answer_len: usize,
         ) -> u64;
         pub fn board_sound(tables: *const u8, tables_len: usize) -> u64;
+        pub fn board_read(
+            page: *const u8,
+            page_len: usize,
+            tables: *mut u8,
+            tables_len: usize,
+            answer: *mut u8,
+            answer_len: usize,
+        ) -> u64;
     }
 }
 
@@ -126,5 +134,28 @@ pub fn sound(tables: &[u8]) -> Option<bool> {
         0 => Some(false),
         1 => Some(true),
         _ => None,
+    }
+}
+
+/// A page read back: into tables, or into the smallest ones.
+pub fn read(page: &[u8], tables: &mut [u8]) -> Reply {
+    let mut answer = [0; ANSWER];
+    read_bytes(page, tables, &mut answer);
+    Reply::of_bytes(&answer)
+}
+
+/// The same with an answer of any length, and the number that is handed back.
+pub fn read_bytes(page: &[u8], tables: &mut [u8], answer: &mut [u8]) -> u64 {
+    // The pointers and lengths are those of slices, and two of them are lent alone, so that no two
+    // overlap.
+    unsafe {
+        library::board_read(
+            page.as_ptr(),
+            page.len(),
+            tables.as_mut_ptr(),
+            tables.len(),
+            answer.as_mut_ptr(),
+            answer.len(),
+        )
     }
 }

@@ -1,6 +1,9 @@
-//! Texts whose speed is measured.
+//! Texts and pages whose speed is measured.
 
 use comparer::script::generate;
+use engine::raw::{Raw, RawNumber, RawRecord, RawWhy, GLOBAL, LINKS};
+use engine::tables::{CEILING, DISC, FURTHEST, LOWEST_PRIORITY, RECORDS};
+use engine::{sheet, Engine};
 
 /// Generated scripts one after the other, so many lines in all.
 pub fn mixed(lines: usize) -> Vec<u8> {
@@ -116,4 +119,54 @@ pub fn by_programs(programs: usize, lines: usize) -> Vec<u8> {
 pub fn by_tracks(tracks: usize, lines: usize) -> Vec<u8> {
     let cycle = ["EXEC,4,2,1", "EXEC,4,1,1", "EXEC,15,2,1", "EXEC,5,ALL"].map(String::from);
     repeated(fragments(tracks), &cycle, lines)
+}
+
+/// The longest page that sound tables have: every number has as many digits as it can, every record
+/// waits for tracks, and no two neighbours of 256 tracks have one holder.
+pub fn full_page() -> Vec<u8> {
+    let (engine, _) = Engine::fresh(256, 0, 16);
+    let mut raw = Raw::of(&engine);
+    raw.clock = CEILING;
+    let mut slot = usize::from(DISC);
+    for p in 1..=RECORDS {
+        let mut name = *b"WAIT0";
+        name[3] = b'A' + (p / 10) as u8;
+        name[4] = b'0' + (p % 10) as u8;
+        raw.records[p - 1] = RawRecord {
+            used: true,
+            name,
+            priority: LOWEST_PRIORITY,
+            state: u64::from(DISC),
+            why: RawWhy::Tracks(256),
+            due: CEILING + FURTHEST,
+            interval: FURTHEST,
+        };
+        raw.links[slot] = p as u8;
+        slot = LINKS + p;
+    }
+    for (track, holder) in raw.tracks.iter_mut().enumerate() {
+        *holder = if track % 2 == 0 { GLOBAL } else { RECORDS as u8 };
+    }
+    for number in &mut raw.numbers {
+        *number = RawNumber { owner: GLOBAL, lock: RECORDS as u8 };
+    }
+    raw.engine().expect("sound tables").page_bytes()
+}
+
+/// The page of three programs, one of which waits for another.
+pub fn small_page() -> Vec<u8> {
+    let lines = [
+        "FRESH,16,2,2",
+        "LOAD,WHZAT,10",
+        "LOAD,FTN,20",
+        "LOAD,ASMB,30",
+        "RU,WHZAT",
+        "EXEC,4,2,0",
+        "RN,ALLOC,L,0",
+        "EXEC,12,ASMB,2,10,5",
+        "EXEC,9,FTN",
+    ];
+    let set_up = joined(lines.map(String::from).to_vec());
+    let printed = sheet(&[&set_up, "PAGE\n".as_bytes()].concat());
+    printed[sheet(&set_up).len()..].to_vec()
 }

@@ -168,3 +168,13 @@ pub fn buffer(one: &[u8], other: &[u8]) -> Vec<String> {
     list.extend(lines(&other[first..=last]).into_iter().map(shown));
     list
 }
+
+/// The most differing bytes that are shown.
+const MOST_PLACES: usize = 20;
+
+/// The first bytes in which two buffers differ.
+pub fn places(one: &[u8], other: &[u8]) -> Vec<String> {
+    let differ = (0..one.len().min(other.len())).filter(|place| one[*place] != other[*place]);
+    let shown = |place: usize| format!("byte {} is {}, not {}", place, other[place], one[place]);
+    differ.take(MOST_PLACES).map(shown).collect()
+}

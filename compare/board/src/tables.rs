@@ -3,9 +3,9 @@
 use crate::ask;
 use crate::ffi::{self, Reply, ANSWER, TABLES};
 use crate::harm;
-use crate::make;
 use crate::pack::{formed, in_form, pack};
 use crate::show;
+use comparer::make;
 use comparer::prng::Prng;
 use comparer::report::shown;
 use engine::raw::Raw;
@@ -182,18 +182,18 @@ pub fn engine_side(case: &Case) -> (bool, Outcome) {
 
 /// Around each buffer lent to the library, to see whether it keeps within.
 const MARGIN: usize = 32;
-const FILL: u8 = 0xa5;
+pub const FILL: u8 = 0xa5;
 
-fn with_margins(bytes: &[u8]) -> Vec<u8> {
+pub fn with_margins(bytes: &[u8]) -> Vec<u8> {
     [&[FILL; MARGIN], bytes, &[FILL; MARGIN]].concat()
 }
 
-fn within(bytes: &mut [u8]) -> &mut [u8] {
+pub fn within(bytes: &mut [u8]) -> &mut [u8] {
     let end = bytes.len() - MARGIN;
     &mut bytes[MARGIN..end]
 }
 
-fn margins_kept(bytes: &[u8]) -> bool {
+pub fn margins_kept(bytes: &[u8]) -> bool {
     let (front, back) = (&bytes[..MARGIN], &bytes[bytes.len() - MARGIN..]);
     front.iter().chain(back).all(|byte| *byte == FILL)
 }

@@ -1,6 +1,6 @@
 //! The library against the engine, in short; `agree` does it at length.
 
-use board::{tables, text};
+use board::{pages, tables, text};
 
 #[test]
 fn wrong_lengths() {
@@ -20,4 +20,12 @@ fn whole_texts() {
     let mut count = text::Count::default();
     let compared = text::agree(1..61, 100, &mut count);
     assert!(compared.is_ok(), "{}", compared.unwrap_err());
+}
+
+#[test]
+fn pages_read_back() {
+    let mut count = pages::Count::default();
+    let compared = pages::lengths(&mut count).and_then(|()| pages::agree(2, 10_000, &mut count));
+    assert!(compared.is_ok(), "{}", compared.unwrap_err());
+    assert!(count.sums().iter().all(|times| *times > 1_500));
 }

@@ -4,7 +4,8 @@
 use board::ffi::{Reply, TABLES};
 use board::pack::{in_form, pack, unpack, Bytes, AT_LINKS, AT_NUMBERS, AT_RECORDS, RECORD};
 use board::tables::{engine_side, Cases, Kind};
-use board::{load, make, natural};
+use board::{load, natural};
+use comparer::make;
 use comparer::prng::Prng;
 use comparer::script::generate;
 use engine::raw::{Raw, RawNumber, RawRecord, RawWhy, LINKS, UNUSED};
@@ -249,4 +250,33 @@ fn loads() {
         let out = sheet(&load::by_tracks(n, 2_000));
         assert!(times(&out, "answer=8,value=0") > 800);
     }
+}
+
+/// The pages that are timed are pages, and the full one is as long as one gets.
+#[test]
+fn timed_pages() {
+    let full = load::full_page();
+    let small = load::small_page();
+    for page in [&full, &small] {
+        let (raw, answer) = engine::read(page);
+        assert_eq!(answer, engine::Answer::new(0, 0));
+        assert_eq!(raw.engine().expect("sound tables").page_bytes(), *page);
+    }
+    let having = |page: &[u8], start: &str| {
+        lines(page).iter().filter(|line| line.starts_with(start.as_bytes())).count()
+    };
+    assert_eq!(
+        (having(&full, "id="), having(&full, "held="), having(&full, "number=")),
+        (32, 256, 16)
+    );
+    assert_eq!(
+        (having(&small, "id="), having(&small, "held="), having(&small, "number=")),
+        (3, 1, 1)
+    );
+    let mut prng = Prng::new(1);
+    for _ in 0..2_000 {
+        let page = make::unreached(&mut prng).engine().expect("sound tables").page_bytes();
+        assert!(page.len() <= full.len());
+    }
+    assert!(full.len() <= 8_192);
 }

@@ -12,24 +12,36 @@
 //! | `corners` | fixed inputs |
 //! | `forms` | fixed inputs made from the forms of a line |
 //! | `damage` | tables that are not sound |
+//! | `make` | sound tables: some that a run reaches, some that none does |
+//! | `pages` | pages from a seed |
+//! | `twist` | well-formed pages that say something else |
+//! | `blot` | pages that are not well formed |
+//! | `absurd` | pages with absurd counts, and fixed ones |
+//! | `reading` | the comparison of a page reader with the engine's, on pages |
 //! | `other` | the program, or the wrong engine, that is compared |
 //! | `differ` | batches of scripts, and the first difference |
 //! | `shrink` | a shorter script that still fails |
 //! | `report` | a difference in print |
 
+pub mod absurd;
+pub mod blot;
 pub mod claims;
 pub mod corners;
 pub mod damage;
 pub mod differ;
 pub mod forms;
+pub mod make;
 pub mod other;
+pub mod pages;
 pub mod prng;
 pub mod profile;
+pub mod reading;
 pub mod report;
 pub mod script;
 pub mod shrink;
 pub mod spoil;
 pub mod tangle;
+pub mod twist;
 pub mod wish;
 
 use std::ops::Range;

@@ -2,6 +2,8 @@
 
 use comparer::differ::{self, shortest, Count, Failure};
 use comparer::other::Other;
+use comparer::pages::Pages;
+use comparer::reading::{self, CI_PAGES};
 use comparer::report::report;
 use comparer::script::generate;
 use comparer::{CI_LINES, CI_SEEDS};
@@ -15,6 +17,7 @@ use std::time::Duration;
 const USAGE: &str = "usage:
   compare run [--seeds A..B] [--lines N] [--limit SECONDS] [--save FILE] -- PROGRAM [ARGS..]
   compare run [--seeds A..B] [--lines N] [--save FILE] --fault NAME
+  compare pages [--seed K] [--count N] [--fault NAME]
   compare faults
   compare sheet
   compare gen [--seed K] [--lines N]
@@ -24,6 +27,7 @@ Seeds A..B are A and up, below B. Status 0: no difference; 1: a difference; 2: n
 struct Options {
     seeds: Range<u64>,
     lines: usize,
+    count: usize,
     limit: Duration,
     save: Option<String>,
     fault: Option<Fault>,
@@ -46,6 +50,7 @@ fn command() -> Result<u8, String> {
     let rest: Vec<String> = args.collect();
     match word.as_str() {
         "run" => run(options(rest)?),
+        "pages" => pages(options(rest)?),
         "faults" => {
             let list = FAULTS.iter().map(|fault| format!("{:24}{}\n", fault.name, fault.what));
             print(list.collect::<String>().as_bytes())
@@ -68,6 +73,7 @@ fn options(args: Vec<String>) -> Result<Options, String> {
     let mut options = Options {
         seeds: CI_SEEDS,
         lines: CI_LINES,
+        count: CI_PAGES,
         limit: Duration::from_secs(60),
         save: None,
         fault: None,
@@ -84,6 +90,7 @@ fn options(args: Vec<String>) -> Result<Options, String> {
             "--seeds" => options.seeds = range(&value)?,
             "--seed" => options.seeds.start = whole(&value)?,
             "--lines" => options.lines = whole(&value)? as usize,
+            "--count" => options.count = whole(&value)? as usize,
             "--limit" => options.limit = Duration::from_secs(whole(&value)?),
             "--save" => options.save = Some(value),
             "--fault" => options.fault = Some(Fault::by_name(&value).ok_or("no such fault")?),
@@ -138,6 +145,31 @@ fn show(other: &Other, failure: &Failure, save: Option<String>) -> Result<u8, St
         std::fs::write(&file, &input).map_err(|error| format!("{}: {}", file, error))?;
     }
     Ok(1)
+}
+
+/// A wrong engine on pages; without one, what the engine says to them.
+fn pages(options: Options) -> Result<u8, String> {
+    let (seed, count) = (options.seeds.start, options.count);
+    let fault = match options.fault {
+        Some(fault) => fault,
+        None => {
+            let mut total = reading::Count::default();
+            for (kind, page) in Pages::new(seed).take(count) {
+                total.add(kind, engine::read(&page).1);
+            }
+            return print(total.print().as_bytes());
+        }
+    };
+    let all: Vec<_> = reading::pages(seed, count).collect();
+    let expected =
+        all.iter().map(|(what, page)| (*what, page.as_slice(), reading::engine_reads(page)));
+    match reading::first_difference(fault.read, expected) {
+        None => print(format!("{} pages: no difference\n", all.len()).as_bytes()),
+        Some(difference) => {
+            print(reading::report(&difference).as_bytes())?;
+            Ok(1)
+        }
+    }
 }
 
 /// Three lines for each seed: `seed K`, `script` and `output` with their bytes in decimal.

@@ -42,6 +42,28 @@ fn a_mutant() {
 }
 
 #[test]
+fn pages() {
+    let output = compare(&["pages", "--count", "500", "--fault", "lines-from-0"], b"");
+    assert_eq!(output.status.code(), Some(1));
+    let text = String::from_utf8_lossy(&output.stdout).to_string();
+    assert!(
+        text.starts_with("difference on page ") && text.contains("the other says:"),
+        "{}",
+        text
+    );
+    // An engine that reads pages rightly.
+    let output = compare(&["pages", "--count", "500", "--fault", "three-passes"], b"");
+    assert_eq!(output.status.code(), Some(0));
+    let output = compare(&["pages", "--count", "500"], b"");
+    assert_eq!(output.status.code(), Some(0));
+    assert!(String::from_utf8_lossy(&output.stdout)
+        .lines()
+        .last()
+        .unwrap_or("")
+        .starts_with("all "));
+}
+
+#[test]
 fn not_run() {
     for args in [
         &["run"][..],

@@ -14,7 +14,7 @@ pub struct Answer {
     pub value: Value,
 }
 
-/// `Ok` holds answer 0 or 1, `Err` a refusal (2 to 14), so that a test that fails can leave its
+/// `Ok` holds answer 0 or 1, `Err` a refusal (2 to 15), so that a test that fails can leave its
 /// call with `?` before anything was changed.
 pub type Outcome = Result<Answer, Answer>;
 
@@ -31,6 +31,7 @@ pub const CEILING: u64 = 11;
 pub const TOO_SHORT: u64 = 12;
 pub const NOT_UNDERSTOOD: u64 = 13;
 pub const NOT_SOUND: u64 = 14;
+pub const NOT_READ: u64 = 15;
 
 impl Answer {
     pub fn new(number: u64, value: u64) -> Answer {

@@ -12,6 +12,7 @@
 //! | `exec`, `tracks`, `numbers` | Calls of the running program |
 //! | `waking` | Ending and waking |
 //! | `page`, `line`, `sheet` | The page and the console line |
+//! | `read` | a page read back: request (i) |
 //! | `raw`, `sound` | the tables as a caller could hand them in, and when they are sound |
 
 pub mod answer;
@@ -21,6 +22,7 @@ pub mod numbers;
 pub mod operator;
 pub mod page;
 pub mod raw;
+pub mod read;
 pub mod sheet;
 pub mod sound;
 pub mod tables;
@@ -31,5 +33,6 @@ pub use answer::{Answer, Outcome, Value};
 pub use line::{parse, Request};
 pub use numbers::Kind;
 pub use raw::Raw;
+pub use read::read;
 pub use sheet::sheet;
 pub use tables::{Engine, Holder, Name, Number, Program, Timer, Why};

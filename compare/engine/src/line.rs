@@ -99,7 +99,7 @@ fn number(field: &[u8]) -> Option<u64> {
 }
 
 /// "A name field is a legal name without its blanks"
-fn name(field: &[u8]) -> Option<Name> {
+pub(crate) fn name(field: &[u8]) -> Option<Name> {
     if !legal_front(field) {
         return None;
     }

@@ -13,8 +13,20 @@ pub struct Fault {
     pub what: &'static str,
     /// Its number in `together`; 0 if it is built by itself.
     choice: usize,
+    /// Its reader of pages is wrong: no console line shows it.
+    pub on_pages: bool,
     /// Console lines in, what its `sheet` prints out.
     pub sheet: fn(&[u8]) -> Vec<u8>,
+    /// What it reads from a page, in print: the answer, and the tables.
+    pub read: fn(&[u8]) -> (String, String),
+}
+
+/// A reading by one of the engines, whose types are all different.
+macro_rules! told {
+    ($engine:ident, $page:expr) => {{
+        let (tables, answer) = $engine::read($page);
+        (format!("{:?}", answer), format!("{:?}", tables))
+    }};
 }
 
 include!(concat!(env!("OUT_DIR"), "/engines.rs"));
@@ -33,6 +45,11 @@ pub const ON_TABLES: [&str; 9] = [
     "cycle-followed",
     "crossed-sound",
 ];
+
+/// What the engine of all that are built together reads, with nothing chosen.
+pub fn together_reads(page: &[u8]) -> (String, String) {
+    told!(together, page)
+}
 
 impl Fault {
     pub fn by_name(name: &str) -> Option<Fault> {

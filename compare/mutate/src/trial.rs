@@ -3,6 +3,7 @@
 
 use comparer::differ::everything;
 use comparer::other::Other;
+use comparer::reading::{engine_reads, pages, CI_PAGES};
 use comparer::{CI_LINES, CI_SEEDS};
 use edit::change::Change;
 use edit::files::{files, name, read};
@@ -23,6 +24,9 @@ pub enum Verdict {
 
 /// The sources that no console line comes to: the tables as a caller could hand them in.
 pub const OFF_THE_CONSOLE: [&str; 2] = ["raw.rs", "sound.rs"];
+
+/// The sources that no console line comes to, but every page that is read.
+pub const ON_PAGES: [&str; 1] = ["read.rs"];
 
 /// How long one run may take; the right engine takes a second.
 const LIMIT: Duration = Duration::from_secs(15);
@@ -57,18 +61,54 @@ fn main() {
 }
 ";
 
+/// Pages in, each after its length, and out what the engine reads from each: the answer, and the
+/// tables as one number.
+const READS: &str = "use std::io::{Read, Write};
+fn main() {
+    let mut input = Vec::new();
+    std::io::stdin().lock().read_to_end(&mut input).expect(\"input\");
+    let mut output = Vec::new();
+    let mut rest = &input[..];
+    while rest.len() >= 8 {
+        let size = u64::from_le_bytes(rest[..8].try_into().expect(\"eight bytes\")) as usize;
+        let (tables, answer) = engine::read(&rest[8..8 + size]);
+        let tables = format!(\"{:?}\", tables);
+        let mixed = |sum: u64, byte: u8| (sum ^ u64::from(byte)).wrapping_mul(0x100000001b3);
+        let sum = tables.bytes().fold(0xcbf29ce484222325, mixed);
+        output.extend(format!(\"{:?} {}\\n\", answer, sum).bytes());
+        rest = &rest[8 + size..];
+    }
+    std::io::stdout().lock().write_all(&output).expect(\"output\");
+}
+";
+
+/// All pages that the comparer compares in one input, with what is right.
+fn all_pages() -> (Vec<u8>, Vec<u8>) {
+    let (mut input, mut output) = (Vec::new(), Vec::new());
+    for (_, page) in pages(1, CI_PAGES) {
+        input.extend((page.len() as u64).to_le_bytes());
+        input.extend_from_slice(&page);
+        let (answer, tables) = engine_reads(&page);
+        let mixed = |sum: u64, byte: u8| (sum ^ u64::from(byte)).wrapping_mul(0x0100_0000_01b3);
+        let sum = tables.bytes().fold(0xcbf2_9ce4_8422_2325, mixed);
+        output.extend(format!("{} {}\n", answer, sum).bytes());
+    }
+    (input, output)
+}
+
 /// A folder in which engines are built.
 pub struct Shop {
     folder: PathBuf,
     /// What the comparer compares, with what is right.
     inputs: Vec<(Vec<u8>, Vec<u8>)>,
+    pages: (Vec<u8>, Vec<u8>),
 }
 
 impl Shop {
-    /// A copy of the engine's sources, its tests in one program, and a `sheet`.
+    /// A copy of the engine's sources, its tests in one program, a `sheet`, and a reader of pages.
     pub fn new(engine: &Path, folder: &Path) -> Result<Shop, String> {
         let inputs = everything(CI_SEEDS, CI_LINES);
-        let shop = Shop { folder: folder.to_path_buf(), inputs };
+        let shop = Shop { folder: folder.to_path_buf(), inputs, pages: all_pages() };
         fs::create_dir_all(shop.at("src")).map_err(|error| error.to_string())?;
         for file in files(&engine.join("src"), "rs")? {
             shop.write(&format!("src/{}", name(&file)), &read(&file)?)?;
@@ -81,6 +121,7 @@ impl Shop {
         }
         shop.write("tests.rs", &all)?;
         shop.write("sheet.rs", SHEET)?;
+        shop.write("reads.rs", READS)?;
         Ok(shop)
     }
 
@@ -171,15 +212,16 @@ impl Shop {
         Ok(places)
     }
 
-    /// The engine and its `sheet`. Where the errors are, none if it was built.
+    /// The engine, its `sheet` and its reader. Where the errors are, none if it was built.
     fn build_engine(&self, quick: &str) -> Result<Vec<(String, usize)>, String> {
         let library = ["--crate-type=rlib", "--crate-name=engine", quick];
-        let errors = self.build("src/lib.rs", &library)?;
-        if errors.is_empty() {
-            self.build("sheet.rs", &[ENGINE])
-        } else {
-            Ok(errors)
+        let mut errors = self.build("src/lib.rs", &library)?;
+        for program in ["sheet.rs", "reads.rs"] {
+            if errors.is_empty() {
+                errors = self.build(program, &[ENGINE])?;
+            }
         }
+        Ok(errors)
     }
 
     fn build_tests(&self) -> Result<Vec<(String, usize)>, String> {
@@ -198,8 +240,12 @@ impl Shop {
         if OFF_THE_CONSOLE.contains(&file) {
             return Ok(false);
         }
-        let other = Other::Program { command: self.sheet(number), limit: LIMIT };
-        for (input, expected) in &self.inputs {
+        let (program, inputs) = match ON_PAGES.contains(&file) {
+            true => ("reads", std::slice::from_ref(&self.pages)),
+            false => ("sheet", self.inputs.as_slice()),
+        };
+        let other = Other::Program { command: self.command(program, number), limit: LIMIT };
+        for (input, expected) in inputs {
             if other.print(input)? != *expected {
                 return Ok(true);
             }
@@ -213,8 +259,8 @@ impl Shop {
     }
 
     /// In little memory, and without what it says when it fails.
-    fn sheet(&self, number: usize) -> Vec<String> {
-        let program = self.at("sheet").display().to_string();
+    fn command(&self, program: &str, number: usize) -> Vec<String> {
+        let program = self.at(program).display().to_string();
         let script = format!("ulimit -v 2000000; MUTANT={} exec \"$0\" 2> /dev/null", number);
         vec![String::from("sh"), String::from("-c"), script, program]
     }

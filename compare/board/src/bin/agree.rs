@@ -2,13 +2,14 @@
 
 #![forbid(unsafe_code)]
 
-use board::{tables, text, words};
+use board::{pages, tables, text, words};
 use comparer::{CI_LINES, CI_SEEDS};
 use std::process::ExitCode;
 
 const USAGE: &str = "usage:
   agree tables [--count N] [--seed S]
   agree text [--seeds A..B] [--lines N]
+  agree pages [--count N] [--seed S]
 Seeds A..B are A and up, below B. Status 0: no difference; 1: a difference; 2: not run.";
 
 fn main() -> ExitCode {
@@ -16,6 +17,7 @@ fn main() -> ExitCode {
     let ran = match words.split_first() {
         Some((first, rest)) if first == "tables" => run_tables(rest),
         Some((first, rest)) if first == "text" => run_text(rest),
+        Some((first, rest)) if first == "pages" => run_pages(rest),
         _ => Err(USAGE.to_string()),
     };
     match ran {
@@ -37,7 +39,8 @@ fn main() -> ExitCode {
 /// A summary, or the report of a difference.
 type Verdict = Result<String, String>;
 
-fn run_tables(rest: &[String]) -> Result<Verdict, String> {
+/// How many, and from which seed.
+fn count_and_seed(rest: &[String]) -> Result<(u64, u64), String> {
     let (mut count, mut seed) = (100_000, 1);
     for (option, value) in words::pairs(rest, USAGE)? {
         match option.as_str() {
@@ -46,6 +49,11 @@ fn run_tables(rest: &[String]) -> Result<Verdict, String> {
             _ => return Err(USAGE.to_string()),
         }
     }
+    Ok((count, seed))
+}
+
+fn run_tables(rest: &[String]) -> Result<Verdict, String> {
+    let (count, seed) = count_and_seed(rest)?;
     let mut total = tables::Count::default();
     let compared = tables::lengths().and_then(|()| tables::agree(seed, count, &mut total));
     Ok(compared.map(|()| format!("{}\n{} tables: no difference\n", total.print(), total.sum())))
@@ -65,5 +73,17 @@ fn run_text(rest: &[String]) -> Result<Verdict, String> {
     Ok(compared.map(|()| {
         let text::Count { texts, lines, buffers } = count;
         format!("{} texts, {} lines, {} buffers: no difference\n", texts, lines, buffers)
+    }))
+}
+
+fn run_pages(rest: &[String]) -> Result<Verdict, String> {
+    let (count, seed) = count_and_seed(rest)?;
+    let mut total = pages::Count::default();
+    let compared = pages::lengths(&mut total).and_then(|()| pages::agree(seed, count, &mut total));
+    Ok(compared.map(|()| {
+        let [read, line, none] = total.sums();
+        let all = read + line + none;
+        let sums = format!("{} read, {} with 15 and a line, {} with 15 and 0", read, line, none);
+        format!("{}\n{} pages, {}: no difference\n", total.print(), all, sums)
     }))
 }

@@ -116,7 +116,7 @@ fn heading() {
     println!(
         "Speed: the engine's time divided by the library's; above 1.00 the library is quicker.\n\
          \"tested\" is the engine with a soundness test before every line, as the library has it,\n\
-         \"untested\" the engine without any.\n"
+         \"untested\" the engine without any. Where a page is read, \"ns a line\" are those of a page.\n"
     );
     println!("{:32}{:>18}{:>32}", "", "speed against", "ns a line, of this machine");
     let sides = ["tested", "untested"];
@@ -148,7 +148,9 @@ fn rows(rounds: usize) -> Result<(), String> {
     }
     let cases = given();
     calls(rounds, "soundness of given tables", &cases, sounds)?;
-    calls(rounds, "one line on given tables", &cases, asks)
+    calls(rounds, "one line on given tables", &cases, asks)?;
+    pages(rounds, "a full page read", &load::full_page())?;
+    pages(rounds, "a small page read", &load::small_page())
 }
 
 /// Sound tables, reached and not, each with a line.
@@ -238,6 +240,52 @@ fn asks(cases: &[Case]) -> Vec<Box<dyn Contestant + '_>> {
 /// A few numbers of what a line leaves: to see that both did the same is the task of `agree`.
 fn sum(reply: ffi::Reply, tables: &[u8]) -> u64 {
     reply.number + reply.values[0] + u64::from(tables[0]) + u64::from(tables[302])
+}
+
+/// How often a page is read in one piece of work.
+const READINGS: usize = 100;
+
+/// One side of the reading of a page into packed tables.
+struct Reading<'a> {
+    page: &'a [u8],
+    tables: Vec<u8>,
+    read: fn(&[u8], &mut [u8]) -> ffi::Reply,
+}
+
+impl Contestant for Reading<'_> {
+    fn prepare(&mut self) {
+        self.tables.fill(0);
+    }
+
+    fn work(&mut self) -> u64 {
+        let mut total: u64 = 0;
+        for _ in 0..READINGS {
+            let reply = (self.read)(self.page, &mut self.tables);
+            total = total.wrapping_mul(31).wrapping_add(sum(reply, &self.tables));
+        }
+        total
+    }
+}
+
+/// Nanoseconds a page.
+fn pages(rounds: usize, name: &str, page: &[u8]) -> Result<(), String> {
+    let rust = |page: &[u8], tables: &mut [u8]| {
+        let (raw, answer) = engine::read(page);
+        tables.copy_from_slice(&pack(&raw));
+        reply_of(answer)
+    };
+    let side = |read: fn(&[u8], &mut [u8]) -> ffi::Reply| {
+        Box::new(Reading { page, tables: vec![0; ffi::TABLES], read })
+    };
+    let (mut ours, mut theirs) = (side(ffi::read), side(rust));
+    if ours.work() != theirs.work() || ours.tables != theirs.tables {
+        return Err(String::from("the two sides read differently; run `agree pages`"));
+    }
+    let mut sides: Vec<Box<dyn Contestant + '_>> = vec![ours, theirs];
+    let times = race(rounds, &mut sides);
+    let (ours, rust) = (times[0] / READINGS as f64, times[1] / READINGS as f64);
+    println!("{:32}{:>8.2}{:>10}{:>12.0}{:>10.0}{:>10}", name, rust / ours, "-", ours, rust, "-");
+    Ok(())
 }
 
 /// How the time of a line grows: against the first column.

@@ -3,8 +3,8 @@
 //! programs that wait for each other, or an interval that is no multiple of a unit, and none that
 //! ends brings the clock near its ceiling.
 
-use comparer::prng::Prng;
-use comparer::script::generate;
+use crate::prng::Prng;
+use crate::script::generate;
 use engine::raw::{
     Raw, RawNumber, RawRecord, RawWhy, BLANK_NUMBER, GLOBAL, LINKS, SLOTS, SYSTEM, UNUSED,
 };
