@@ -13,3 +13,5 @@ pub mod LineLaws
 pub mod RoundTrip
 pub mod Lengths
 pub mod Exact
+pub mod HeadLaws
+pub mod RecordLaws

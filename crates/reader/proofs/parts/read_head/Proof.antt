@@ -1,203 +1,138 @@
+-- `read_head` reads the six lines of the head.
+-- Assumes nothing.
+use native.Mathlib.Omega.{arith}
+use mathlib.Core.Path.{_≡_, subst, sym}
+use mathlib.Core.Bool.{true}
 use borrow.Author.Needs.{needs}
+use Rattle.text.specs.Text.{text}
+use Rattle.page.specs.Page.{firstWord, pageKey, clockKey, tracksKey, systemKey, numbersKey, programsKey}
+use Rattle.reader.specs.Shapes.{figure}
+use Rattle.reader.specs.Inner.{LineIs, NoLine, wordIs, WordAt, FigureAt}
+use Rattle.reader.specs.Walks.{HeadRead}
+use Rattle.reader.proofs.HeadLaws as laws
 use Rattle.reader.proofs.parts.read_head.Statement.{statement}
 use Rattle.reader.proofs.parts.read_head.Tie as tie
-use Rattle.reader.proofs.parts.read_head.Reads as reads
-use Rattle.reader.proofs.parts.read_head.Lts as lts
-use Rattle.reader.proofs.lines.figure_at.Reads as figure-at-reads
-use Rattle.reader.proofs.lines.word_at.Reads as word-at-reads
-use Rattle.reader.proofs.parts.no_head.Reads as no-head-reads
 
--- src/parts.rt:91:46
-slice-aggregate-word-at : tie.Need-slice-aggregate-word-at
-slice-aggregate-word-at c = search needs
+abbrev start-1 : tie.After-a → tie.Start
+start-1 c = c .before .before .before .before .before .before
 
--- src/parts.rt:91:59
-slice-aggregate-word-at-2 : tie.Need-slice-aggregate-word-at-2
-slice-aggregate-word-at-2 c = search needs
+abbrev start-2 : tie.After-clock → tie.Start
+start-2 c = start-1 (c .before .before .before .before .before)
 
--- src/parts.rt:91:24
-word-at-requires : tie.Need-word-at-requires
-word-at-requires c κs = search needs
+abbrev start-3 : tie.After-tracks → tie.Start
+start-3 c = start-2 (c .before .before .before .before .before)
 
--- src/parts.rt:91:19
-enum-known-a : tie.Need-enum-known-a
-enum-known-a c = search needs
+abbrev start-4 : tie.After-system → tie.Start
+start-4 c = start-3 (c .before .before .before .before .before)
 
--- src/parts.rt:92:9
-enum-told : tie.Need-enum-told
-enum-told c = search needs
+abbrev start-5 : tie.After-numbers → tie.Start
+start-5 c = start-4 (c .before .before .before .before .before)
 
--- src/parts.rt:92:9
-no-head-requires : tie.Need-no-head-requires
-no-head-requires c κs = search needs
+abbrev start-6 : tie.After-programs → tie.Start
+start-6 c = start-5 (c .before .before .before .before .before)
 
--- src/parts.rt:92:9
+line-1 : (c : tie.After-a) → LineIs (wordIs (text firstWord)) (start-1 c .args .s .now) (start-1 c .args .at) (text pageKey) true (c .a .given .0 .0)
+line-1 c = subst (WordAt _ _ _ _) (c .a .given .1) (c .before .before .word-at .ensures)
+
+line-2 : (c : tie.After-clock) → LineIs figure (start-2 c .args .s .now) (c .before .before .before .before .before .a .given .0 .0) (text clockKey) (c .clock .given .0 .0) (c .clock .given .0 .1 .0)
+line-2 c = subst (FigureAt _ _ _) (c .clock .given .1) (c .before .before .figure-at .ensures)
+
+line-3 : (c : tie.After-tracks) → LineIs figure (start-3 c .args .s .now) (c .before .before .before .before .before .clock .given .0 .1 .0) (text tracksKey) (c .tracks .given .0 .0) (c .tracks .given .0 .1 .0)
+line-3 c = subst (FigureAt _ _ _) (c .tracks .given .1) (c .before .before .figure-at2 .ensures)
+
+line-4 : (c : tie.After-system) → LineIs figure (start-4 c .args .s .now) (c .before .before .before .before .before .tracks .given .0 .1 .0) (text systemKey) (c .system .given .0 .0) (c .system .given .0 .1 .0)
+line-4 c = subst (FigureAt _ _ _) (c .system .given .1) (c .before .before .figure-at3 .ensures)
+
+line-5 : (c : tie.After-numbers) → LineIs figure (start-5 c .args .s .now) (c .before .before .before .before .before .system .given .0 .1 .0) (text numbersKey) (c .numbers .given .0 .0) (c .numbers .given .0 .1 .0)
+line-5 c = subst (FigureAt _ _ _) (c .numbers .given .1) (c .before .before .figure-at4 .ensures)
+
+line-6 : (c : tie.After-programs) → LineIs figure (start-6 c .args .s .now) (c .before .before .before .before .before .numbers .given .0 .1 .0) (text programsKey) (c .programs .given .0 .0) (c .programs .given .0 .1 .0)
+line-6 c = subst (FigureAt _ _ _) (c .programs .given .1) (c .before .before .figure-at5 .ensures)
+
 returns : tie.Need-returns
-returns c = ?
+returns c =
+    laws.head-stops _ _ 1 (omega arith) (laws.stop-1 _ _ (subst (WordAt _ _ _ _) (c .before .enum-told .given .1) (c .before .before .before .word-at .ensures))) _
+    (c .no-head .ensures)
 
--- src/parts.rt:94:55
-slice-aggregate-figure-at : tie.Need-slice-aggregate-figure-at
-slice-aggregate-figure-at c = search needs
-
--- src/parts.rt:94:32
-figure-at-requires : tie.Need-figure-at-requires
-figure-at-requires c κs = ?
-
--- src/parts.rt:94:20
-enum-known-clock : tie.Need-enum-known-clock
-enum-known-clock c = search needs
-
--- src/parts.rt:95:9
-enum-told-2 : tie.Need-enum-told-2
-enum-told-2 c = search needs
-
--- src/parts.rt:95:9
-no-head-requires-2 : tie.Need-no-head-requires-2
-no-head-requires-2 c κs = search needs
-
--- src/parts.rt:95:9
 returns-2 : tie.Need-returns-2
-returns-2 c = ?
+returns-2 c =
+    let l = c .before .before .before .before .before .before in
+    laws.head-stops _ _ 2 (omega arith)
+    (laws.stop-2 _ _ (line-1 (l))
+    (subst (FigureAt _ _ _) (c .before .enum-told2 .given .1) (c .before .before .before .figure-at .ensures))) _ (c .no-head2 .ensures)
 
--- src/parts.rt:97:56
-slice-aggregate-figure-at-2 : tie.Need-slice-aggregate-figure-at-2
-slice-aggregate-figure-at-2 c = search needs
-
--- src/parts.rt:97:33
-figure-at-requires-2 : tie.Need-figure-at-requires-2
-figure-at-requires-2 c κs = ?
-
--- src/parts.rt:97:20
-enum-known-tracks : tie.Need-enum-known-tracks
-enum-known-tracks c = search needs
-
--- src/parts.rt:98:9
-enum-told-3 : tie.Need-enum-told-3
-enum-told-3 c = search needs
-
--- src/parts.rt:98:9
-no-head-requires-3 : tie.Need-no-head-requires-3
-no-head-requires-3 c κs = search needs
-
--- src/parts.rt:98:9
 returns-3 : tie.Need-returns-3
-returns-3 c = ?
+returns-3 c =
+    let l = c .before .before .before .before .before .before in
+    laws.head-stops _ _ 3 (omega arith)
+    (laws.stop-3 _ _ (line-1 (l .before .before .before .before .before)) (line-2 (l))
+    (subst (FigureAt _ _ _) (c .before .enum-told3 .given .1) (c .before .before .before .figure-at2 .ensures))) _ (c .no-head3 .ensures)
 
--- src/parts.rt:100:56
-slice-aggregate-figure-at-3 : tie.Need-slice-aggregate-figure-at-3
-slice-aggregate-figure-at-3 c = search needs
-
--- src/parts.rt:100:33
-figure-at-requires-3 : tie.Need-figure-at-requires-3
-figure-at-requires-3 c κs = ?
-
--- src/parts.rt:100:20
-enum-known-system : tie.Need-enum-known-system
-enum-known-system c = search needs
-
--- src/parts.rt:101:9
-enum-told-4 : tie.Need-enum-told-4
-enum-told-4 c = search needs
-
--- src/parts.rt:101:9
-no-head-requires-4 : tie.Need-no-head-requires-4
-no-head-requires-4 c κs = search needs
-
--- src/parts.rt:101:9
 returns-4 : tie.Need-returns-4
-returns-4 c = ?
+returns-4 c =
+    let l = c .before .before .before .before .before .before in
+    laws.head-stops _ _ 4 (omega arith)
+    (laws.stop-4 _ _ (line-1 (l .before .before .before .before .before .before .before .before .before .before)) (line-2 (l .before .before .before .before .before)) (line-3 (l))
+    (subst (FigureAt _ _ _) (c .before .enum-told4 .given .1) (c .before .before .before .figure-at3 .ensures))) _ (c .no-head4 .ensures)
 
--- src/parts.rt:103:57
-slice-aggregate-figure-at-4 : tie.Need-slice-aggregate-figure-at-4
-slice-aggregate-figure-at-4 c = search needs
-
--- src/parts.rt:103:34
-figure-at-requires-4 : tie.Need-figure-at-requires-4
-figure-at-requires-4 c κs = ?
-
--- src/parts.rt:103:20
-enum-known-numbers : tie.Need-enum-known-numbers
-enum-known-numbers c = search needs
-
--- src/parts.rt:104:9
-enum-told-5 : tie.Need-enum-told-5
-enum-told-5 c = search needs
-
--- src/parts.rt:104:9
-no-head-requires-5 : tie.Need-no-head-requires-5
-no-head-requires-5 c κs = search needs
-
--- src/parts.rt:104:9
 returns-5 : tie.Need-returns-5
-returns-5 c = ?
+returns-5 c =
+    let l = c .before .before .before .before .before .before in
+    laws.head-stops _ _ 5 (omega arith)
+    (laws.stop-5 _ _ (line-1 (l .before .before .before .before .before .before .before .before .before .before .before .before .before .before .before)) (line-2 (l .before .before .before .before .before .before .before .before .before .before)) (line-3 (l .before .before .before .before .before)) (line-4 (l))
+    (subst (FigureAt _ _ _) (c .before .enum-told5 .given .1) (c .before .before .before .figure-at4 .ensures))) _ (c .no-head5 .ensures)
 
--- src/parts.rt:106:58
-slice-aggregate-figure-at-5 : tie.Need-slice-aggregate-figure-at-5
-slice-aggregate-figure-at-5 c = search needs
-
--- src/parts.rt:106:35
-figure-at-requires-5 : tie.Need-figure-at-requires-5
-figure-at-requires-5 c κs = ?
-
--- src/parts.rt:106:20
-enum-known-programs : tie.Need-enum-known-programs
-enum-known-programs c = search needs
-
--- src/parts.rt:107:9
-enum-told-6 : tie.Need-enum-told-6
-enum-told-6 c = search needs
-
--- src/parts.rt:107:9
-no-head-requires-6 : tie.Need-no-head-requires-6
-no-head-requires-6 c κs = search needs
-
--- src/parts.rt:107:9
 returns-6 : tie.Need-returns-6
-returns-6 c = ?
+returns-6 c =
+    let l = c .before .before .before .before .before .before in
+    laws.head-stops _ _ 6 (omega arith)
+    (laws.stop-6 _ _ (line-1 (l .before .before .before .before .before .before .before .before .before .before .before .before .before .before .before .before .before .before .before .before)) (line-2 (l .before .before .before .before .before .before .before .before .before .before .before .before .before .before .before)) (line-3 (l .before .before .before .before .before .before .before .before .before .before)) (line-4 (l .before .before .before .before .before)) (line-5 (l))
+    (subst (FigureAt _ _ _) (c .before .enum-told6 .given .1) (c .before .before .before .figure-at5 .ensures))) _ (c .no-head6 .ensures)
 
--- src/parts.rt:87:1
 returns-7 : tie.Need-returns-7
-returns-7 c = ?
+returns-7 c =
+    let l = c .before in
+    laws.head-read _ _ (line-1 (l .before .before .before .before .before .before .before .before .before .before .before .before .before .before .before .before .before .before .before .before .before .before .before .before .before)) (line-2 (l .before .before .before .before .before .before .before .before .before .before .before .before .before .before .before .before .before .before .before .before)) (line-3 (l .before .before .before .before .before .before .before .before .before .before .before .before .before .before .before)) (line-4 (l .before .before .before .before .before .before .before .before .before .before)) (line-5 (l .before .before .before .before .before)) (line-6 (l))
 
 pub read-head-spec : {M : Type 1} → statement M
 read-head-spec =
     tie.close
     (tie.spec
-    slice-aggregate-word-at
-    slice-aggregate-word-at-2
-    word-at-requires
-    enum-known-a
-    enum-told
-    no-head-requires
+    (λ c. search needs)
+    (λ c. search needs)
+    (λ c κs. search needs)
+    (λ c. search needs)
+    (λ c. search needs)
+    (λ c κs. search needs)
     returns
-    slice-aggregate-figure-at
-    figure-at-requires
-    enum-known-clock
-    enum-told-2
-    no-head-requires-2
+    (λ c. search needs)
+    (λ c κs. line-1 (c .before .before) .within)
+    (λ c. search needs)
+    (λ c. search needs)
+    (λ c κs. search needs)
     returns-2
-    slice-aggregate-figure-at-2
-    figure-at-requires-2
-    enum-known-tracks
-    enum-told-3
-    no-head-requires-3
+    (λ c. search needs)
+    (λ c κs. line-2 (c .before .before) .within)
+    (λ c. search needs)
+    (λ c. search needs)
+    (λ c κs. search needs)
     returns-3
-    slice-aggregate-figure-at-3
-    figure-at-requires-3
-    enum-known-system
-    enum-told-4
-    no-head-requires-4
+    (λ c. search needs)
+    (λ c κs. line-3 (c .before .before) .within)
+    (λ c. search needs)
+    (λ c. search needs)
+    (λ c κs. search needs)
     returns-4
-    slice-aggregate-figure-at-4
-    figure-at-requires-4
-    enum-known-numbers
-    enum-told-5
-    no-head-requires-5
+    (λ c. search needs)
+    (λ c κs. line-4 (c .before .before) .within)
+    (λ c. search needs)
+    (λ c. search needs)
+    (λ c κs. search needs)
     returns-5
-    slice-aggregate-figure-at-5
-    figure-at-requires-5
-    enum-known-programs
-    enum-told-6
-    no-head-requires-6
+    (λ c. search needs)
+    (λ c κs. line-5 (c .before .before) .within)
+    (λ c. search needs)
+    (λ c. search needs)
+    (λ c κs. search needs)
     returns-6
     returns-7)

@@ -1,242 +1,168 @@
+-- `read_record` reads the seven lines of a record.
+-- Assumes nothing.
+use mathlib.Core.Path.{_≡_, refl, subst, ap₂}
+use mathlib.Core.Bool.{true}
+use mathlib.Core.List.{[], _∷_}
 use borrow.Author.Needs.{needs}
+use Rattle.text.specs.Text.{text}
+use Rattle.records.specs.Names.{nameOf}
+use Rattle.page.specs.Page.{idKey, nameKey, priorityKey, stateKey, whyKey, dueKey, intervalKey}
+use Rattle.reader.specs.Shapes.{figure, figureOrDash}
+use Rattle.reader.specs.Inner.{LineIs, FigureAt, DashedAt, NameAt, ReasonAt, narrowReason}
+use Rattle.reader.proofs.RecordLaws as laws
 use Rattle.reader.proofs.parts.read_record.Statement.{statement}
 use Rattle.reader.proofs.parts.read_record.Tie as tie
-use Rattle.reader.proofs.parts.read_record.Reads as reads
-use Rattle.reader.proofs.parts.read_record.Lts as lts
-use Rattle.reader.proofs.lines.dashed_at.Reads as dashed-at-reads
-use Rattle.reader.proofs.lines.figure_at.Reads as figure-at-reads
-use Rattle.reader.proofs.lines.name_at.Reads as name-at-reads
-use Rattle.reader.proofs.lines.reason_at.Reads as reason-at-reads
-use Rattle.reader.proofs.parts.stopped.Reads as stopped-reads
-use Rattle.reader.proofs.values.byte.Reads as byte-reads
-use Rattle.reader.proofs.values.two_bytes.Reads as two-bytes-reads
 
--- src/parts.rt:136:53
-slice-aggregate-figure-at : tie.Need-slice-aggregate-figure-at
-slice-aggregate-figure-at c = search needs
+abbrev start-1 : tie.After-id → tie.Start
+start-1 c = c .before .before .before .before .before
 
--- src/parts.rt:136:29
-figure-at-requires : tie.Need-figure-at-requires
-figure-at-requires c κs = search needs
+abbrev start-2 : tie.After-n0 → tie.Start
+start-2 c = start-1 (c .before .before .before .before .before)
 
--- src/parts.rt:136:20
-enum-known-id : tie.Need-enum-known-id
-enum-known-id c = search needs
+abbrev start-3 : tie.After-priority → tie.Start
+start-3 c = start-2 (c .before .before .before .before .before)
 
--- src/parts.rt:137:9
-enum-told : tie.Need-enum-told
-enum-told c = search needs
+abbrev start-4 : tie.After-state → tie.Start
+start-4 c = start-3 (c .before .before .before .before .before)
 
--- src/parts.rt:137:9
-stopped-requires : tie.Need-stopped-requires
-stopped-requires c κs = search needs
+abbrev start-5 : tie.After-why → tie.Start
+start-5 c = start-4 (c .before .before .before .before .before)
 
--- src/parts.rt:137:9
+abbrev start-6 : tie.After-due → tie.Start
+start-6 c = start-5 (c .before .before .before .before .before)
+
+abbrev start-7 : tie.After-interval → tie.Start
+start-7 c = start-6 (c .before .before .before .before .before)
+
+line-1 : (c : tie.After-id)
+    → LineIs figure (start-1 c .args .s .now) (start-1 c .args .at) (text idKey) (c .id .given .0 .0) (c .id .given .0 .1 .0)
+line-1 c = subst (FigureAt _ _ _) (c .id .given .1) (c .before .before .figure-at .ensures)
+
+line-2 : (c : tie.After-n0)
+    → LineIs nameOf (start-2 c .args .s .now) (c .before .before .before .before .before .id .given .0 .1 .0) (text nameKey) (c .n0 .given .0 .0 ∷ c .n0 .given .0 .1 .0 ∷ c .n0 .given .0 .1 .1 .0 ∷ c .n0 .given .0 .1 .1 .1 .0 ∷ c .n0 .given .0 .1 .1 .1 .1 .0 ∷ []) (c .n0 .given .0 .1 .1 .1 .1 .1 .0)
+line-2 c = subst (NameAt _ _ _) (c .n0 .given .1) (c .before .before .name-at .ensures)
+
+line-3 : (c : tie.After-priority)
+    → LineIs figure (start-3 c .args .s .now) (c .before .before .before .before .before .n0 .given .0 .1 .1 .1 .1 .1 .0) (text priorityKey) (c .priority .given .0 .0) (c .priority .given .0 .1 .0)
+line-3 c = subst (FigureAt _ _ _) (c .priority .given .1) (c .before .before .figure-at2 .ensures)
+
+line-4 : (c : tie.After-state)
+    → LineIs figure (start-4 c .args .s .now) (c .before .before .before .before .before .priority .given .0 .1 .0) (text stateKey) (c .state .given .0 .0) (c .state .given .0 .1 .0)
+line-4 c = subst (FigureAt _ _ _) (c .state .given .1) (c .before .before .figure-at3 .ensures)
+
+line-5 : (c : tie.After-why)
+    → LineIs narrowReason (start-5 c .args .s .now) (c .before .before .before .before .before .state .given .0 .1 .0) (text whyKey) (c .why .given .0 .0) (c .why .given .0 .1 .0)
+line-5 c = subst (ReasonAt _ _ _) (c .why .given .1) (c .before .before .reason-at .ensures)
+
+line-6 : (c : tie.After-due)
+    → LineIs figureOrDash (start-6 c .args .s .now) (c .before .before .before .before .before .why .given .0 .1 .0) (text dueKey) (c .due .given .0 .0) (c .due .given .0 .1 .0)
+line-6 c = subst (DashedAt _ _ _) (c .due .given .1) (c .before .before .dashed-at .ensures)
+
+line-7 : (c : tie.After-interval)
+    → LineIs figureOrDash (start-7 c .args .s .now) (c .before .before .before .before .before .due .given .0 .1 .0) (text intervalKey) (c .interval .given .0 .0) (c .interval .given .0 .1 .0)
+line-7 c = subst (DashedAt _ _ _) (c .interval .given .1) (c .before .before .dashed-at2 .ensures)
+
 returns : tie.Need-returns
-returns c = ?
+returns c =
+    laws.stop-1 _ _ (subst (FigureAt _ _ _) (c .before .enum-told .given .1) (c .before .before .before .figure-at .ensures)) _
+    (c .stopped .ensures)
 
--- src/parts.rt:139:68
-slice-aggregate-name-at : tie.Need-slice-aggregate-name-at
-slice-aggregate-name-at c = search needs
-
--- src/parts.rt:139:47
-name-at-requires : tie.Need-name-at-requires
-name-at-requires c κs = ?
-
--- src/parts.rt:139:22
-enum-known-n0 : tie.Need-enum-known-n0
-enum-known-n0 c = search needs
-
--- src/parts.rt:140:9
-enum-told-2 : tie.Need-enum-told-2
-enum-told-2 c = search needs
-
--- src/parts.rt:140:9
-stopped-requires-2 : tie.Need-stopped-requires-2
-stopped-requires-2 c κs = search needs
-
--- src/parts.rt:140:9
 returns-2 : tie.Need-returns-2
-returns-2 c = ?
+returns-2 c =
+    let l = c .before .before .before .before .before .before in
+    laws.stop-2 _ _ (line-1 l) (subst (NameAt _ _ _) (c .before .enum-told2 .given .1) (c .before .before .before .name-at .ensures)) _
+    (c .stopped2 .ensures)
 
--- src/parts.rt:142:58
-slice-aggregate-figure-at-2 : tie.Need-slice-aggregate-figure-at-2
-slice-aggregate-figure-at-2 c = search needs
-
--- src/parts.rt:142:35
-figure-at-requires-2 : tie.Need-figure-at-requires-2
-figure-at-requires-2 c κs = ?
-
--- src/parts.rt:142:20
-enum-known-priority : tie.Need-enum-known-priority
-enum-known-priority c = search needs
-
--- src/parts.rt:143:9
-enum-told-3 : tie.Need-enum-told-3
-enum-told-3 c = search needs
-
--- src/parts.rt:143:9
-stopped-requires-3 : tie.Need-stopped-requires-3
-stopped-requires-3 c κs = search needs
-
--- src/parts.rt:143:9
 returns-3 : tie.Need-returns-3
-returns-3 c = ?
+returns-3 c =
+    let l = c .before .before .before .before .before .before in
+    laws.stop-3 _ _ (line-1 (l .before .before .before .before .before)) (line-2 l) (subst (FigureAt _ _ _) (c .before .enum-told3 .given .1) (c .before .before .before .figure-at2 .ensures)) _
+    (c .stopped3 .ensures)
 
--- src/parts.rt:145:55
-slice-aggregate-figure-at-3 : tie.Need-slice-aggregate-figure-at-3
-slice-aggregate-figure-at-3 c = search needs
-
--- src/parts.rt:145:32
-figure-at-requires-3 : tie.Need-figure-at-requires-3
-figure-at-requires-3 c κs = ?
-
--- src/parts.rt:145:20
-enum-known-state : tie.Need-enum-known-state
-enum-known-state c = search needs
-
--- src/parts.rt:146:9
-enum-told-4 : tie.Need-enum-told-4
-enum-told-4 c = search needs
-
--- src/parts.rt:146:9
-stopped-requires-4 : tie.Need-stopped-requires-4
-stopped-requires-4 c κs = search needs
-
--- src/parts.rt:146:9
 returns-4 : tie.Need-returns-4
-returns-4 c = ?
+returns-4 c =
+    let l = c .before .before .before .before .before .before in
+    laws.stop-4 _ _ (line-1 (l .before .before .before .before .before .before .before .before .before .before)) (line-2 (l .before .before .before .before .before)) (line-3 l) (subst (FigureAt _ _ _) (c .before .enum-told4 .given .1) (c .before .before .before .figure-at3 .ensures)) _
+    (c .stopped4 .ensures)
 
--- src/parts.rt:148:57
-slice-aggregate-reason-at : tie.Need-slice-aggregate-reason-at
-slice-aggregate-reason-at c = search needs
-
--- src/parts.rt:148:34
-reason-at-requires : tie.Need-reason-at-requires
-reason-at-requires c κs = ?
-
--- src/parts.rt:148:24
-enum-known-why : tie.Need-enum-known-why
-enum-known-why c = search needs
-
--- src/parts.rt:149:9
-enum-told-5 : tie.Need-enum-told-5
-enum-told-5 c = search needs
-
--- src/parts.rt:149:9
-stopped-requires-5 : tie.Need-stopped-requires-5
-stopped-requires-5 c κs = search needs
-
--- src/parts.rt:149:9
 returns-5 : tie.Need-returns-5
-returns-5 c = ?
+returns-5 c =
+    let l = c .before .before .before .before .before .before in
+    laws.stop-5 _ _ (line-1 (l .before .before .before .before .before .before .before .before .before .before .before .before .before .before .before)) (line-2 (l .before .before .before .before .before .before .before .before .before .before)) (line-3 (l .before .before .before .before .before)) (line-4 l) (subst (ReasonAt _ _ _) (c .before .enum-told5 .given .1) (c .before .before .before .reason-at .ensures)) _
+    (c .stopped5 .ensures)
 
--- src/parts.rt:151:53
-slice-aggregate-dashed-at : tie.Need-slice-aggregate-dashed-at
-slice-aggregate-dashed-at c = search needs
-
--- src/parts.rt:151:30
-dashed-at-requires : tie.Need-dashed-at-requires
-dashed-at-requires c κs = ?
-
--- src/parts.rt:151:20
-enum-known-due : tie.Need-enum-known-due
-enum-known-due c = search needs
-
--- src/parts.rt:152:9
-enum-told-6 : tie.Need-enum-told-6
-enum-told-6 c = search needs
-
--- src/parts.rt:152:9
-stopped-requires-6 : tie.Need-stopped-requires-6
-stopped-requires-6 c κs = search needs
-
--- src/parts.rt:152:9
 returns-6 : tie.Need-returns-6
-returns-6 c = ?
+returns-6 c =
+    let l = c .before .before .before .before .before .before in
+    laws.stop-6 _ _ (line-1 (l .before .before .before .before .before .before .before .before .before .before .before .before .before .before .before .before .before .before .before .before)) (line-2 (l .before .before .before .before .before .before .before .before .before .before .before .before .before .before .before)) (line-3 (l .before .before .before .before .before .before .before .before .before .before)) (line-4 (l .before .before .before .before .before)) (line-5 l) (subst (DashedAt _ _ _) (c .before .enum-told6 .given .1) (c .before .before .before .dashed-at .ensures)) _
+    (c .stopped6 .ensures)
 
--- src/parts.rt:154:58
-slice-aggregate-dashed-at-2 : tie.Need-slice-aggregate-dashed-at-2
-slice-aggregate-dashed-at-2 c = search needs
-
--- src/parts.rt:154:35
-dashed-at-requires-2 : tie.Need-dashed-at-requires-2
-dashed-at-requires-2 c κs = ?
-
--- src/parts.rt:154:20
-enum-known-interval : tie.Need-enum-known-interval
-enum-known-interval c = search needs
-
--- src/parts.rt:155:9
-enum-told-7 : tie.Need-enum-told-7
-enum-told-7 c = search needs
-
--- src/parts.rt:155:9
-stopped-requires-7 : tie.Need-stopped-requires-7
-stopped-requires-7 c κs = search needs
-
--- src/parts.rt:155:9
 returns-7 : tie.Need-returns-7
-returns-7 c = ?
+returns-7 c =
+    let l = c .before .before .before .before .before .before in
+    laws.stop-7 _ _ (line-1 (l .before .before .before .before .before .before .before .before .before .before .before .before .before .before .before .before .before .before .before .before .before .before .before .before .before)) (line-2 (l .before .before .before .before .before .before .before .before .before .before .before .before .before .before .before .before .before .before .before .before)) (line-3 (l .before .before .before .before .before .before .before .before .before .before .before .before .before .before .before)) (line-4 (l .before .before .before .before .before .before .before .before .before .before)) (line-5 (l .before .before .before .before .before)) (line-6 l) (subst (DashedAt _ _ _) (c .before .enum-told7 .given .1) (c .before .before .before .dashed-at2 .ensures)) _
+    (c .stopped7 .ensures)
 
--- src/parts.rt:160:19
-two-bytes-requires : tie.Need-two-bytes-requires
-two-bytes-requires c κs = search needs
-
--- src/parts.rt:161:16
-byte-requires : tie.Need-byte-requires
-byte-requires c κs = search needs
-
--- src/parts.rt:132:1
 returns-8 : tie.Need-returns-8
-returns-8 c = ?
+returns-8 c =
+    let l = c .before .before .before in
+    laws.record-read _ _ (line-1 (l .before .before .before .before .before .before .before .before .before .before .before .before .before .before .before .before .before .before .before .before .before .before .before .before .before .before .before .before .before .before)) (line-2 (l .before .before .before .before .before .before .before .before .before .before .before .before .before .before .before .before .before .before .before .before .before .before .before .before .before)) (line-3 (l .before .before .before .before .before .before .before .before .before .before .before .before .before .before .before .before .before .before .before .before)) (line-4 (l .before .before .before .before .before .before .before .before .before .before .before .before .before .before .before)) (line-5 (l .before .before .before .before .before .before .before .before .before .before)) (line-6 (l .before .before .before .before .before)) (line-7 l) _ refl refl refl
+    (λ i. record {
+      used = true;
+      name = (l .before .before .before .before .before .before .before .before .before .before .before .before .before .before .before .before .before .before .before .before .before .before .before .before .before .n0 .given .0 .0 ∷ l .before .before .before .before .before .before .before .before .before .before .before .before .before .before .before .before .before .before .before .before .before .before .before .before .before .n0 .given .0 .1 .0 ∷ l .before .before .before .before .before .before .before .before .before .before .before .before .before .before .before .before .before .before .before .before .before .before .before .before .before .n0 .given .0 .1 .1 .0 ∷ l .before .before .before .before .before .before .before .before .before .before .before .before .before .before .before .before .before .before .before .before .before .before .before .before .before .n0 .given .0 .1 .1 .1 .0 ∷ l .before .before .before .before .before .before .before .before .before .before .before .before .before .before .before .before .before .before .before .before .before .before .before .before .before .n0 .given .0 .1 .1 .1 .1 .0 ∷ []);
+      priority = c .before .two-bytes .ensures i;
+      state = c .byte .ensures i;
+      why = l .before .before .before .before .before .before .before .before .before .before .why .given .0 .0;
+      due = l .before .before .before .before .before .due .given .0 .0;
+      interval = l .interval .given .0 .0;
+    })
 
 pub read-record-spec : {M : Type 1} → statement M
 read-record-spec =
     tie.close
     (tie.spec
-    slice-aggregate-figure-at
-    figure-at-requires
-    enum-known-id
-    enum-told
-    stopped-requires
+    (λ c. search needs)
+    (λ c κs. search needs)
+    (λ c. search needs)
+    (λ c. search needs)
+    (λ c κs. search needs)
     returns
-    slice-aggregate-name-at
-    name-at-requires
-    enum-known-n0
-    enum-told-2
-    stopped-requires-2
+    (λ c. search needs)
+    (λ c κs. line-1 (c .before .before) .within)
+    (λ c. search needs)
+    (λ c. search needs)
+    (λ c κs. search needs)
     returns-2
-    slice-aggregate-figure-at-2
-    figure-at-requires-2
-    enum-known-priority
-    enum-told-3
-    stopped-requires-3
+    (λ c. search needs)
+    (λ c κs. line-2 (c .before .before) .within)
+    (λ c. search needs)
+    (λ c. search needs)
+    (λ c κs. search needs)
     returns-3
-    slice-aggregate-figure-at-3
-    figure-at-requires-3
-    enum-known-state
-    enum-told-4
-    stopped-requires-4
+    (λ c. search needs)
+    (λ c κs. line-3 (c .before .before) .within)
+    (λ c. search needs)
+    (λ c. search needs)
+    (λ c κs. search needs)
     returns-4
-    slice-aggregate-reason-at
-    reason-at-requires
-    enum-known-why
-    enum-told-5
-    stopped-requires-5
+    (λ c. search needs)
+    (λ c κs. line-4 (c .before .before) .within)
+    (λ c. search needs)
+    (λ c. search needs)
+    (λ c κs. search needs)
     returns-5
-    slice-aggregate-dashed-at
-    dashed-at-requires
-    enum-known-due
-    enum-told-6
-    stopped-requires-6
+    (λ c. search needs)
+    (λ c κs. line-5 (c .before .before) .within)
+    (λ c. search needs)
+    (λ c. search needs)
+    (λ c κs. search needs)
     returns-6
-    slice-aggregate-dashed-at-2
-    dashed-at-requires-2
-    enum-known-interval
-    enum-told-7
-    stopped-requires-7
+    (λ c. search needs)
+    (λ c κs. line-6 (c .before .before) .within)
+    (λ c. search needs)
+    (λ c. search needs)
+    (λ c κs. search needs)
     returns-7
-    two-bytes-requires
-    byte-requires
+    (λ c κs. search needs)
+    (λ c κs. search needs)
     returns-8)
