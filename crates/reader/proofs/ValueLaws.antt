@@ -335,7 +335,7 @@ module _ {s : List ℕ} {from to : ℕ} {links : List ℕ} {state : ℕ} {l : Li
       unlaid (some c) q = let z : _≡_ {A = ℕ} 0 1 = cc in absurd (omega arith)
 
   module _ {n p : ℕ} (f : figure (slice o e s) ≡ some n) (b : p ≡ byte n) {k : List ℕ} (w : k ≡ set l slot p) where
-    kept : length k ≡ 40
+    pub kept : length k ≡ 40
     kept = ap length w ∙ length-set l slot p ∙ i .long
 
     again : (x : Option (List ℕ)) → laidOn l slot (into (λ ns. n ∷ ns) x) ≡ laidOn k (7 + p) x
