@@ -1,12 +1,12 @@
 -- Laws of the values of a page: what a search for a byte says of the parts, and what the parts say of a value.
 -- Assumes nothing.
-use Prim.Native.Nat.{ℕ, _+_, _-_, _≤_, _<_}
+use Prim.Native.Nat.{ℕ, _+_, _≤_, _<_}
 use native.Mathlib.Omega.{arith}
-use mathlib.Core.Path.{_≡_, refl, sym, ap, ap₂, subst, _∙_}
+use mathlib.Core.Path.{_≡_, refl, sym, ap, ap₂, _∙_}
 use mathlib.Core.Bool.{Bool, true, false, cond}
 use mathlib.Core.List.{List, [], _∷_, map}
 use mathlib.Core.Option.{Option, none, some}
-use lib.Dec.{ltb, eqb}
+use lib.Dec.{ltb}
 use lib.ListN.{length, take, drop, set, length-set}
 use lib.Seq.{slice, take-take, length-take-le, length-slice, set-out}
 use borrow.Author.Tests.{lt-ltb, le-ltb, eq-eqb, ne-eqb, ltb-true, ltb-false}
@@ -21,7 +21,6 @@ use Rattle.records.specs.Numbers.{globally}
 use Rattle.tracks.specs.declared.held.Run.{Run}
 use Rattle.chains.specs.Links.{layChain}
 use Rattle.page.specs.Page.{dash, globalWord, tracksWord, sonWord, lockWord, anyNumber}
-use Rattle.reader.specs.declared.values.Chain.{Chain}
 use Rattle.reader.specs.Shapes.{Parts, next, over, into, orElse, figure, figureOrDash, partyOf, coded, reasonOf, each, listed}
 use Rattle.reader.specs.Shapes.{Span, spanOf, runIn, Numbered, numbered}
 use Rattle.reader.specs.Inner.{byte, twoBytes, codedBy, narrowWhy, narrowRun, narrowNumbered}
@@ -101,7 +100,6 @@ coded-is w v u e f = f ∙ sym (ap codedIn e)
 abbrev whyBy : Bool → Option ℕ → Option ℕ → Option ℕ → Bool → Option Why
 whyBy d t s l n =
     into narrowWhy (wordOr Nothing d (orElse (into Tracks t) (orElse (into Son s) (orElse (into Lock l) (cond n (some Number) none)))))
-
 
 whyFor : (v : List ℕ) {d n : Bool} {t s l : Option ℕ} → alike v (text dash) ≡ d → coded tracksWord v ≡ t → coded sonWord v ≡ s
     → coded lockWord v ≡ l → alike v (text anyNumber) ≡ n

@@ -1,6 +1,6 @@
 -- `values::read_chain` meets its contract. The invariant: what is left of the chain, put into the links so far, gives what
 -- the whole gives, put into the links as given. Assumes nothing.
-use Prim.Native.Nat.{ℕ, suc, _+_, _-_}
+use Prim.Native.Nat.{suc, _+_, _-_}
 use native.Mathlib.Omega.{arith}
 use mathlib.Core.Path.{_≡_, refl, sym, ap, _∙_}
 use mathlib.Core.Logic.{⊎-elim}
@@ -31,7 +31,8 @@ returns-2 : tie.Need-returns-2 Inv-loop μ-loop
 returns-2 c =
     let t = c .before .before .before in
     let a = t .args in
-    chain-empty (a .s .now) (a .from) (a .to) (omega arith) (c .before .if1 .taken) (stored (a .links) (a .state) 0 (long t) (c .if2 .left) refl)
+    chain-empty (a .s .now) (a .from) (a .to) (omega arith) (c .before .if1 .taken)
+    (stored (a .links) (a .state) 0 (long t) (c .if2 .left) refl)
 
 loop-holds : tie.Need-loop-holds Inv-loop μ-loop
 loop-holds c = chaining-start (omega arith) (long (c .before .before))
@@ -65,7 +66,8 @@ returns-4 c =
     let j = c .before .before in
     let b = j .before in
     let m = marked b in
-    chain-end (top m .loop .inv) (m .mark .ensures) (told b) (b .byte .ensures) (put j) (omega arith) (omega arith) (c .before .if4 .taken) refl
+    chain-end (top m .loop .inv) (m .mark .ensures) (told b) (b .byte .ensures) (put j) (omega arith) (omega arith)
+    (c .before .if4 .taken) refl
 
 returns-5 : tie.Need-returns-5 Inv-loop μ-loop
 returns-5 c =

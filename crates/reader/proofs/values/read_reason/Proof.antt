@@ -1,8 +1,8 @@
 -- `values::read_reason` meets its contract: each test says which of the five forms the bytes have. Assumes nothing.
+use Prim.Native.Nat.{ℕ}
 use mathlib.Core.Path.{_≡_, sym, ap, _∙_}
 use mathlib.Core.Bool.{false}
 use mathlib.Core.List.{List}
-use Prim.Native.Nat.{ℕ}
 use mathlib.Core.Option.{none}
 use lib.Seq.{slice}
 use borrow.Author.Needs.{needs}

@@ -37,7 +37,8 @@ abbrev named : tie.After-known-told3 → tie.After-known-told2
 named w = w .before .before .before .before
 
 owner : (w : tie.After-known-told3) → let t = marks (named w) in let m = there t .before in
-    partyOf (slice (m .mark .result + 1) (t .before .second .given .0 .0) (m .before .before .args .s .now)) ≡ some (w .before .owner .given .0 .0)
+    partyOf (slice (m .mark .result + 1) (t .before .second .given .0 .0) (m .before .before .args .s .now))
+    ≡ some (w .before .owner .given .0 .0)
 owner w = sym (w .before .before .before .read-party .ensures) ∙ ap read (w .before .owner .given .1)
 
 returns : tie.Need-returns

@@ -29,7 +29,8 @@ dash : (u : tie.After-known-told2) → let t = marks u in let a = start t .args 
 dash u =
     let t = marks u in
     let a = start t .args in
-    subst (Only 45 (a .s .now) (a .from) (t .before .colon .given .0 .0)) (u .before .dash .given .1) (u .before .before .before .only2 .ensures)
+    subst (Only 45 (a .s .now) (a .from) (t .before .colon .given .0 .0)) (u .before .dash .given .1)
+    (u .before .before .before .only2 .ensures)
 
 abbrev cut : tie.After-known-told3 → tie.After-known-told2
 cut w = w .before .before .before .before
@@ -42,7 +43,8 @@ abbrev begun : tie.After-known-told4 → tie.After-known-told3
 begun y = y .before .before .before .before
 
 last : (y : tie.After-known-told4) → let u = cut (begun y) in let t = marks u in
-    figure (slice (u .before .dash .given .0 .0 + 1) (t .before .colon .given .0 .0) (start t .args .s .now)) ≡ some (y .before .last .given .0 .0)
+    figure (slice (u .before .dash .given .0 .0 + 1) (t .before .colon .given .0 .0) (start t .args .s .now))
+    ≡ some (y .before .last .given .0 .0)
 last y = sym (y .before .before .before .read-figure2 .ensures) ∙ ap read (y .before .last .given .1)
 
 returns : tie.Need-returns
