@@ -1,4 +1,5 @@
 pub mod Text
+pub mod ValueLaws
 pub mod ValuesBack
 pub mod Joined
 pub mod NameBack

@@ -1,20 +1,17 @@
+-- `values::mark` meets its contract: the search in what stands before `to`. Assumes nothing.
+use native.Mathlib.Omega.{arith}
+use mathlib.Core.Path.{sym}
+use lib.Seq.{length-take-le}
+use Rattle.reader.proofs.ValueLaws.{marked}
 use Rattle.reader.proofs.values.mark.Statement.{statement}
 use Rattle.reader.proofs.values.mark.Tie as tie
-use Rattle.reader.proofs.values.mark.Reads as reads
-use Rattle.reader.proofs.values.mark.Lts as lts
-use Rattle.text.proofs.part_end.Reads as part-end-reads
 
--- src/values.rt:68:20
 slice-aggregate-part-end : tie.Need-slice-aggregate-part-end
-slice-aggregate-part-end c = ?
+slice-aggregate-part-end c = let a = c .before .before .args in sym (length-take-le (a .to) (a .s .now) (omega arith))
 
--- src/values.rt:68:5
 part-end-requires : tie.Need-part-end-requires
-part-end-requires c κs = ?
-
--- src/values.rt:63:1
-returns : tie.Need-returns
-returns c = ?
+part-end-requires c κs = let a = c .before .before .args in omega (arith, length-take-le (a .to) (a .s .now) (omega arith))
 
 pub mark-spec : {M : Type 1} → statement M
-mark-spec = tie.close (tie.spec slice-aggregate-part-end part-end-requires returns)
+mark-spec =
+    tie.close (tie.spec slice-aggregate-part-end part-end-requires (λ c. marked (omega arith) (c .part-end .ensures)))

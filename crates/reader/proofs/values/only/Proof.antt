@@ -1,33 +1,20 @@
+-- `values::only` meets its contract: two searches, the second behind the first. Assumes nothing.
+use native.Mathlib.Omega.{arith}
 use borrow.Author.Needs.{needs}
+use Rattle.reader.proofs.ValueLaws.{only-none, only-more, only-at}
 use Rattle.reader.proofs.values.only.Statement.{statement}
 use Rattle.reader.proofs.values.only.Tie as tie
-use Rattle.reader.proofs.values.only.Reads as reads
-use Rattle.reader.proofs.values.only.Lts as lts
-use Rattle.reader.proofs.values.mark.Reads as mark-reads
 
--- src/values.rt:77:9
-mark-requires : tie.Need-mark-requires
-mark-requires c κs = search needs
-
--- src/values.rt:79:9
 returns : tie.Need-returns
-returns c = ?
+returns c = only-none (c .before .mark .ensures) (c .if1 .taken)
 
--- src/values.rt:81:26
-add-mark : tie.Need-add-mark
-add-mark c = search needs
-
--- src/values.rt:81:9
-mark-requires-2 : tie.Need-mark-requires-2
-mark-requires-2 c κs = search needs
-
--- src/values.rt:83:9
 returns-2 : tie.Need-returns-2
-returns-2 c = ?
+returns-2 c = only-more (c .before .before .before .mark .ensures) (omega arith) (c .before .mark2 .ensures) (c .if2 .taken)
 
--- src/values.rt:72:1
 returns-3 : tie.Need-returns-3
-returns-3 c = ?
+returns-3 c = only-at (c .before .before .before .mark .ensures) (omega arith) (c .before .mark2 .ensures) (c .if2 .left)
 
 pub only-spec : {M : Type 1} → statement M
-only-spec = tie.close (tie.spec mark-requires returns add-mark mark-requires-2 returns-2 returns-3)
+only-spec =
+    tie.close
+    (tie.spec (λ c κs. search needs) returns (λ c. search needs) (λ c κs. search needs) returns-2 returns-3)

@@ -1,120 +1,97 @@
+-- `values::read_chain` meets its contract. The invariant: what is left of the chain, put into the links so far, gives what
+-- the whole gives, put into the links as given. Assumes nothing.
+use Prim.Native.Nat.{suc, _+_, _-_}
+use native.Mathlib.Omega.{arith}
+use mathlib.Core.Path.{_≡_, refl, sym, ap, _∙_}
+use mathlib.Core.Logic.{⊎-elim}
+use mathlib.Core.Option.{some}
+use lib.ListN.{length, set}
+use lib.Seq.{slice}
+use borrow.Author.Needs.{needs}
+use Rattle.text.specs.Inner.{read}
+use Rattle.reader.specs.Shapes.{figure}
+use Rattle.reader.proofs.ValueLaws.{Chaining, stored, chaining-start, chain-empty, chain-not, kept, chain-turn, chain-end}
 use Rattle.reader.proofs.values.read_chain.Statement.{statement}
 use Rattle.reader.proofs.values.read_chain.Tie as tie
-use Rattle.reader.proofs.values.read_chain.Reads as reads
-use Rattle.reader.proofs.values.read_chain.Lts as lts
-use Rattle.reader.proofs.values.byte.Reads as byte-reads
-use Rattle.reader.proofs.values.mark.Reads as mark-reads
-use Rattle.reader.proofs.values.read_figure.Reads as read-figure-reads
 
 abbrev Inv-loop : tie.InvT-loop
-Inv-loop s from to state l₀ slot₀ o₀ l slot o = ?
+Inv-loop s from to state l₀ slot₀ o₀ l slot o = Chaining s from to l₀ slot₀ l slot o
 
 abbrev μ-loop : tie.MeasureT-loop
-μ-loop s from to state l₀ slot₀ o₀ l slot o = ?
+μ-loop s from to state l₀ slot₀ o₀ l slot o = suc to - o
 
--- src/values.rt:214:13
-array-write-l : tie.Need-array-write-l Inv-loop μ-loop
-array-write-l c = ?
+-- the links as given have 40 slots
+long : (t : tie.Start Inv-loop μ-loop) → length (t .args .links) ≡ 40
+long t = search needs
 
--- src/values.rt:216:9
 returns : tie.Need-returns Inv-loop μ-loop
-returns c = ?
+returns c = let a = c .before .before .before .args in chain-empty (a .s .now) (a .from) (a .to) (omega arith) (c .before .if1 .taken) refl
 
--- src/values.rt:216:9
 returns-2 : tie.Need-returns-2 Inv-loop μ-loop
-returns-2 c = ?
+returns-2 c =
+    let t = c .before .before .before in
+    let a = t .args in
+    chain-empty (a .s .now) (a .from) (a .to) (omega arith) (c .before .if1 .taken)
+    (stored (a .links) (a .state) 0 (long t) (c .if2 .left) refl)
 
--- src/values.rt:219:5
 loop-holds : tie.Need-loop-holds Inv-loop μ-loop
-loop-holds c = ?
+loop-holds c = chaining-start (omega arith) (long (c .before .before))
 
--- src/values.rt:220:13
-mark-requires : tie.Need-mark-requires Inv-loop μ-loop
-mark-requires c κs = ?
+-- the loop at its head, in its body
+abbrev top : tie.After-mark Inv-loop μ-loop → tie.At-loop Inv-loop μ-loop
+top m = m .before .before
 
--- src/values.rt:221:29
-read-figure-requires : tie.Need-read-figure-requires Inv-loop μ-loop
-read-figure-requires c κs = ?
-
--- src/values.rt:221:24
-enum-known-n : tie.Need-enum-known-n Inv-loop μ-loop
-enum-known-n c = ?
-
--- src/values.rt:222:46
-enum-told : tie.Need-enum-told Inv-loop μ-loop
-enum-told c = ?
-
--- src/values.rt:222:13
 returns-3 : tie.Need-returns-3 Inv-loop μ-loop
-returns-3 c = ?
+returns-3 c =
+    let m = c .before .before .before in
+    chain-not (top m .loop .inv) (m .mark .ensures) (omega arith) (omega arith)
+    (sym (c .before .before .read-figure .ensures) ∙ ap read (c .enum-told .given .1))
 
--- src/values.rt:224:13
-byte-requires : tie.Need-byte-requires Inv-loop μ-loop
-byte-requires c κs = ?
+-- a number was read, and is stored
+abbrev marked : tie.After-byte Inv-loop μ-loop → tie.After-mark Inv-loop μ-loop
+marked b = b .before .before .before .before .before
 
--- src/values.rt:226:13
-array-write-l-2 : tie.Need-array-write-l-2 Inv-loop μ-loop
-array-write-l-2 c = ?
+told : (b : tie.After-byte Inv-loop μ-loop) → let m = marked b in let h = top m in
+    figure (slice (h .loop .o) (m .mark .result) (h .before .before .before .args .s .now)) ≡ some (b .before .before .n .given .0 .0)
+told b = let n = b .before .before in sym (n .before .before .read-figure .ensures) ∙ ap read (n .n .given .1)
 
--- src/values.rt:228:25
-cast-slot : tie.Need-cast-slot Inv-loop μ-loop
-cast-slot c = ?
+put : (j : tie.Joined3 Inv-loop μ-loop) → let h = top (marked (j .before)) .loop in
+    j .if3 .l ≡ set (h .l) (h .slot) (j .before .byte .result)
+put j =
+    let h = top (marked (j .before)) .loop in
+    ⊎-elim (λ w. w .1) (λ w. stored (h .l) (h .slot) (j .before .byte .result) (h .inv .long) (w .0 .left) (w .1)) (j .if3 .came)
 
--- src/values.rt:228:16
-add-slot : tie.Need-add-slot Inv-loop μ-loop
-add-slot c = ?
-
--- src/values.rt:231:17
-array-write-l-3 : tie.Need-array-write-l-3 Inv-loop μ-loop
-array-write-l-3 c = ?
-
--- src/values.rt:233:13
 returns-4 : tie.Need-returns-4 Inv-loop μ-loop
-returns-4 c = ?
+returns-4 c =
+    let j = c .before .before in
+    let b = j .before in
+    let m = marked b in
+    chain-end (top m .loop .inv) (m .mark .ensures) (told b) (b .byte .ensures) (put j) (omega arith) (omega arith)
+    (c .before .if4 .taken) refl
 
--- src/values.rt:233:13
 returns-5 : tie.Need-returns-5 Inv-loop μ-loop
-returns-5 c = ?
+returns-5 c =
+    let j = c .before .before in
+    let b = j .before in
+    let m = marked b in
+    let h = top m .loop in
+    let k : length (j .if3 .l) ≡ 40 = kept (h .inv) (m .mark .ensures) (told b) (b .byte .ensures) (put j) in
+    chain-end (h .inv) (m .mark .ensures) (told b) (b .byte .ensures) (put j) (omega arith) (omega arith) (c .before .if4 .taken)
+    (stored (j .if3 .l) (7 + b .byte .result) 0 k (c .if5 .left) refl)
 
--- src/values.rt:235:13
-add-o : tie.Need-add-o Inv-loop μ-loop
-add-o c = ?
-
--- src/values.rt:219:5
-loop-less : tie.Need-loop-less Inv-loop μ-loop
-loop-less c = ?
-
--- src/values.rt:219:5
 loop-again : tie.Need-loop-again Inv-loop μ-loop
-loop-again c = ?
+loop-again c =
+    let j = c .before in
+    let b = j .before in
+    let m = marked b in
+    chain-turn (top m .loop .inv) (m .mark .ensures) (told b) (b .byte .ensures) (put j) (omega (arith, m .mark .ensures .high))
 
--- src/values.rt:205:1
 returns-6 : tie.Need-returns-6 Inv-loop μ-loop
-returns-6 c = ?
+returns-6 c = absurd (omega (arith, c .before .loop .inv .within))
 
 pub read-chain-spec : {M : Type 1} → statement M
 read-chain-spec =
     tie.close
-    (tie.spec
-    Inv-loop
-    μ-loop
-    array-write-l
-    returns
-    returns-2
-    loop-holds
-    mark-requires
-    read-figure-requires
-    enum-known-n
-    enum-told
-    returns-3
-    byte-requires
-    array-write-l-2
-    cast-slot
-    add-slot
-    array-write-l-3
-    returns-4
-    returns-5
-    add-o
-    loop-less
-    loop-again
-    returns-6)
+    (tie.spec Inv-loop μ-loop (λ c. omega arith) returns returns-2 loop-holds (λ c κs. search needs) (λ c κs. search needs)
+    (λ c. search needs) (λ c. search needs) returns-3 (λ c κs. search needs) (λ c. omega arith) (λ c. search needs) (λ c. search needs)
+    (λ c. omega arith) returns-4 returns-5 (λ c. search needs) (λ c. omega arith) loop-again returns-6)

@@ -1,36 +1,22 @@
+-- `values::read_coded` meets its contract: what stands behind the word is a number, or not. Assumes nothing.
+use native.Mathlib.Omega.{arith}
 use borrow.Author.Needs.{needs}
+use Rattle.reader.proofs.ValueLaws.{coded-not, coded-is}
 use Rattle.reader.proofs.values.read_coded.Statement.{statement}
 use Rattle.reader.proofs.values.read_coded.Tie as tie
-use Rattle.reader.proofs.values.read_coded.Reads as reads
-use Rattle.reader.proofs.values.read_coded.Lts as lts
-use Rattle.reader.proofs.values.read_figure.Reads as read-figure-reads
-use Rattle.text.proofs.behind.Reads as behind-reads
 
--- src/values.rt:126:24
-behind-requires : tie.Need-behind-requires
-behind-requires c κs = search needs
-
--- src/values.rt:126:19
-enum-known-i : tie.Need-enum-known-i
-enum-known-i c = search needs
-
--- src/values.rt:127:9
-enum-told : tie.Need-enum-told
-enum-told c = search needs
-
--- src/values.rt:127:9
 returns : tie.Need-returns
-returns c = ?
+returns c = coded-not _ _ (c .before .before .behind .ensures .not (c .enum-told .given .1))
 
--- src/values.rt:129:5
 read-figure-requires : tie.Need-read-figure-requires
-read-figure-requires c κs = ?
+read-figure-requires c κs = let b = c .before .before .before .behind .ensures .at _ (c .before .i .given .1) in omega arith
 
--- src/values.rt:121:1
 returns-2 : tie.Need-returns-2
-returns-2 c = ?
+returns-2 c =
+    let t = c .before .before in
+    coded-is _ _ _ (t .before .before .behind .ensures .at _ (t .i .given .1) .rest) (c .read-figure .ensures)
 
 pub read-coded-spec : {M : Type 1} → statement M
 read-coded-spec =
     tie.close
-    (tie.spec behind-requires enum-known-i enum-told returns read-figure-requires returns-2)
+    (tie.spec (λ c κs. search needs) (λ c. search needs) (λ c. search needs) returns read-figure-requires returns-2)

@@ -1,136 +1,98 @@
+-- `values::read_resource` meets its contract: a search, one for the only colon behind it, then three numbers. Assumes nothing.
+use Prim.Native.Nat.{_+_, _<_}
+use native.Mathlib.Omega.{arith}
+use mathlib.Core.Path.{_≡_, sym, ap, subst, _∙_}
+use mathlib.Core.Option.{some}
+use lib.Seq.{slice}
 use borrow.Author.Needs.{needs}
+use Rattle.text.specs.Inner.{read}
+use Rattle.reader.specs.Shapes.{figure, partyOf}
+use Rattle.reader.specs.Inner.{Only, OnlyAt}
+use Rattle.reader.proofs.ValueLaws.{number-alone, owner-none, number-none, party-none, lock-none, number-told}
 use Rattle.reader.proofs.values.read_resource.Statement.{statement}
 use Rattle.reader.proofs.values.read_resource.Tie as tie
-use Rattle.reader.proofs.values.read_resource.Reads as reads
-use Rattle.reader.proofs.values.read_resource.Lts as lts
-use Rattle.reader.proofs.values.byte.Reads as byte-reads
-use Rattle.reader.proofs.values.mark.Reads as mark-reads
-use Rattle.reader.proofs.values.only.Reads as only-reads
-use Rattle.reader.proofs.values.read_dashed.Reads as read-dashed-reads
-use Rattle.reader.proofs.values.read_figure.Reads as read-figure-reads
-use Rattle.reader.proofs.values.read_party.Reads as read-party-reads
 
--- src/values.rt:185:9
-mark-requires : tie.Need-mark-requires
-mark-requires c κs = search needs
+-- the first colon and the second, the number and its owner
+abbrev there : tie.After-known-told → tie.Else1
+there t = t .before .before .before .before
 
--- src/values.rt:187:9
+inside : (e : tie.Else1) → e .before .mark .result < e .before .before .before .args .to
+inside e = let m = e .before .mark .ensures in omega arith
+
+second : (t : tie.After-known-told) → let m = there t .before in let a = m .before .before .args in
+    OnlyAt 58 (a .s .now) (m .mark .result + 1) (a .to) (t .before .second .given .0 .0)
+second t =
+    let m = there t .before in
+    let a = m .before .before .args in
+    subst (Only 58 (a .s .now) (m .mark .result + 1) (a .to)) (t .before .second .given .1) (t .before .before .before .only .ensures)
+
+abbrev marks : tie.After-known-told2 → tie.After-known-told
+marks u = u .before .before .before .before
+
+number : (u : tie.After-known-told2) → let m = there (marks u) .before in let a = m .before .before .args in
+    figure (slice (a .from) (m .mark .result) (a .s .now)) ≡ some (u .before .r .given .0 .0)
+number u = sym (u .before .before .before .read-figure .ensures) ∙ ap read (u .before .r .given .1)
+
+abbrev named : tie.After-known-told3 → tie.After-known-told2
+named w = w .before .before .before .before
+
+owner : (w : tie.After-known-told3) → let t = marks (named w) in let m = there t .before in
+    partyOf (slice (m .mark .result + 1) (t .before .second .given .0 .0) (m .before .before .args .s .now))
+    ≡ some (w .before .owner .given .0 .0)
+owner w = sym (w .before .before .before .read-party .ensures) ∙ ap read (w .before .owner .given .1)
+
 returns : tie.Need-returns
-returns c = ?
+returns c = number-alone (c .before .mark .ensures) (c .if1 .taken)
 
--- src/values.rt:189:37
-add-only : tie.Need-add-only
-add-only c = search needs
-
--- src/values.rt:189:29
-only-requires : tie.Need-only-requires
-only-requires c κs = search needs
-
--- src/values.rt:189:19
-enum-known-second : tie.Need-enum-known-second
-enum-known-second c = search needs
-
--- src/values.rt:190:9
-enum-told : tie.Need-enum-told
-enum-told c = search needs
-
--- src/values.rt:190:9
 returns-2 : tie.Need-returns-2
-returns-2 c = ?
+returns-2 c =
+    let e = c .before .before .before in
+    let m = e .before in
+    let a = m .before .before .args in
+    owner-none (m .mark .ensures) (inside e)
+    (subst (Only 58 (a .s .now) (m .mark .result + 1) (a .to)) (c .enum-told .given .1) (c .before .before .only .ensures))
 
--- src/values.rt:192:25
-read-figure-requires : tie.Need-read-figure-requires
-read-figure-requires c κs = search needs
-
--- src/values.rt:192:20
-enum-known-r : tie.Need-enum-known-r
-enum-known-r c = search needs
-
--- src/values.rt:193:9
-enum-told-2 : tie.Need-enum-told-2
-enum-told-2 c = search needs
-
--- src/values.rt:193:9
 returns-3 : tie.Need-returns-3
-returns-3 c = ?
+returns-3 c =
+    let t = c .before .before .before in
+    number-none (there t .before .mark .ensures) (inside (there t)) (second t)
+    (sym (c .before .before .read-figure .ensures) ∙ ap read (c .enum-told2 .given .1))
 
--- src/values.rt:195:43
-add-read-party : tie.Need-add-read-party
-add-read-party c = search needs
-
--- src/values.rt:195:29
 read-party-requires : tie.Need-read-party-requires
-read-party-requires c κs = ?
+read-party-requires c κs = let q = second (marks c) in omega arith
 
--- src/values.rt:195:20
-enum-known-owner : tie.Need-enum-known-owner
-enum-known-owner c = search needs
-
--- src/values.rt:196:9
-enum-told-3 : tie.Need-enum-told-3
-enum-told-3 c = search needs
-
--- src/values.rt:196:9
 returns-4 : tie.Need-returns-4
-returns-4 c = ?
+returns-4 c =
+    let u = c .before .before .before in
+    let t = marks u in
+    party-none (there t .before .mark .ensures) (inside (there t)) (second t) (number u)
+    (sym (c .before .before .read-party .ensures) ∙ ap read (c .enum-told3 .given .1))
 
--- src/values.rt:198:43
 add-read-dashed : tie.Need-add-read-dashed
-add-read-dashed c = ?
+add-read-dashed c = let q = second (marks (named c)) in omega arith
 
--- src/values.rt:198:28
 read-dashed-requires : tie.Need-read-dashed-requires
-read-dashed-requires c κs = ?
+read-dashed-requires c κs = let q = second (marks (named c)) in omega arith
 
--- src/values.rt:198:20
-enum-known-lock : tie.Need-enum-known-lock
-enum-known-lock c = search needs
-
--- src/values.rt:199:9
-enum-told-4 : tie.Need-enum-told-4
-enum-told-4 c = search needs
-
--- src/values.rt:199:9
 returns-5 : tie.Need-returns-5
-returns-5 c = ?
+returns-5 c =
+    let w = c .before .before .before in
+    let t = marks (named w) in
+    lock-none (there t .before .mark .ensures) (inside (there t)) (second t) (number (named w)) (owner w)
+    (sym (c .before .before .read-dashed .ensures) ∙ ap read (c .enum-told4 .given .1))
 
--- src/values.rt:201:21
-byte-requires : tie.Need-byte-requires
-byte-requires c κs = search needs
-
--- src/values.rt:201:34
-byte-requires-2 : tie.Need-byte-requires-2
-byte-requires-2 c κs = search needs
-
--- src/values.rt:180:1
 returns-6 : tie.Need-returns-6
-returns-6 c = ?
+returns-6 c =
+    let h = c .before .before .before in
+    let w = h .before .before .before in
+    let t = marks (named w) in
+    number-told (there t .before .mark .ensures) (inside (there t)) (second t) (number (named w)) (owner w)
+    (sym (h .before .before .read-dashed .ensures) ∙ ap read (h .lock .given .1)) (c .before .byte .ensures) (c .byte2 .ensures)
 
 pub read-resource-spec : {M : Type 1} → statement M
 read-resource-spec =
     tie.close
-    (tie.spec
-    mark-requires
-    returns
-    add-only
-    only-requires
-    enum-known-second
-    enum-told
-    returns-2
-    read-figure-requires
-    enum-known-r
-    enum-told-2
-    returns-3
-    add-read-party
-    read-party-requires
-    enum-known-owner
-    enum-told-3
-    returns-4
-    add-read-dashed
-    read-dashed-requires
-    enum-known-lock
-    enum-told-4
-    returns-5
-    byte-requires
-    byte-requires-2
-    returns-6)
+    (tie.spec (λ c κs. search needs) returns (λ c. search needs) (λ c κs. search needs) (λ c. search needs) (λ c. search needs) returns-2
+    (λ c κs. search needs) (λ c. search needs) (λ c. search needs) returns-3 (λ c. search needs) read-party-requires (λ c. search needs)
+    (λ c. search needs) returns-4 add-read-dashed read-dashed-requires (λ c. search needs) (λ c. search needs) returns-5
+    (λ c κs. search needs) (λ c κs. search needs) returns-6)
