@@ -1,4 +1,5 @@
 // A page read back: exactly the bytes that the writer makes from some sound tables are read.
+mod holding;
 mod lines;
 mod parts;
 mod values;
@@ -9,6 +10,11 @@ ghost use lib.ListN.{length, drop};
 ghost use Rattle.tables.specs.Calls.{told};
 ghost use Rattle.reader.specs.Reading.{notRead, judged, reading};
 use clock::Clock;
+pub use holding::Reader;
+pub use holding::moved;
+pub use holding::open;
+pub use holding::read;
+pub use holding::read_page;
 use ledger::Ledger;
 use limits::PAGE_ROOM;
 use rules::Answer;
