@@ -31,12 +31,12 @@ use Rattle.reader.specs.Said.{figureOf, withChain, started, headIn, reco
 use Rattle.reader.specs.Said.{withHeld, withNumbered, withLine, restSaid, chainsSaid, recordsSaid, said}
 
 -- a book's lists are as long as what they list, and no longer than tables have them
-record Sized (b : Book) : Type 0 where
-  programs : length (b .programs) ≡ 32
-  holders : length (b .holders) ≡ b .tracks
-  tracks : b .tracks ≤ 256
-  resources : length (b .resources) ≡ b .numbers
-  numbers : b .numbers ≤ 16
+pub record Sized (b : Book) : Type 0 where
+  pub programs : length (b .programs) ≡ 32
+  pub holders : length (b .holders) ≡ b .tracks
+  pub tracks : b .tracks ≤ 256
+  pub resources : length (b .resources) ≡ b .numbers
+  pub numbers : b .numbers ≤ 16
 
 -- fresh books, of sizes that are allowed or the smallest
 fresh-sized : (T S R : ℕ) → S ≤ T → T ≤ 256 → R ≤ 16 → Sized (freshBook T S R)
@@ -49,7 +49,7 @@ fresh-sized T S R h k l = record {
   numbers = l;
 }
 
-started-sized : (clock T S R : ℕ) → Sized (started clock T S R .book)
+pub started-sized : (clock T S R : ℕ) → Sized (started clock T S R .book)
 started-sized clock T S R = go (sizes T S R) refl
   where
     timed : (b : Book) → Sized b → Sized (withClock clock b)

@@ -13,3 +13,4 @@ pub mod LineLaws
 pub mod RoundTrip
 pub mod Lengths
 pub mod Exact
+pub mod Assembling
