@@ -106,7 +106,8 @@ module _ (c : List ℕ) where
   one = two [] ∙ empty-laid behind1 3 (omega arith) clear3
 
 links-book : (b : Book) (cs : List (List ℕ))
-    → linksOf (map (map byte) (withChains chained cs (record { book = b; kept = replicate 7 [] }) .kept)) ≡ layThese chained cs (replicate slots 0)
+    → linksOf (map (map byte) (withChains chained cs (record { book = b; kept = replicate 7 [] }) .kept))
+    ≡ layThese chained cs (replicate slots 0)
 unfolding linksOf
 links-book b [] = refl
 links-book b (c ∷ []) = one (map byte c)

@@ -153,7 +153,7 @@ records-sized (suc n) ls a Z =
     records-sized n (drop (length recordKeys) ls) (withRecord (figureOf idKey own) (recordIn own) a)
     (record-sized (figureOf idKey own) (recordIn own) a Z)
 
-said-sized : (ls : List (List ℕ)) → Sized (said ls .book)
+pub said-sized : (ls : List (List ℕ)) → Sized (said ls .book)
 unfolding said
 said-sized ls =
     let own : List (List ℕ) = take (length headKeys) ls in
@@ -173,15 +173,17 @@ links-long : (m : List (List ℕ)) → length (linksOf m) ≡ 40
 unfolding linksOf
 links-long m = all-long (replicate 40 0) 0 m
 
-pub said-arrays : (ls : List (List ℕ)) → Arrays (lay (said ls))
-said-arrays ls =
-    let b = said ls .book in
-    let Z = said-sized ls in
+pub sized-arrays : (a : State lists) → Sized (a .book) → Arrays (lay a)
+sized-arrays a Z =
+    let b = a .book in
     record {
       programs = Z .programs;
-      links = links-long (said ls .kept);
+      links = links-long (a .kept);
       holders = length-append (b .holders) (replicate (256 - b .tracks) nobody)
           ∙ omega (arith, length-replicate (256 - b .tracks) nobody, Z .holders, Z .tracks);
       resources = length-append (b .resources) (replicate (16 - b .numbers) free)
           ∙ omega (arith, length-replicate (16 - b .numbers) free, Z .resources, Z .numbers);
     }
+
+pub said-arrays : (ls : List (List ℕ)) → Arrays (lay (said ls))
+said-arrays ls = sized-arrays (said ls) (said-sized ls)

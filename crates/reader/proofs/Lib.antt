@@ -14,3 +14,4 @@ pub mod RoundTrip
 pub mod Lengths
 pub mod Exact
 pub mod Assembling
+pub mod Narrowing
