@@ -15,3 +15,5 @@ pub mod Lengths
 pub mod Exact
 pub mod Assembling
 pub mod Narrowing
+pub mod OneReading
+pub mod LinesTold
