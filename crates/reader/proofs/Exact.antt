@@ -12,12 +12,14 @@ use Rattle.lists.proofs.Tests.{both, alike-true}
 use Rattle.text.specs.Text.{parts}
 use Rattle.tables.specs.declared.Tables.{Tables}
 use Rattle.tables.specs.Tables.{plain, lay, Arrays}
-use Rattle.tables.specs.Sound.{sound}
+use Rattle.tables.specs.Sound.{Sound, sound}
 use Rattle.tables.specs.Calls.{Result}
+use Rattle.tables.proofs.Agree.{sound-clauses}
 use Rattle.page.specs.Page.{page}
 use Rattle.reader.specs.Order.{heading, headForms, firstBad}
 use Rattle.reader.specs.Said.{said}
 use Rattle.reader.specs.Reading.{wasRead, notRead, writes, judged, reading}
+use Rattle.reader.specs.Lines.{WrittenBy, Exactly}
 use Rattle.reader.proofs.Lengths.{said-arrays}
 use Rattle.reader.proofs.RoundTrip.{read-written}
 
@@ -51,14 +53,14 @@ module _ (s : List ℕ) where
   read-is e = judged-read s (firstBad (heading headForms) 1 (parts 10 s)) (lay (said (parts 10 s))) e
 
   -- what is read is sound, and is written as these bytes
-  pub accepted : reading s .number ≡ 0 → (sound (reading s .tables) ≡ true) × (page (plain (reading s .tables)) ≡ s)
+  pub accepted : reading s .number ≡ 0 → Sound (reading s .tables) × (page (plain (reading s .tables)) ≡ s)
   unfolding writes
   accepted e =
       let r = read-is e in
       let t = lay (said (parts 10 s)) in
       let b = both (sound t) (alike (page (plain t)) s) (r .written) in
       let q = ap (λ (x : Result). x .tables) (r .tables) in
-      (ap sound q ∙ b .0, ap (λ (u : Tables). page (plain u)) q ∙ alike-true (page (plain t)) s (b .1))
+      (rw q (sound-clauses t (b .0)), ap (λ (u : Tables). page (plain u)) q ∙ alike-true (page (plain t)) s (b .1))
 
   pub accepted-arrays : reading s .number ≡ 0 → Arrays (reading s .tables)
   accepted-arrays e = rw (ap (λ (x : Result). x .tables) (read-is e .tables)) (said-arrays (parts 10 s))
@@ -67,30 +69,19 @@ module _ (s : List ℕ) where
   unfolding reading
   not-read n = judged-not s (firstBad (heading headForms) 1 (parts 10 s)) (lay (said (parts 10 s))) n
 
--- sound tables t are written as these bytes
-pub record Writes (t : Tables) (s : List ℕ) : Type 0 where
-  pub arrays : Arrays t
-  pub lawful : sound t ≡ true
-  pub bytes : page (plain t) ≡ s
-
--- what is read was written from the tables that it gives; what is written is read, and gives them back
-pub record Exactly (s : List ℕ) : Type 0 where
-  pub read : reading s .number ≡ 0 → (t : Tables) × Writes t s × (reading s ≡ wasRead t)
-  pub written : (t : Tables) → Writes t s → reading s ≡ wasRead t
-
-pub written-read : (t : Tables) (s : List ℕ) → Writes t s → reading s ≡ wasRead t
+pub written-read : (t : Tables) (s : List ℕ) → WrittenBy t s → reading s ≡ wasRead t
 written-read t s W = ap reading (sym (W .bytes)) ∙ read-written t (W .arrays) (W .lawful)
 
 pub accepts-exactly : (s : List ℕ) → Exactly s
 accepts-exactly s = record {
   read = λ e.
       let a = accepted s e in
-      let W : Writes (reading s .tables) s = record { arrays = accepted-arrays s e; lawful = a .0; bytes = a .1 } in
+      let W : WrittenBy (reading s .tables) s = record { arrays = accepted-arrays s e; lawful = a .0; bytes = a .1 } in
       (reading s .tables, W, written-read (reading s .tables) s W);
   written = λ t W. written-read t s W;
 }
 
 -- sound tables are told by their page
-pub one-page : (t u : Tables) → Arrays t → Arrays u → sound t ≡ true → sound u ≡ true → page (plain t) ≡ page (plain u) → t ≡ u
-one-page t u A B e f p =
-    ap (λ (r : Result). r .tables) (sym (read-written t A e) ∙ ap reading p ∙ read-written u B f)
+pub one-page : (t u : Tables) → Arrays t → Arrays u → Sound t → Sound u → page (plain t) ≡ page (plain u) → t ≡ u
+one-page t u A B C D p =
+    ap (λ (r : Result). r .tables) (sym (read-written t A C) ∙ ap reading p ∙ read-written u B D)

@@ -31,12 +31,12 @@ use Rattle.reader.specs.Said.{figureOf, withChain, started, headIn, reco
 use Rattle.reader.specs.Said.{withHeld, withNumbered, withLine, restSaid, chainsSaid, recordsSaid, said}
 
 -- a book's lists are as long as what they list, and no longer than tables have them
-record Sized (b : Book) : Type 0 where
-  programs : length (b .programs) ≡ 32
-  holders : length (b .holders) ≡ b .tracks
-  tracks : b .tracks ≤ 256
-  resources : length (b .resources) ≡ b .numbers
-  numbers : b .numbers ≤ 16
+pub record Sized (b : Book) : Type 0 where
+  pub programs : length (b .programs) ≡ 32
+  pub holders : length (b .holders) ≡ b .tracks
+  pub tracks : b .tracks ≤ 256
+  pub resources : length (b .resources) ≡ b .numbers
+  pub numbers : b .numbers ≤ 16
 
 -- fresh books, of sizes that are allowed or the smallest
 fresh-sized : (T S R : ℕ) → S ≤ T → T ≤ 256 → R ≤ 16 → Sized (freshBook T S R)
@@ -49,7 +49,7 @@ fresh-sized T S R h k l = record {
   numbers = l;
 }
 
-started-sized : (clock T S R : ℕ) → Sized (started clock T S R .book)
+pub started-sized : (clock T S R : ℕ) → Sized (started clock T S R .book)
 started-sized clock T S R = go (sizes T S R) refl
   where
     timed : (b : Book) → Sized b → Sized (withClock clock b)
@@ -153,7 +153,7 @@ records-sized (suc n) ls a Z =
     records-sized n (drop (length recordKeys) ls) (withRecord (figureOf idKey own) (recordIn own) a)
     (record-sized (figureOf idKey own) (recordIn own) a Z)
 
-said-sized : (ls : List (List ℕ)) → Sized (said ls .book)
+pub said-sized : (ls : List (List ℕ)) → Sized (said ls .book)
 unfolding said
 said-sized ls =
     let own : List (List ℕ) = take (length headKeys) ls in
@@ -173,15 +173,17 @@ links-long : (m : List (List ℕ)) → length (linksOf m) ≡ 40
 unfolding linksOf
 links-long m = all-long (replicate 40 0) 0 m
 
-pub said-arrays : (ls : List (List ℕ)) → Arrays (lay (said ls))
-said-arrays ls =
-    let b = said ls .book in
-    let Z = said-sized ls in
+pub sized-arrays : (a : State lists) → Sized (a .book) → Arrays (lay a)
+sized-arrays a Z =
+    let b = a .book in
     record {
       programs = Z .programs;
-      links = links-long (said ls .kept);
+      links = links-long (a .kept);
       holders = length-append (b .holders) (replicate (256 - b .tracks) nobody)
           ∙ omega (arith, length-replicate (256 - b .tracks) nobody, Z .holders, Z .tracks);
       resources = length-append (b .resources) (replicate (16 - b .numbers) free)
           ∙ omega (arith, length-replicate (16 - b .numbers) free, Z .resources, Z .numbers);
     }
+
+pub said-arrays : (ls : List (List ℕ)) → Arrays (lay (said ls))
+said-arrays ls = sized-arrays (said ls) (said-sized ls)

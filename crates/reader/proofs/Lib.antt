@@ -16,3 +16,7 @@ pub mod Lengths
 pub mod Exact
 pub mod HeadLaws
 pub mod RecordLaws
+pub mod Assembling
+pub mod Narrowing
+pub mod OneReading
+pub mod LinesTold

@@ -19,8 +19,8 @@ use Rattle.rules.specs.Keeper.{lists, State}
 use Rattle.rules.specs.Sound.{Sound}
 use Rattle.tables.specs.declared.Tables.{Tables}
 use Rattle.tables.specs.Tables.{plain, lay, Arrays}
-use Rattle.tables.specs.Sound.{sound}
-use Rattle.tables.proofs.Agree.{sound-clauses}
+use Rattle.tables.specs.Sound as tables
+use Rattle.tables.proofs.Agree.{sound-test}
 use Rattle.tables.proofs.Orderly.{sound-orderly, orderly-lay}
 use Rattle.tables.proofs.Plain.{sound-plain}
 use Rattle.page.specs.Page.{Line, line, endKey, lastWord, usedIn, recordLines, chainLines, heldLines, numberLines, lines, page}
@@ -155,11 +155,10 @@ module _ (a : State lists) (S : Sound a) where
   page-said = ap said page-lines ∙ lines-said
 
 -- THE ROUND TRIP
-pub read-written : (t : Tables) → Arrays t → sound t ≡ true → reading (page (plain t)) ≡ wasRead t
+pub read-written : (t : Tables) → Arrays t → tables.Sound t → reading (page (plain t)) ≡ wasRead t
 unfolding reading writes
-read-written t A e =
-    let C = sound-clauses t e in
+read-written t A C =
     let S = sound-plain t A C in
     let s : List ℕ = page (plain t) in
     ap₂ (judged s) (page-good (plain t) S) (ap lay (page-said (plain t) S) ∙ orderly-lay t (sound-orderly t A C))
-    ∙ ap (λ (b : Bool). elim b [ true ↦ wasRead t | false ↦ notRead 0 ]) (and e (alike-refl s))
+    ∙ ap (λ (b : Bool). elim b [ true ↦ wasRead t | false ↦ notRead 0 ]) (and (sound-test t C) (alike-refl s))

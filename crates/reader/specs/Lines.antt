@@ -1,6 +1,7 @@
--- What the value of a refused reading says of the page's lines (request (i)): which of them is the first that is not well formed.
+-- What the value of a refused reading says of the page's lines (request (i)): which of them is the first that is not well formed. And
+-- what it is that exactly the pages of sound tables are read.
 -- Assumes nothing.
-use Prim.Native.Nat.{ℕ, _<_}
+use Prim.Native.Nat.{ℕ, _≤_, _<_}
 use mathlib.Core.Path.{_≡_}
 use mathlib.Core.List.{List, [], _∷_}
 use mathlib.Core.Option.{Option, none, some}
@@ -11,6 +12,7 @@ use Rattle.tables.specs.Tables.{plain, Arrays}
 use Rattle.tables.specs.Sound.{Sound}
 use Rattle.page.specs.Page.{page}
 use Rattle.reader.specs.Order.{Place, heading, headForms, behindLine, ended}
+use Rattle.reader.specs.Reading.{wasRead, reading}
 
 -- the lines of a text that are ended by byte 10, and the bytes behind the last of these
 abbrev pub linesEnded : List (List ℕ) → List (List ℕ)
@@ -33,11 +35,11 @@ behindThese p (l ∷ ls) = elim (behindLine p l) [ none ↦ none | some q ↦ be
 
 -- the first k lines of a text are well formed, and the reader stands at p behind them
 pub record FormedTo (s : List ℕ) (k : ℕ) (p : Place) : Type 0 where
-  pub there : k < length (parts 10 s)
+  pub there : k ≤ length (linesOf s)
   pub formed : behindThese (heading headForms) (take k (linesOf s)) ≡ some p
 
--- Line k + 1 is the first that is not well formed: those before it are, and it may not come; or it is not there, or not ended, and the page is
--- not at its end before it
+-- Line k + 1 is the first that is not well formed: those before it are, and it may not come; or it is not there, or not ended, and the
+-- page is not at its end before it
 pub data FirstNot (s : List ℕ) (k : ℕ) : Type 0 where
   not-formed : (p : Place) → FormedTo s k p → k < length (linesOf s) → behindLine p (getD (linesOf s) k []) ≡ none → FirstNot s k
   not-there : (p : Place) → FormedTo s k p → k ≡ length (linesOf s) → (p ≡ ended → lastBytes (parts 10 s) ≡ [] → ⊥) → FirstNot s k
@@ -52,3 +54,9 @@ pub record WrittenBy (t : Tables) (s : List ℕ) : Type 0 where
   pub arrays : Arrays t
   pub lawful : Sound t
   pub bytes : page (plain t) ≡ s
+
+-- these bytes are read exactly where sound tables write them: what is read was written from the tables that it gives, and what sound
+-- tables write is read and gives those tables
+pub record Exactly (s : List ℕ) : Type 0 where
+  pub read : reading s .number ≡ 0 → (t : Tables) × WrittenBy t s × (reading s ≡ wasRead t)
+  pub written : (t : Tables) → WrittenBy t s → reading s ≡ wasRead t
