@@ -20,3 +20,4 @@ pub mod Assembling
 pub mod Narrowing
 pub mod OneReading
 pub mod LinesTold
+pub mod RecordsLaws

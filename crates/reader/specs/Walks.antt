@@ -59,6 +59,7 @@ pub record RecordRead (s : List ℕ) (at : ℕ) (r : Record) : Type 0 where
 -- where a part is read: the next begins at `at`, with line `line`
 pub record Onward (s : List ℕ) (at line : ℕ) : Type 0 where
   pub within : at ≤ length s
+  pub some : 1 ≤ line
   pub counted : line ≤ at + 1
 
 -- a state with other records

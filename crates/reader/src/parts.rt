@@ -1,12 +1,12 @@
 // The parts of a page, each from a place on: the head, the records, the chains, what is held, the numbers, the last line. Where a line is
 // not well formed, `bad` is that line's number; else it is 0, `at` is where the next part begins and `line` the number of its first line.
-ghost use Prim.Native.Nat.{_+_, _≤_};
+ghost use Prim.Native.Nat.{_≤_};
 ghost use lib.ListN.{length};
 ghost use Rattle.page.specs.Page.{keyOfChain};
 ghost use mathlib.Core.Path.{_≡_};
 ghost use Rattle.records.specs.Inner as records;
 ghost use Rattle.tracks.specs.Inner.{Fit};
-ghost use Rattle.reader.specs.Walks.{HeadRead, RecordRead, RecordsRead, ChainsRead, HeldRead, NumbersRead, EndRead};
+ghost use Rattle.reader.specs.Walks.{Onward, HeadRead, RecordRead, RecordsRead, ChainsRead, HeldRead, NumbersRead, EndRead};
 use super::lines;
 use super::lines::Figure;
 use super::lines::NameLine;
@@ -173,8 +173,7 @@ fn read_record(s: &[u8], at: usize) -> Record
 
 // So many records. One whose id is none of a record is passed over.
 pub(crate) fn read_records(s: &[u8], at: usize, line: u64, count: u64) -> Records
-    requires { ⌜ at ≤ length (now s) ⌝ }
-    requires { ⌜ line ≤ at + 1 ⌝ }
+    requires { ⌜ Onward (now s) at line ⌝ }
     ensures { λ r. ⌜ RecordsRead (now (s .entry)) at line count r ⌝ }
 {
     let unused = records::unused_record();
@@ -224,8 +223,7 @@ fn chain_key(state: u8) -> [u8; 6]
 
 // The chains of the states that are shown.
 pub(crate) fn read_chains(s: &[u8], at: usize, line: u64) -> Chains
-    requires { ⌜ at ≤ length (now s) ⌝ }
-    requires { ⌜ line ≤ at + 1 ⌝ }
+    requires { ⌜ Onward (now s) at line ⌝ }
     ensures { λ r. ⌜ ChainsRead (now (s .entry)) at line r ⌝ }
 {
     let states = keys::CHAINED;
@@ -266,8 +264,7 @@ pub(crate) fn read_chains(s: &[u8], at: usize, line: u64) -> Chains
 
 // The tracks that are held. A run that is not one of these tracks is passed over.
 pub(crate) fn read_held(s: &[u8], at: usize, line: u64, tracks: Tracks) -> Held
-    requires { ⌜ at ≤ length (now s) ⌝ }
-    requires { ⌜ line ≤ at + 1 ⌝ }
+    requires { ⌜ Onward (now s) at line ⌝ }
     requires { ⌜ Fit tracks ⌝ }
     ensures { λ r. ⌜ HeldRead (now (s .entry)) at line tracks r ⌝ }
 {
@@ -309,8 +306,7 @@ pub(crate) fn read_held(s: &[u8], at: usize, line: u64, tracks: Tracks) -> Held
 
 // The numbers that are allocated. One that is none of these numbers is passed over.
 pub(crate) fn read_numbers(s: &[u8], at: usize, line: u64, numbers: Numbers) -> Numbered
-    requires { ⌜ at ≤ length (now s) ⌝ }
-    requires { ⌜ line ≤ at + 1 ⌝ }
+    requires { ⌜ Onward (now s) at line ⌝ }
     requires { ⌜ records.Fit numbers ⌝ }
     ensures { λ r. ⌜ NumbersRead (now (s .entry)) at line numbers r ⌝ }
 {
@@ -352,8 +348,7 @@ pub(crate) fn read_numbers(s: &[u8], at: usize, line: u64, numbers: Numbers) -> 
 
 // The last line, and nothing behind it: 0, or the line that is not well formed.
 pub(crate) fn read_end(s: &[u8], at: usize, line: u64) -> u64
-    requires { ⌜ at ≤ length (now s) ⌝ }
-    requires { ⌜ line ≤ at + 1 ⌝ }
+    requires { ⌜ Onward (now s) at line ⌝ }
     ensures { λ r. ⌜ EndRead (now (s .entry)) at line r ⌝ }
 {
     let Place::At(o) = lines::word_at(s, at, &keys::END, &keys::PAGE) else {
