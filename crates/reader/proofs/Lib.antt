@@ -21,3 +21,4 @@ pub mod Narrowing
 pub mod OneReading
 pub mod LinesTold
 pub mod RecordsLaws
+pub mod ChainsLaws

@@ -2,7 +2,7 @@
 -- Assumes nothing.
 use Prim.Native.Nat.{ℕ, zero, suc, _+_, _<_, _≤_}
 use native.Mathlib.Omega.{arith}
-use mathlib.Core.Path.{_≡_, refl, sym, ap, ap₂, _∙_}
+use mathlib.Core.Path.{_≡_, refl, sym, ap, _∙_, subst}
 use mathlib.Core.Logic.{_≢_}
 use mathlib.Core.Bool.{Bool, true, false, cond}
 use mathlib.Core.List.{List, [], _∷_, _++_, append-assoc}
@@ -65,6 +65,13 @@ module _ (s key : List ℕ) (at e : ℕ) (p : PartEnd 10 s at e) (h : e < length
       keyless (slice at e s) (e + 1) (p .more h)
       (no-equals key (slice at e s) (getD s i 0 ∷ slice (i + 1) e s)
       (b .rest ∙ ap some (slice-next s i e (omega (arith, b .high)) (p .high))) (λ v f. n (ap (λ (x : List ℕ). getD x 0 0) f)))
+
+-- a key that is another one
+pub value-as : {s key key′ : List ℕ} {at from to : ℕ} → key ≡ key′ → ValueIs s at key from to → ValueIs s at key′ from to
+value-as {s} {at = at} {from} {to} e v = subst (λ (k : List ℕ). ValueIs s at k from to) e v
+
+pub no-line-as : {s key key′ : List ℕ} {at : ℕ} → key ≡ key′ → NoLine {A = List ℕ} some s at key → NoLine {A = List ℕ} some s at key′
+no-line-as {s} {at = at} e v = subst (λ (k : List ℕ). NoLine {A = List ℕ} some s at k) e v
 
 -- a value with and without a shape
 module _ {A : Type 0} (shape : List ℕ → Option A) {s key : List ℕ} {at : ℕ} where

@@ -1,3 +1,13 @@
+-- `chain_key` is the key of a state's chain.
+-- Assumes nothing.
+use Prim.Native.Nat.{ℕ, _+_}
+use native.Mathlib.Omega.{arith}
+use mathlib.Core.Path.{_≡_, sym, ap, _∙_}
+use mathlib.Core.List.{List, [], _∷_, _++_}
+use lib.ListN.{set}
+use Rattle.text.specs.Text.{text}
+use Rattle.text.proofs.Laws.{decimal-small}
+use Rattle.page.specs.Page.{chainKey}
 use borrow.Author.Needs.{needs}
 use Rattle.reader.proofs.parts.chain_key.Statement.{statement}
 use Rattle.reader.proofs.parts.chain_key.Tie as tie
@@ -27,7 +37,9 @@ array-write-key c = search needs
 
 -- src/parts.rt:215:1
 returns : tie.Need-returns
-returns c = ?
+returns c =
+    ap (λ (l : List ℕ). set l 5 (48 + c .before .before .before .before .args .state)) (c .before .put-bytes .ensures .buffer)
+    ∙ ap (λ (x : List ℕ). text chainKey ++ x) (sym (decimal-small (c .before .before .before .before .args .state) (omega arith)))
 
 pub chain-key-spec : {M : Type 1} → statement M
 chain-key-spec =
