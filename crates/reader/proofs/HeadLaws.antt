@@ -20,7 +20,7 @@ use Rattle.reader.specs.Walks.{ahead, HeadIs, HeadRead}
 use Rattle.reader.proofs.LineLaws.{scan-on, scan-off}
 
 -- whether a value is the word is what its shape says
-word-there : (w v : List ℕ) → alike v w ≡ there (wordIs w v)
+pub word-there : (w v : List ℕ) → alike v w ≡ there (wordIs w v)
 word-there w v = go (alike v w)
   where
     go : (b : Bool) → b ≡ there (cond b (some true) none)

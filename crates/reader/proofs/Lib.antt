@@ -22,3 +22,4 @@ pub mod OneReading
 pub mod LinesTold
 pub mod RecordsLaws
 pub mod ChainsLaws
+pub mod EndLaws

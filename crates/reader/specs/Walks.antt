@@ -5,7 +5,8 @@ use mathlib.Core.Path.{_≡_}
 use mathlib.Core.List.{List, [], _∷_, map}
 use lib.ListN.{length, drop, replicate}
 use Rattle.limits.specs.Limits.{mostPrograms}
-use Rattle.text.specs.Text.{parts}
+use mathlib.Core.Option.{some}
+use Rattle.text.specs.Text.{text, parts}
 use Rattle.records.specs.declared.Program.{Program}
 use Rattle.records.specs.declared.Numbers.{Numbers}
 use Rattle.records.specs.declared.Resource.{Resource}
@@ -16,7 +17,7 @@ use Rattle.tracks.specs.Tracks as tracks
 use Rattle.chains.specs.Links.{slots, layChain}
 use Rattle.rules.specs.Book.{Book, altered, withHolders, withResources}
 use Rattle.rules.specs.Keeper.{lists, State}
-use Rattle.page.specs.Page.{chained}
+use Rattle.page.specs.Page.{chained, numberKey}
 use Rattle.reader.specs.declared.parts.Head.{Head}
 use Rattle.reader.specs.declared.parts.Record.{Record}
 use Rattle.reader.specs.declared.parts.Records.{Records}
@@ -26,7 +27,7 @@ use Rattle.reader.specs.declared.parts.Numbered.{Numbered}
 use Rattle.reader.specs.Order.{heading, recording, recordsAhead, chainsAhead, holding, numbering, headForms, recordForms, chainForms}
 use Rattle.reader.specs.Order.{firstBad}
 use Rattle.reader.specs.Said.{onBook, withChain, withRecord, started, restSaid, chainsSaid, recordsSaid, said}
-use Rattle.reader.specs.Inner.{byte, narrowRecord, narrowResource}
+use Rattle.reader.specs.Inner.{byte, narrowRecord, narrowResource, NoLine}
 
 -- the lines from a place on
 abbrev pub ahead : List ℕ → ℕ → List (List ℕ)
@@ -132,6 +133,7 @@ pub record NumbersOf (s : List ℕ) (at : ℕ) (a : State lists) (r : Numbered) 
 pub record NumbersAre (s : List ℕ) (at line : ℕ) (t : Numbers) (r : Numbered) : Type 0 where
   pub onward : Onward s (r .at) (r .line)
   pub scan : firstBad numbering line (ahead s at) ≡ firstBad numbering (r .line) (ahead s (r .at))
+  pub next : NoLine {A = List ℕ} some s (r .at) (text numberKey)  -- the next line is no number
   pub of : (a : State lists) → Keeps t a → NumbersOf s at a r
 
 pub record NumbersRead (s : List ℕ) (at line : ℕ) (t : Numbers) (r : Numbered) : Type 0 where

@@ -1,8 +1,12 @@
 // The parts of a page, each from a place on: the head, the records, the chains, what is held, the numbers, the last line. Where a line is
 // not well formed, `bad` is that line's number; else it is 0, `at` is where the next part begins and `line` the number of its first line.
-ghost use Prim.Native.Nat.{_≤_};
+ghost use Prim.Native.Nat.{ℕ, _≤_};
 ghost use lib.ListN.{length};
-ghost use Rattle.page.specs.Page.{keyOfChain};
+ghost use mathlib.Core.List.{List};
+ghost use mathlib.Core.Option.{some};
+ghost use Rattle.text.specs.Text.{text};
+ghost use Rattle.page.specs.Page.{keyOfChain, numberKey};
+ghost use Rattle.reader.specs.Inner.{NoLine};
 ghost use mathlib.Core.Path.{_≡_};
 ghost use Rattle.records.specs.Inner as records;
 ghost use Rattle.tracks.specs.Inner.{Fit};
@@ -349,6 +353,7 @@ pub(crate) fn read_numbers(s: &[u8], at: usize, line: u64, numbers: Numbers) -> 
 // The last line, and nothing behind it: 0, or the line that is not well formed.
 pub(crate) fn read_end(s: &[u8], at: usize, line: u64) -> u64
     requires { ⌜ Onward (now s) at line ⌝ }
+    requires { ⌜ NoLine {A = List ℕ} some (now s) at (text numberKey) ⌝ }
     ensures { λ r. ⌜ EndRead (now (s .entry)) at line r ⌝ }
 {
     let Place::At(o) = lines::word_at(s, at, &keys::END, &keys::PAGE) else {

@@ -1,3 +1,9 @@
+-- `read_end` reads the last line, behind which nothing may stand.
+-- Assumes nothing.
+use native.Mathlib.Omega.{arith}
+use mathlib.Core.Path.{subst}
+use Rattle.reader.specs.Inner.{WordAt}
+use Rattle.reader.proofs.EndLaws.{no-end, all-over, more-behind}
 use borrow.Author.Needs.{needs}
 use Rattle.reader.proofs.parts.read_end.Statement.{statement}
 use Rattle.reader.proofs.parts.read_end.Tie as tie
@@ -27,7 +33,8 @@ enum-told c = search needs
 
 -- src/parts.rt:360:9
 returns : tie.Need-returns
-returns c = ?
+returns c =
+    no-end _ _ _ (c .before .before .before .before .before .before .pre .0 .some) (c .before .before .before .before .before .before .pre .1) (subst (WordAt _ _ _ _) (c .enum-told .given .1) (c .before .before .word-at .ensures))
 
 -- src/parts.rt:363:16
 add-result : tie.Need-add-result
@@ -35,11 +42,13 @@ add-result c = search needs
 
 -- src/parts.rt:363:9
 returns-2 : tie.Need-returns-2
-returns-2 c = ?
+returns-2 c =
+    more-behind _ _ _ _ (subst (WordAt _ _ _ _) (c .before .before .o .given .1) (c .before .before .before .before .word-at .ensures)) (omega arith)
 
 -- src/parts.rt:354:1
 returns-3 : tie.Need-returns-3
-returns-3 c = ?
+returns-3 c =
+    all-over _ _ _ _ (subst (WordAt _ _ _ _) (c .before .before .o .given .1) (c .before .before .before .before .word-at .ensures)) (omega arith)
 
 pub read-end-spec : {M : Type 1} → statement M
 read-end-spec =
