@@ -23,3 +23,4 @@ pub mod LinesTold
 pub mod RecordsLaws
 pub mod ChainsLaws
 pub mod EndLaws
+pub mod HeldLaws

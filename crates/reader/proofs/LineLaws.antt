@@ -7,7 +7,7 @@ use mathlib.Core.Logic.{_≢_}
 use mathlib.Core.Bool.{Bool, true, false, cond}
 use mathlib.Core.List.{List, [], _∷_, _++_, append-assoc}
 use mathlib.Core.Option.{Option, none, some, Option·none-ne-some, Option·some-injective}
-use lib.ListN.{length, getD, drop}
+use lib.ListN.{length, getD, drop, drop-of-length-le}
 use lib.Seq.{slice}
 use Rattle.text.specs.Text.{behind, parts}
 use Rattle.text.specs.Inner.{PartEnd, BehindAt}
@@ -65,6 +65,11 @@ module _ (s key : List ℕ) (at e : ℕ) (p : PartEnd 10 s at e) (h : e < length
       keyless (slice at e s) (e + 1) (p .more h)
       (no-equals key (slice at e s) (getD s i 0 ∷ slice (i + 1) e s)
       (b .rest ∙ ap some (slice-next s i e (omega (arith, b .high)) (p .high))) (λ v f. n (ap (λ (x : List ℕ). getD x 0 0) f)))
+
+-- behind the last byte there is none
+pub past-end : (s key : List ℕ) (at : ℕ) → length s ≤ at → NoLine {A = List ℕ} some s at key
+unfolding parts
+past-end s key at h = unended [] (ap (parts 10) (drop-of-length-le s h))
 
 -- a key that is another one
 pub value-as : {s key key′ : List ℕ} {at from to : ℕ} → key ≡ key′ → ValueIs s at key from to → ValueIs s at key′ from to

@@ -1,0 +1,218 @@
+-- The tracks that are held, line by line: what is read so far.
+-- Assumes nothing.
+use Prim.Native.Nat.{ℕ, zero, suc, _+_, _-_, _≤_, _<_}
+use native.Mathlib.Omega.{arith}
+use mathlib.Core.Path.{_≡_, refl, sym, ap, ap₂, _∙_, subst}
+use mathlib.Core.Bool.{Bool, true, false, cond, _&&_}
+use mathlib.Core.List.{List, [], _∷_, _++_, map}
+use mathlib.Core.Option.{Option, none, some, Option·none-ne-some, Option·some-injective}
+use lib.ListN.{length, set, drop, length-map, drop-of-length-le}
+use lib.Seq.{slice}
+use lib.Dec.{leb, ltb}
+use borrow.Author.Tests.{le-leb, lt-leb, lt-ltb, le-ltb}
+use Rattle.lists.proofs.Tests.{and}
+use Rattle.text.specs.Text.{text, behind, parts}
+use Rattle.tracks.specs.declared.Tracks.{Tracks}
+use Rattle.tracks.specs.declared.held.Run.{Run}
+use Rattle.tracks.specs.Tracks.{holders, tableOf, filled}
+use Rattle.tracks.specs.Inner.{Fit}
+use Rattle.tracks.proofs.Fits.{holders-of, fit}
+use Rattle.tracks.proofs.Runs.{filled-long}
+use Rattle.rules.specs.Book.{withHolders}
+use Rattle.rules.specs.Keeper.{lists, State}
+use Rattle.page.specs.Page.{heldKey, numberKey}
+use Rattle.reader.specs.declared.parts.Held.{Held}
+use Rattle.reader.specs.Shapes.{there, into, runIn}
+use Rattle.reader.specs.Order.{Place, holding, numbering, ended, heldForm, numberForm, endForm, Choice, choice, valueBehind, afterOne}
+use Rattle.reader.specs.Order.{behindLine, firstBad}
+use Rattle.reader.specs.Said.{onBook, withRun, withHeld, withNumbered, withLine, restSaid}
+use Rattle.reader.specs.Inner.{byte, narrowRun, LineIs, NoLine, unended, keyless, shapeless, ValueIs}
+use Rattle.reader.specs.Walks.{ahead, Onward, Holds, HeldOf, HeldIs, HeldRead}
+use Rattle.reader.proofs.ScanLaws.{value-behind}
+use Rattle.reader.proofs.LineLaws.{line-shaped, some-line, scan-line, scan-stop, pass-key, pass-shape, scan-on}
+
+-- what is held so far in a state
+pub record HeldSoFar (s : List ℕ) (at o : ℕ) (table : Tracks) (a : State lists) : Type 0 where
+  pub told : List ℕ
+  pub held : Holds table (onBook (withHolders told) a)
+  pub says : restSaid a (ahead s at) ≡ restSaid (onBook (withHolders told) a) (ahead s o)
+
+pub record SoFar (s : List ℕ) (at line : ℕ) (tracks table : Tracks) (o n : ℕ) : Type 0 where
+  pub onward : Onward s o n
+  pub fitting : Fit table
+  pub scan : firstBad holding line (ahead s at) ≡ firstBad holding n (ahead s o)
+  pub of : (a : State lists) → Holds tracks a → HeldSoFar s at o table a
+
+pub none-yet : (s : List ℕ) (at line : ℕ) (t : Tracks) → Onward s at line → Fit t → SoFar s at line t t at line
+none-yet s at line t h f =
+    record { onward = h; fitting = f; scan = refl; of = λ a k. record { told = a .book .holders; held = k; says = refl } }
+
+-- a test that fails with its second part
+fails : (a b : Bool) → b ≡ false → (a && b) ≡ false
+fails true b e = e
+fails false b e = refl
+
+-- the table with a run put into it, where it has these tracks
+abbrev pub within : Tracks → ℕ → ℕ → Bool
+within t i j = leb i j && ltb j (t .count)
+
+abbrev pub putRun : Tracks → ℕ → ℕ → ℕ → Tracks
+putRun t i j h = cond (within t i j) (tableOf (t .count) (t .system) (filled i (suc j - i) h (holders t))) t
+
+pub put-in : (t : Tracks) (i j h n : ℕ) → i ≤ j → j < t .count → n ≡ suc j - i
+    → tableOf (t .count) (t .system) (filled i n h (holders t)) ≡ putRun t i j h
+put-in t i j h n l u e =
+    ap (λ (k : ℕ). tableOf (t .count) (t .system) (filled i k h (holders t))) e
+    ∙ sym (ap (λ (b : Bool). cond b (tableOf (t .count) (t .system) (filled i (suc j - i) h (holders t))) t) (and (le-leb i j l) (lt-ltb j (t .count) u)))
+
+pub put-over : (t : Tracks) (i j h : ℕ) → t .count ≤ j → t ≡ putRun t i j h
+put-over t i j h u =
+    sym (ap (λ (b : Bool). cond b (tableOf (t .count) (t .system) (filled i (suc j - i) h (holders t))) t) (fails (leb i j) (ltb j (t .count)) (le-ltb j (t .count) u)))
+
+pub put-back : (t : Tracks) (i j h : ℕ) → j < i → t ≡ putRun t i j h
+put-back t i j h u =
+    sym (ap (λ (b : Bool). cond (b && ltb j (t .count)) (tableOf (t .count) (t .system) (filled i (suc j - i) h (holders t))) t) (lt-leb i j u))
+
+-- figures in a byte
+map-set : (xs : List ℕ) (i x : ℕ) → map byte (set xs i x) ≡ set (map byte xs) i (byte x)
+map-set [] i x = refl
+map-set (y ∷ ys) zero x = refl
+map-set (y ∷ ys) (suc i) x = ap (λ (zs : List ℕ). byte y ∷ zs) (map-set ys i x)
+
+map-filled : (i n h : ℕ) (xs : List ℕ) → map byte (filled i n h xs) ≡ filled i n (byte h) (map byte xs)
+map-filled i zero h xs = refl
+map-filled i (suc n) h xs =
+    map-set (filled i n h xs) (i + n) h ∙ ap (λ (zs : List ℕ). set zs (i + n) (byte h)) (map-filled i n h xs)
+
+-- a run put into a table and into a state
+module _ (t : Tracks) (a : State lists) (k : Holds t a) (g : Run) where
+  count-is : t .count ≡ a .book .tracks
+  count-is = ap (λ (x : Tracks). x .count) (k .table)
+
+  holders-are : holders t ≡ map byte (a .book .holders)
+  holders-are =
+      ap holders (k .table)
+      ∙ holders-of (a .book .tracks) (a .book .system) (map byte (a .book .holders)) (length-map (a .book .holders) byte ∙ k .long)
+
+  abbrev toldBy : Bool → List ℕ
+  toldBy b = cond b (filled (g .first) (suc (g .last) - g .first) (g .holder) (a .book .holders)) (a .book .holders)
+
+  pub newly : List ℕ
+  newly = toldBy (leb (g .first) (g .last) && ltb (g .last) (a .book .tracks))
+
+  pub run-says : withRun g a ≡ onBook (withHolders newly) a
+  unfolding newly
+  run-says = go (leb (g .first) (g .last) && ltb (g .last) (a .book .tracks))
+    where
+      go : (b : Bool)
+          → record { book = cond b (withHolders (filled (g .first) (suc (g .last) - g .first) (g .holder) (a .book .holders)) (a .book)) (a .book); kept = a .kept }
+          ≡ onBook (withHolders (toldBy b)) a
+      go true = refl
+      go false = refl
+
+  pub run-holds : Holds (putRun t (g .first) (g .last) (byte (g .holder))) (onBook (withHolders newly) a)
+  unfolding newly
+  run-holds =
+      subst (λ (T : ℕ). Holds (cond (leb (g .first) (g .last) && ltb (g .last) T) full t) (onBook (withHolders newly) a)) (sym count-is)
+      (go (leb (g .first) (g .last) && ltb (g .last) (a .book .tracks)))
+    where
+      full : Tracks
+      full = tableOf (t .count) (t .system) (filled (g .first) (suc (g .last) - g .first) (byte (g .holder)) (holders t))
+      go : (b : Bool) → Holds (cond b full t) (onBook (withHolders (toldBy b)) a)
+      go false = k
+      go true =
+          record {
+            table = ap (λ (x : Tracks). tableOf (x .count) (x .system) (filled (g .first) (suc (g .last) - g .first) (byte (g .holder)) (holders t))) (k .table)
+                ∙ ap (λ (x : List ℕ). tableOf (a .book .tracks) (a .book .system) (filled (g .first) (suc (g .last) - g .first) (byte (g .holder)) x)) holders-are
+                ∙ ap (tableOf (a .book .tracks) (a .book .system)) (sym (map-filled (g .first) (suc (g .last) - g .first) (g .holder) (a .book .holders)));
+            long = filled-long (g .first) (suc (g .last) - g .first) (g .holder) (a .book .holders) ∙ k .long;
+          }
+
+-- a run as the code reads it
+pub run-found : (o : Option Run) (i j h : ℕ) → some (record { first = i; last = j; holder = h }) ≡ into narrowRun o
+    → (g : Run) × (o ≡ some g) × (narrowRun g ≡ record { first = i; last = j; holder = h })
+run-found none i j h e = absurd (Option·none-ne-some _ (sym e))
+run-found (some g) i j h e = (g, refl, Option·some-injective _ _ (sym e))
+
+pub no-run : (o : Option Run) → none ≡ into narrowRun o → o ≡ none
+no-run none e = refl
+no-run (some g) e = absurd (Option·none-ne-some _ e)
+
+-- a line of a run
+held-says : (b : State lists) (v : List ℕ) (g : Run) (ls : List (List ℕ)) → runIn v ≡ some g
+    → restSaid b ((text heldKey ++ (61 ∷ v)) ∷ ls) ≡ restSaid (withRun g b) ls
+unfolding restSaid withLine
+held-says b v g ls e =
+    ap (λ (o : Option (List ℕ)). restSaid (elim o [
+      | some w ↦ withHeld w b
+      | none ↦ elim (valueBehind (text numberKey) (text heldKey ++ (61 ∷ v))) [ some w ↦ withNumbered w b | none ↦ b ]
+    ]) ls) (value-behind (text heldKey) v)
+    ∙ ap (λ (o : Option Run). restSaid (elim o [ none ↦ b | some x ↦ withRun x b ]) ls) e
+
+fits-put : (t : Tracks) (i j h : ℕ) → Fit t → Fit (putRun t i j h)
+fits-put t i j h f = go (within t i j)
+  where
+    go : (b : Bool) → Fit (cond b (tableOf (t .count) (t .system) (filled i (suc j - i) h (holders t))) t)
+    go true = fit (t .count) (t .system) (filled i (suc j - i) h (holders t)) (filled-long i (suc j - i) h (holders t) ∙ f .long) (f .most)
+    go false = f
+
+-- a line of another kind: what may come is the same as at the numbers
+to-numbers : (s : List ℕ) (o n : ℕ) → NoLine {A = List ℕ} some s o (text heldKey)
+    → firstBad holding n (ahead s o) ≡ firstBad numbering n (ahead s o)
+unfolding firstBad behindLine
+to-numbers s o n (unended l e) = ap (firstBad holding n) e ∙ sym (ap (firstBad numbering n) e)
+to-numbers s o n (keyless l next e k) =
+    let (m, ls, f) = some-line (drop next s) in
+    let g : ahead s o ≡ l ∷ m ∷ ls = e ∙ ap (λ (x : List (List ℕ)). l ∷ x) f in
+    ap (firstBad holding n) g
+    ∙ ap (λ (x : Option Place). elim x [ none ↦ n | some q ↦ firstBad q (suc n) (m ∷ ls) ])
+    (pass-key (choice heldForm holding) (choice numberForm numbering ∷ choice endForm ended ∷ []) l k)
+    ∙ sym (ap (firstBad numbering n) g)
+to-numbers s o n (shapeless v next e k) = absurd (Option·none-ne-some v (sym k))
+
+module _ {s : List ℕ} {at line : ℕ} {tracks table : Tracks} {o n : ℕ} (p : SoFar s at line tracks table o n) where
+  -- no more of them
+  pub all-read : NoLine {A = List ℕ} some s o (text heldKey) → HeldRead s at line tracks (record { bad = 0; at = o; line = n; tracks = table })
+  all-read l =
+      record {
+        read = λ e. record {
+          onward = p .onward;
+          scan = p .scan ∙ to-numbers s o n l;
+          of = λ a k. let q = p .of a k in record { told = q .told; held = q .held; says = q .says };
+        };
+        stops = λ h. absurd (omega arith);
+      }
+
+  module _ (from to : ℕ) (v : ValueIs s o (text heldKey) from to) where
+    -- one that is no run
+    pub bad-run : runIn (slice from to s) ≡ none → (x : Held) → x .bad ≡ n → HeldRead s at line tracks x
+    unfolding behindLine valueBehind behind
+    bad-run e x f =
+        record {
+          read = λ z. absurd (omega (arith, f, p .onward .some));
+          stops = λ h. p .scan ∙ ap (firstBad holding n) (v .cut)
+              ∙ scan-stop holding (text heldKey ++ (61 ∷ slice from to s)) (drop (to + 1) s) n
+              (pass-shape (choice heldForm holding) (choice numberForm numbering ∷ choice endForm ended ∷ []) (slice from to s) (ap there e))
+              ∙ sym f;
+        }
+
+    -- one more
+    pub one-more : (g : Run) → runIn (slice from to s) ≡ some g → (table′ : Tracks) → table′ ≡ putRun table (g .first) (g .last) (byte (g .holder))
+        → SoFar s at line tracks table′ (to + 1) (n + 1)
+    one-more g e table′ f =
+        subst (λ (t : Tracks). SoFar s at line tracks t (to + 1) (n + 1)) (sym f)
+        (record {
+          onward = record { within = omega (arith, v .high); some = omega arith; counted = omega (arith, v .beyond, p .onward .counted) };
+          fitting = fits-put table (g .first) (g .last) (byte (g .holder)) (p .fitting);
+          scan = p .scan ∙ scan-on runIn s o holding (choice heldForm holding) _ refl (line-shaped runIn v e) refl n
+              ∙ ap (λ (x : ℕ). firstBad holding x (ahead s (to + 1))) (let h : suc n ≡ n + 1 = omega arith in h);
+          of = λ a k.
+              let q = p .of a k in
+              let b : State lists = onBook (withHolders (q .told)) a in
+              record {
+                told = newly table b (q .held) g;
+                held = run-holds table b (q .held) g;
+                says = q .says ∙ ap (restSaid b) (v .cut) ∙ held-says b (slice from to s) g (ahead s (to + 1)) e
+                    ∙ ap (λ (x : State lists). restSaid x (ahead s (to + 1))) (run-says table b (q .held) g);
+              };
+        })
