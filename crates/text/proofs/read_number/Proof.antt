@@ -42,7 +42,7 @@ returns-5 c =
     let a = s .args in
     let e = slice-head (a .s .now) (a .from) (a .to) (omega arith) (omega arith) in
     c .read-digits2 .ensures
-    ∙ sym (numberOf-plain (s .args .most) (Part s) (omega (arith, long s)) (omega (arith, long s)) (λ l q. c .before .if4 .left (sym e ∙ q)))
+    ∙ sym (numberOf-plain (a .most) (Part s) (omega (arith, long s)) (omega (arith, long s)) (λ l q. c .before .if4 .left (sym e ∙ q)))
 
 pub read-number-spec : {M : Type 1} → statement M
 read-number-spec =
