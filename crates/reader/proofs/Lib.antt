@@ -24,3 +24,4 @@ pub mod RecordsLaws
 pub mod ChainsLaws
 pub mod EndLaws
 pub mod HeldLaws
+pub mod NumberLaws

@@ -76,7 +76,7 @@ loop-less c = ?
 loop-again : tie.Need-loop-again Inv-loop μ-loop
 loop-again c = ?
 
--- src/parts.rt:311:1
+-- src/parts.rt:312:1
 returns-3 : tie.Need-returns-3 Inv-loop μ-loop
 returns-3 c = ?
 

@@ -1,0 +1,186 @@
+-- The numbers that are allocated, line by line: what is read so far.
+-- Assumes nothing.
+use Prim.Native.Nat.{ℕ, zero, suc, _+_, _-_, _≤_, _<_}
+use native.Mathlib.Omega.{arith}
+use mathlib.Core.Path.{_≡_, refl, sym, ap, _∙_, subst}
+use mathlib.Core.Bool.{Bool, true, false, cond}
+use mathlib.Core.List.{List, [], _∷_, _++_, map}
+use mathlib.Core.Option.{Option, none, some, Option·none-ne-some, Option·some-injective}
+use lib.ListN.{length, set, drop, length-map, length-set}
+use lib.Seq.{slice}
+use borrow.Author.Tests.{le-leb}
+use Rattle.lists.specs.Lists.{upTo}
+use Rattle.lists.proofs.Tests.{upTo-is}
+use Rattle.text.specs.Text.{text, behind, parts}
+use Rattle.text.proofs.Read.{upTo-under, upTo-over}
+use Rattle.records.specs.declared.Numbers.{Numbers}
+use Rattle.records.specs.declared.Resource.{Resource}
+use Rattle.records.specs.Numbers.{resources, tableOf, withNumber}
+use Rattle.records.specs.Inner.{Fit}
+use Rattle.records.proofs.Table.{resources-made, fit-with}
+use Rattle.rules.specs.Book.{withResources}
+use Rattle.rules.specs.Keeper.{lists, State}
+use Rattle.page.specs.Page.{heldKey, numberKey}
+use Rattle.reader.specs.declared.parts.Numbered.{Numbered}
+use Rattle.reader.specs.Shapes as shapes
+use Rattle.reader.specs.Shapes.{there, into, numbered}
+use Rattle.reader.specs.Order.{Place, numbering, ended, numberForm, endForm, choice, valueBehind, afterOne}
+use Rattle.reader.specs.Order.{behindLine, firstBad}
+use Rattle.reader.specs.Said.{onBook, withResource, withHeld, withNumbered, withLine, restSaid}
+use Rattle.reader.specs.Inner.{byte, narrowResource, narrowNumbered, NoLine, ValueIs}
+use Rattle.reader.specs.Walks.{ahead, Onward, Keeps, NumbersOf, NumbersAre, NumbersRead}
+use Rattle.reader.proofs.ScanLaws.{value-behind}
+use Rattle.reader.proofs.LineLaws.{line-shaped, scan-stop, pass-shape, scan-on}
+
+-- what is allocated so far in a state
+pub record SoFarOf (s : List ℕ) (at o : ℕ) (table : Numbers) (a : State lists) : Type 0 where
+  pub told : List Resource
+  pub held : Keeps table (onBook (withResources told) a)
+  pub says : restSaid a (ahead s at) ≡ restSaid (onBook (withResources told) a) (ahead s o)
+
+pub record SoFar (s : List ℕ) (at line : ℕ) (numbers table : Numbers) (o n : ℕ) : Type 0 where
+  pub onward : Onward s o n
+  pub fitting : Fit table
+  pub scan : firstBad numbering line (ahead s at) ≡ firstBad numbering n (ahead s o)
+  pub of : (a : State lists) → Keeps numbers a → SoFarOf s at o table a
+
+pub none-yet : (s : List ℕ) (at line : ℕ) (t : Numbers) → Onward s at line → Fit t → SoFar s at line t t at line
+none-yet s at line t h f =
+    record { onward = h; fitting = f; scan = refl; of = λ a k. record { told = a .book .resources; held = k; says = refl } }
+
+-- the table with a number put into it, where it is one of these
+abbrev pub putNumber : Numbers → ℕ → ℕ → ℕ → Numbers
+putNumber t r o l = cond (upTo 1 (t .count) r) (tableOf (t .count) (withNumber r o l (resources t))) t
+
+pub put-in : (t : Numbers) (r o l : ℕ) → 1 ≤ r → r ≤ t .count → tableOf (t .count) (withNumber r o l (resources t)) ≡ putNumber t r o l
+put-in t r o l h k =
+    sym (ap (λ (b : Bool). cond b (tableOf (t .count) (withNumber r o l (resources t))) t) (upTo-is 1 (t .count) r h k))
+
+pub put-over : (t : Numbers) (r o l : ℕ) → t .count < r → t ≡ putNumber t r o l
+put-over t r o l h =
+    sym (ap (λ (b : Bool). cond b (tableOf (t .count) (withNumber r o l (resources t))) t) (upTo-over 1 (t .count) r h))
+
+pub put-under : (t : Numbers) (r o l : ℕ) → r < 1 → t ≡ putNumber t r o l
+put-under t r o l h =
+    sym (ap (λ (b : Bool). cond b (tableOf (t .count) (withNumber r o l (resources t))) t) (upTo-under 1 (t .count) r h))
+
+-- figures in a byte
+map-set : (xs : List Resource) (i : ℕ) (x : Resource) → map narrowResource (set xs i x) ≡ set (map narrowResource xs) i (narrowResource x)
+map-set [] i x = refl
+map-set (y ∷ ys) zero x = refl
+map-set (y ∷ ys) (suc i) x = ap (λ (zs : List Resource). narrowResource y ∷ zs) (map-set ys i x)
+
+-- a number put into a table and into a state
+module _ (t : Numbers) (a : State lists) (k : Keeps t a) (x : shapes.Numbered) where
+  count-is : t .count ≡ a .book .numbers
+  count-is = ap (λ (y : Numbers). y .count) (k .table)
+
+  resources-are : resources t ≡ map narrowResource (a .book .resources)
+  resources-are =
+      ap resources (k .table)
+      ∙ resources-made (a .book .numbers) (map narrowResource (a .book .resources)) (length-map (a .book .resources) narrowResource ∙ k .long)
+
+  abbrev toldBy : Bool → List Resource
+  toldBy b = cond b (withNumber (x .number) (x .resource .owner) (x .resource .lock) (a .book .resources)) (a .book .resources)
+
+  pub newly : List Resource
+  newly = toldBy (upTo 1 (a .book .numbers) (x .number))
+
+  pub number-says : withResource x a ≡ onBook (withResources newly) a
+  unfolding newly
+  number-says = go (upTo 1 (a .book .numbers) (x .number))
+    where
+      go : (b : Bool)
+          → record { book = cond b (withResources (withNumber (x .number) (x .resource .owner) (x .resource .lock) (a .book .resources)) (a .book)) (a .book); kept = a .kept }
+          ≡ onBook (withResources (toldBy b)) a
+      go true = refl
+      go false = refl
+
+  pub number-keeps : Keeps (putNumber t (x .number) (byte (x .resource .owner)) (byte (x .resource .lock))) (onBook (withResources newly) a)
+  unfolding newly
+  number-keeps =
+      subst (λ (R : ℕ). Keeps (cond (upTo 1 R (x .number)) full t) (onBook (withResources newly) a)) (sym count-is)
+      (go (upTo 1 (a .book .numbers) (x .number)))
+    where
+      full : Numbers
+      full = tableOf (t .count) (withNumber (x .number) (byte (x .resource .owner)) (byte (x .resource .lock)) (resources t))
+      go : (b : Bool) → Keeps (cond b full t) (onBook (withResources (toldBy b)) a)
+      go false = k
+      go true =
+          record {
+            table = ap (λ (y : Numbers). tableOf (y .count) (withNumber (x .number) (byte (x .resource .owner)) (byte (x .resource .lock)) (resources t))) (k .table)
+                ∙ ap (λ (y : List Resource). tableOf (a .book .numbers) (withNumber (x .number) (byte (x .resource .owner)) (byte (x .resource .lock)) y)) resources-are
+                ∙ ap (tableOf (a .book .numbers)) (sym (map-set (a .book .resources) (x .number - 1) (x .resource)));
+            long = length-set (a .book .resources) (x .number - 1) (x .resource) ∙ k .long;
+          }
+
+-- a number as the code reads it
+pub number-found : (o : Option shapes.Numbered) (r w l : ℕ) → some (record { number = r; resource = record { owner = w; lock = l } }) ≡ into narrowNumbered o
+    → (x : shapes.Numbered) × (o ≡ some x) × (narrowNumbered x ≡ record { number = r; resource = record { owner = w; lock = l } })
+number-found none r w l e = absurd (Option·none-ne-some _ (sym e))
+number-found (some x) r w l e = (x, refl, Option·some-injective _ _ (sym e))
+
+pub no-number : (o : Option shapes.Numbered) → none ≡ into narrowNumbered o → o ≡ none
+no-number none e = refl
+no-number (some x) e = absurd (Option·none-ne-some _ e)
+
+-- a line of a number
+line-says : (b : State lists) (v : List ℕ) (x : shapes.Numbered) (ls : List (List ℕ)) → numbered v ≡ some x
+    → restSaid b ((text numberKey ++ (61 ∷ v)) ∷ ls) ≡ restSaid (withResource x b) ls
+unfolding restSaid withLine valueBehind behind
+line-says b v x ls e = ap (λ (o : Option shapes.Numbered). restSaid (elim o [ none ↦ b | some y ↦ withResource y b ]) ls) e
+
+fits-put : (t : Numbers) (r o l : ℕ) → Fit t → Fit (putNumber t r o l)
+fits-put t r o l f = go (upTo 1 (t .count) r)
+  where
+    go : (b : Bool) → Fit (cond b (tableOf (t .count) (withNumber r o l (resources t))) t)
+    go true = fit-with t r o l f
+    go false = f
+
+module _ {s : List ℕ} {at line : ℕ} {numbers table : Numbers} {o n : ℕ} (p : SoFar s at line numbers table o n) where
+  -- no more of them
+  pub all-read : NoLine {A = List ℕ} some s o (text numberKey) → NumbersRead s at line numbers (record { bad = 0; at = o; line = n; numbers = table })
+  all-read l =
+      record {
+        read = λ e. record {
+          onward = p .onward;
+          scan = p .scan;
+          next = l;
+          of = λ a k. let q = p .of a k in record { told = q .told; held = q .held; says = q .says };
+        };
+        stops = λ h. absurd (omega arith);
+      }
+
+  module _ (from to : ℕ) (v : ValueIs s o (text numberKey) from to) where
+    -- one that is no number
+    pub bad-number : numbered (slice from to s) ≡ none → (x : Numbered) → x .bad ≡ n → NumbersRead s at line numbers x
+    unfolding behindLine valueBehind behind
+    bad-number e x f =
+        record {
+          read = λ z. absurd (omega (arith, f, p .onward .some));
+          stops = λ h. p .scan ∙ ap (firstBad numbering n) (v .cut)
+              ∙ scan-stop numbering (text numberKey ++ (61 ∷ slice from to s)) (drop (to + 1) s) n
+              (pass-shape (choice numberForm numbering) (choice endForm ended ∷ []) (slice from to s) (ap there e))
+              ∙ sym f;
+        }
+
+    -- one more
+    pub one-more : (x : shapes.Numbered) → numbered (slice from to s) ≡ some x → (table′ : Numbers)
+        → table′ ≡ putNumber table (x .number) (byte (x .resource .owner)) (byte (x .resource .lock)) → SoFar s at line numbers table′ (to + 1) (n + 1)
+    one-more x e table′ f =
+        subst (λ (t : Numbers). SoFar s at line numbers t (to + 1) (n + 1)) (sym f)
+        (record {
+          onward = record { within = omega (arith, v .high); some = omega arith; counted = omega (arith, v .beyond, p .onward .counted) };
+          fitting = fits-put table (x .number) (byte (x .resource .owner)) (byte (x .resource .lock)) (p .fitting);
+          scan = p .scan ∙ scan-on numbered s o numbering (choice numberForm numbering) _ refl (line-shaped numbered v e) refl n
+              ∙ ap (λ (y : ℕ). firstBad numbering y (ahead s (to + 1))) (let h : suc n ≡ n + 1 = omega arith in h);
+          of = λ a k.
+              let q = p .of a k in
+              let b : State lists = onBook (withResources (q .told)) a in
+              record {
+                told = newly table b (q .held) x;
+                held = number-keeps table b (q .held) x;
+                says = q .says ∙ ap (restSaid b) (v .cut) ∙ line-says b (slice from to s) x (ahead s (to + 1)) e
+                    ∙ ap (λ (y : State lists). restSaid y (ahead s (to + 1))) (number-says table b (q .held) x);
+              };
+        })
