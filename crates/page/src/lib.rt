@@ -17,8 +17,8 @@ use rules::Answer;
 use tables::Outcome;
 use tables::Tables;
 
-// Puts the page at the front.
-fn put_page(buf: &mut [u8], tables: Tables) -> usize
+// Puts the page at the front: the tables are sound, and the buffer has room for any page.
+pub fn put_page(buf: &mut [u8], tables: Tables) -> usize
     requires { ⌜ CanPage tables (now buf) ⌝ }
     ensures { λ r. ⌜ Wrote (now (buf .entry)) 0 (page (plain tables)) (now (buf .exit)) r ⌝ }
 {

@@ -25,3 +25,4 @@ pub mod ChainsLaws
 pub mod EndLaws
 pub mod HeldLaws
 pub mod NumberLaws
+pub mod JudgeLaws

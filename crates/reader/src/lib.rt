@@ -38,13 +38,11 @@ fn judge(s: &[u8], at: usize, tables: Tables) -> Outcome
     requires { ⌜ at ≤ length (now s) ⌝ }
     ensures { λ r. ⌜ told r ≡ judged (drop at (now (s .entry))) 0 tables ⌝ }
 {
-    let mut space = [0u8; PAGE_ROOM];
-    let w = page::write_page(tables, &mut space);
-    let answer = w.answer;
-    let Answer::Done(length) = answer else {
+    if !tables.is_sound() {
         return not_read(0);
-    };
-    let n = length as usize;
+    }
+    let mut space = [0u8; PAGE_ROOM];
+    let n = page::put_page(&mut space, tables);
     if !text::is_word(s, at, s.len(), &space[..n]) {
         return not_read(0);
     }
