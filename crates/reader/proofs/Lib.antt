@@ -26,3 +26,4 @@ pub mod EndLaws
 pub mod HeldLaws
 pub mod NumberLaws
 pub mod JudgeLaws
+pub mod WholePage
