@@ -37,7 +37,7 @@ startedBy rs clock T S R n = recordsSaid (otherwise 0 n) (started (otherwise 0 c
 
 six : (v₁ v₂ v₃ v₄ v₅ v₆ : List ℕ) (rs : List (List ℕ))
     → said ((text pageKey ++ (61 ∷ v₁)) ∷ (text clockKey ++ (61 ∷ v₂)) ∷ (text tracksKey ++ (61 ∷ v₃)) ∷ (text systemKey ++ (61 ∷ v₄))
-        ∷ (text numbersKey ++ (61 ∷ v₅)) ∷ (text programsKey ++ (61 ∷ v₆)) ∷ rs)
+    ∷ (text numbersKey ++ (61 ∷ v₅)) ∷ (text programsKey ++ (61 ∷ v₆)) ∷ rs)
     ≡ startedBy rs (figure v₂) (figure v₃) (figure v₄) (figure v₅) (figure v₆)
 unfolding said valueOf valueBehind behind
 six v₁ v₂ v₃ v₄ v₅ v₆ rs = refl

@@ -118,6 +118,7 @@ module _ (t : Tracks) (a : State lists) (k : Holds t a) (g : Run) where
     where
       full : Tracks
       full = tableOf (t .count) (t .system) (filled (g .first) (suc (g .last) - g .first) (byte (g .holder)) (holders t))
+
       go : (b : Bool) → Holds (cond b full t) (onBook (withHolders (toldBy b)) a)
       go false = k
       go true =

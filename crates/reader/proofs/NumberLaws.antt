@@ -104,6 +104,7 @@ module _ (t : Numbers) (a : State lists) (k : Keeps t a) (x : shapes.Numbered) w
     where
       full : Numbers
       full = tableOf (t .count) (withNumber (x .number) (byte (x .resource .owner)) (byte (x .resource .lock)) (resources t))
+
       go : (b : Bool) → Keeps (cond b full t) (onBook (withResources (toldBy b)) a)
       go false = k
       go true =

@@ -52,9 +52,9 @@ recorded name priority state why due interval = record {
 
 seven : (v₁ v₂ v₃ v₄ v₅ v₆ v₇ : List ℕ) (rs : List (List ℕ)) (n : ℕ) (a : State lists)
     → recordsSaid (suc n) a ((text idKey ++ (61 ∷ v₁)) ∷ (text nameKey ++ (61 ∷ v₂)) ∷ (text priorityKey ++ (61 ∷ v₃))
-        ∷ (text stateKey ++ (61 ∷ v₄)) ∷ (text whyKey ++ (61 ∷ v₅)) ∷ (text dueKey ++ (61 ∷ v₆)) ∷ (text intervalKey ++ (61 ∷ v₇)) ∷ rs)
+    ∷ (text stateKey ++ (61 ∷ v₄)) ∷ (text whyKey ++ (61 ∷ v₅)) ∷ (text dueKey ++ (61 ∷ v₆)) ∷ (text intervalKey ++ (61 ∷ v₇)) ∷ rs)
     ≡ recordsSaid n (withRecord (otherwise 0 (figure v₁))
-        (recorded (nameOf v₂) (figure v₃) (figure v₄) (reasonOf v₅) (figureOrDash v₆) (figureOrDash v₇)) a) rs
+    (recorded (nameOf v₂) (figure v₃) (figure v₄) (reasonOf v₅) (figureOrDash v₆) (figureOrDash v₇)) a) rs
 unfolding recordsSaid valueOf valueBehind behind
 seven v₁ v₂ v₃ v₄ v₅ v₆ v₇ rs n a = refl
 
@@ -158,7 +158,7 @@ module _ (s : List ℕ) (at : ℕ) where
                     ap (recordsSaid (suc n) a) cut-1
                     ∙ seven (l1 .value) (l2 .value) (l3 .value) (l4 .value) (l5 .value) (l6 .value) (l7 .value) (ahead s g) n a
                     ∙ (λ i. recordsSaid n (withRecord (otherwise 0 (l1 .shaped i))
-                        (recorded (l2 .shaped i) (l3 .shaped i) (l4 .shaped i) (reasonOf (l5 .value)) (l6 .shaped i) (l7 .shaped i)) a) (ahead s g))
+                    (recorded (l2 .shaped i) (l3 .shaped i) (l4 .shaped i) (reasonOf (l5 .value)) (l6 .shaped i) (l7 .shaped i)) a) (ahead s g))
 
                 -- the record that the code makes of them
                 pub record-read : (r : Record) → r .good ≡ 7 → r .at ≡ g → r .id ≡ id

@@ -5,7 +5,7 @@ use native.Mathlib.Omega.{arith}
 use mathlib.Core.Path.{_≡_, refl, sym, ap, ap₂, _∙_, subst}
 use mathlib.Core.Bool.{Bool, true, false, cond}
 use mathlib.Core.List.{List, [], _∷_, map}
-use lib.ListN.{length, drop, replicate}
+use lib.ListN.{length, drop, replicate, drop-of-length-le}
 use Rattle.limits.specs.Limits.{mostPrograms}
 use Rattle.text.specs.Text.{parts}
 use Rattle.records.specs.declared.Program.{Program}
@@ -57,6 +57,14 @@ holds-as t a b e k =
 
 keeps-as : (t : records.Numbers) (a b : State lists) → a .book ≡ b .book → Keeps t b → Keeps t a
 keeps-as t a b e k = subst (λ (x : Book). Keeps t (record { book = x; kept = a .kept })) (sym e) (record { table = k .table; long = k .long })
+
+-- nothing stands from there on
+nothing : reading [] ≡ notRead 1
+unfolding reading firstBad parts
+nothing = refl
+
+pub nothing-left : (s : List ℕ) (at : ℕ) → length s ≤ at → {x : Result} → x ≡ notRead 1 → x ≡ reading (drop at s)
+nothing-left s at h e = e ∙ sym nothing ∙ sym (ap reading (drop-of-length-le s h))
 
 module _ (s : List ℕ) (at : ℕ) where
   abbrev bad : ℕ

@@ -1,4 +1,14 @@
+-- `read_from` reads the parts of a page one after another, and judges what they say.
+-- Assumes nothing.
+use native.Mathlib.Omega.{arith}
+use mathlib.Core.Path.{_≡_, refl, sym, ap, subst}
 use borrow.Author.Needs.{needs}
+use Rattle.tables.specs.Calls.{Result}
+use Rattle.records.specs.Inner as numbers
+use Rattle.tracks.specs.Inner.{Fit}
+use Rattle.reader.specs.Walks.{HeadIs, RecordsAre, ChainsAre, HeldIs, NumbersAre, EndRead}
+use Rattle.reader.proofs.Assembling.{fresh-tracks-fit, fresh-numbers-fit}
+use Rattle.reader.proofs.WholePage as laws
 use Rattle.reader.proofs.read_from.Statement.{statement}
 use Rattle.reader.proofs.read_from.Tie as tie
 use Rattle.reader.proofs.read_from.Reads as reads
@@ -14,13 +24,51 @@ use Rattle.reader.proofs.parts.read_numbers.Reads as read-numbers-reads
 use Rattle.reader.proofs.parts.read_records.Reads as read-records-reads
 use Rattle.tables.proofs.Tables.fresh.Reads as fresh-reads
 
+-- the parts that were read, and where the reading began
+abbrev start-2 : tie.Else2 → tie.Start
+start-2 e = e .before .before .before .before .before
+
+abbrev start-3 : tie.Else3 → tie.Start
+start-3 e = start-2 (e .before .before .before)
+
+abbrev start-4 : tie.Else4 → tie.Start
+start-4 e = start-3 (e .before .before .before)
+
+abbrev start-5 : tie.Else5 → tie.Start
+start-5 e = start-4 (e .before .before .before .before .before .before)
+
+abbrev start-6 : tie.Else6 → tie.Start
+start-6 e = start-5 (e .before .before .before)
+
+head : (e : tie.Else2) → HeadIs (start-2 e .args .s .now) (start-2 e .args .at) (e .before .before .read-head .result)
+head e = e .before .before .read-head .ensures .read (omega arith)
+
+records : (e : tie.Else3)
+    → RecordsAre (start-3 e .args .s .now) (e .before .before .before .before .before .read-head .result .at) 7 (e .before .before .before .before .before .read-head .result .programs) (e .before .before .read-records .result)
+records e = e .before .before .read-records .ensures .read (omega arith)
+
+chains : (e : tie.Else4)
+    → ChainsAre (start-4 e .args .s .now) (e .before .before .before .before .before .read-records .result .at) (e .before .before .before .before .before .read-records .result .line) (e .before .before .read-chains .result)
+chains e = e .before .before .read-chains .ensures .read (omega arith)
+
+held : (e : tie.Else5)
+    → HeldIs (start-5 e .args .s .now) (e .before .before .before .before .before .before .before .before .read-chains .result .at) (e .before .before .before .before .before .before .before .before .read-chains .result .line) (e .before .before .before .before .before .fresh .result .tables .ledger .tracks)
+    (e .before .before .read-held .result)
+held e = e .before .before .read-held .ensures .read (omega arith)
+
+numbered : (e : tie.Else6)
+    → NumbersAre (start-6 e .args .s .now) (e .before .before .before .before .before .read-held .result .at) (e .before .before .before .before .before .read-held .result .line) (e .before .before .before .before .before .before .before .before .fresh .result .tables .ledger .numbers)
+    (e .before .before .read-numbers .result)
+numbered e = e .before .before .read-numbers .ensures .read (omega arith)
+
 -- src/lib.rt:60:9
 not-read-requires : tie.Need-not-read-requires
 not-read-requires c κs = search needs
 
 -- src/lib.rt:60:9
 returns : tie.Need-returns
-returns c = ?
+returns c =
+    laws.nothing-left (c .before .before .before .args .s .now) (c .before .before .before .args .at) (omega arith) (c .not-read .ensures)
 
 -- src/lib.rt:62:9
 read-head-requires : tie.Need-read-head-requires
@@ -32,11 +80,15 @@ not-read-requires-2 c κs = search needs
 
 -- src/lib.rt:64:9
 returns-2 : tie.Need-returns-2
-returns-2 c = ?
+returns-2 c =
+    let s = c .before .before .before .before .before .before in
+    laws.bad-page (s .args .s .now) (s .args .at) _ (omega arith)
+    (c .before .before .before .read-head .ensures .stops (omega arith)) (c .not-read2 .ensures)
 
 -- src/lib.rt:66:9
 read-records-requires : tie.Need-read-records-requires
-read-records-requires c κs = ?
+read-records-requires c κs =
+    laws.records-next _ _ _ (head c)
 
 -- src/lib.rt:68:9
 not-read-requires-3 : tie.Need-not-read-requires-3
@@ -44,11 +96,16 @@ not-read-requires-3 c κs = search needs
 
 -- src/lib.rt:68:9
 returns-3 : tie.Need-returns-3
-returns-3 c = ?
+returns-3 c =
+    let h = c .before .before .before .before in
+    let s = start-2 h in
+    laws.bad-page (s .args .s .now) (s .args .at) _ (omega arith)
+    (laws.bad-records _ _ _ (head h) _ (c .before .before .before .read-records .ensures) (omega arith)) (c .not-read3 .ensures)
 
 -- src/lib.rt:70:9
 read-chains-requires : tie.Need-read-chains-requires
-read-chains-requires c κs = ?
+read-chains-requires c κs =
+    records c .onward
 
 -- src/lib.rt:72:9
 not-read-requires-4 : tie.Need-not-read-requires-4
@@ -56,7 +113,11 @@ not-read-requires-4 c κs = search needs
 
 -- src/lib.rt:72:9
 returns-4 : tie.Need-returns-4
-returns-4 c = ?
+returns-4 c =
+    let r = c .before .before .before .before in
+    let s = start-3 r in
+    laws.bad-page (s .args .s .now) (s .args .at) _ (omega arith)
+    (laws.bad-chains _ _ _ (head (r .before .before .before)) _ (records r) _ (c .before .before .before .read-chains .ensures) (omega arith)) (c .not-read4 .ensures)
 
 -- src/lib.rt:74:9
 fresh-requires : tie.Need-fresh-requires
@@ -64,7 +125,8 @@ fresh-requires c κs = search needs
 
 -- src/lib.rt:77:9
 read-held-requires : tie.Need-read-held-requires
-read-held-requires c κs = ?
+read-held-requires c κs =
+    (chains (c .before .before .before) .onward, subst Fit (sym (ap (λ (r : Result). r .tables .ledger .tracks) (c .before .before .fresh .ensures))) (fresh-tracks-fit 0 _ _ _))
 
 -- src/lib.rt:79:9
 not-read-requires-5 : tie.Need-not-read-requires-5
@@ -72,11 +134,16 @@ not-read-requires-5 c κs = search needs
 
 -- src/lib.rt:79:9
 returns-5 : tie.Need-returns-5
-returns-5 c = ?
+returns-5 c =
+    let k = c .before .before .before .before .before .before .before in
+    let s = start-4 k in
+    laws.bad-page (s .args .s .now) (s .args .at) _ (omega arith)
+    (laws.bad-held _ _ _ (head (k .before .before .before .before .before .before)) _ (records (k .before .before .before)) _ (chains k) _ _ (c .before .before .before .read-held .ensures) (omega arith)) (c .not-read5 .ensures)
 
 -- src/lib.rt:81:9
 read-numbers-requires : tie.Need-read-numbers-requires
-read-numbers-requires c κs = ?
+read-numbers-requires c κs =
+    (held c .onward, subst numbers.Fit (sym (ap (λ (r : Result). r .tables .ledger .numbers) (c .before .before .before .before .before .fresh .ensures))) (fresh-numbers-fit 0 _ _ _))
 
 -- src/lib.rt:83:9
 not-read-requires-6 : tie.Need-not-read-requires-6
@@ -84,11 +151,18 @@ not-read-requires-6 c κs = search needs
 
 -- src/lib.rt:83:9
 returns-6 : tie.Need-returns-6
-returns-6 c = ?
+returns-6 c =
+    let d = c .before .before .before .before in
+    let k = d .before .before .before .before .before .before in
+    let s = start-5 d in
+    laws.bad-page (s .args .s .now) (s .args .at) _ (omega arith)
+    (laws.bad-numbers _ _ _ (head (k .before .before .before .before .before .before)) _ (records (k .before .before .before)) _ (chains k) _ _ (held d) _ _ (c .before .before .before .read-numbers .ensures) (omega arith))
+    (c .not-read6 .ensures)
 
 -- src/lib.rt:85:9
 read-end-requires : tie.Need-read-end-requires
-read-end-requires c κs = ?
+read-end-requires c κs =
+    (numbered c .onward, numbered c .next)
 
 -- src/lib.rt:87:9
 not-read-requires-7 : tie.Need-not-read-requires-7
@@ -96,7 +170,13 @@ not-read-requires-7 c κs = search needs
 
 -- src/lib.rt:87:9
 returns-7 : tie.Need-returns-7
-returns-7 c = ?
+returns-7 c =
+    let n = c .before .before .before in
+    let d = n .before .before .before in
+    let k = d .before .before .before .before .before .before in
+    let s = start-6 n in
+    laws.bad-page (s .args .s .now) (s .args .at) _ (omega arith)
+    (laws.bad-end _ _ _ (head (k .before .before .before .before .before .before)) _ (records (k .before .before .before)) _ (chains k) _ _ (held d) _ _ (numbered n) _ (c .before .before .read-end .ensures)) (c .not-read7 .ensures)
 
 -- src/lib.rt:95:16
 from-ticks-requires : tie.Need-from-ticks-requires
@@ -104,11 +184,22 @@ from-ticks-requires c κs = search needs
 
 -- src/lib.rt:99:5
 judge-requires : tie.Need-judge-requires
-judge-requires c κs = ?
+judge-requires c κs =
+    let h = head (c .before .before .before .before .before .before .before .before .before .before .before .before .before .before .before .before .before .before .before .before .before .before) in
+    omega (arith, h .beyond, h .within)
 
 -- src/lib.rt:56:1
 returns-8 : tie.Need-returns-8
-returns-8 c = ?
+returns-8 c =
+    let n = c .before .before .before .before .before .before .before .before in
+    let d = n .before .before .before in
+    let k = d .before .before .before .before .before .before in
+    let s = start-6 n in
+    let f = d .before .before .before .before .before .fresh .ensures in
+    laws.whole-page (s .args .s .now) (s .args .at) _ (head (k .before .before .before .before .before .before)) _ (records (k .before .before .before)) _ (chains k) _ _ (held d) _ _ (numbered n)
+    (ap (λ (r : Result). r .tables .ledger .tracks) f) (ap (λ (r : Result). r .tables .ledger .numbers) f)
+    (subst (EndRead (s .args .s .now) (n .before .before .read-numbers .result .at) (n .before .before .read-numbers .result .line)) (let e : c .before .before .before .before .before .before .before .read-end .result ≡ 0 = omega (arith, c .before .before .before .before .before .before .if7 .left) in e) (c .before .before .before .before .before .before .before .read-end .ensures)) _ refl (c .before .from-ticks .ensures) refl refl refl
+    (c .judge .ensures)
 
 pub read-from-spec : {M : Type 1} → statement M
 read-from-spec =

@@ -32,7 +32,7 @@ nextly c = next-of (c .before .loop .i) (omega arith)
 -- the value of its line
 found : (c : tie.After-from Inv-loop μ-loop)
     → ValueIs (c .before .before .before .before .before .before .before .before .args .s .now) (c .before .before .before .before .before .before .loop .o)
-        (keyOfChain (getD chained (c .before .before .before .before .before .before .loop .i) 0)) (c .from .given .0 .0) (c .from .given .0 .1 .0)
+    (keyOfChain (getD chained (c .before .before .before .before .before .before .loop .i) 0)) (c .from .given .0 .0) (c .from .given .0 .1 .0)
 found c =
     value-as (c .before .before .before .before .chain-key .ensures)
     (subst (ValueAt _ _ _) (c .from .given .1) (c .before .before .value-at .ensures))
@@ -121,9 +121,11 @@ loop-less c =
 -- src/parts.rt:235:5
 loop-again : tie.Need-loop-again Inv-loop μ-loop
 loop-again c =
-    let v = found (c .before .before .before .before .before) in
-    (one-read (c .before .before .before .before .before .before .before .before .before .before .before .loop .inv .0) _ (nextly (c .before .before .before .before .before .before .before .before .before .before)) _ _ v _ (c .before .before .before .read-chain .ensures)
-    (not-false (c .before .before .before .read-chain .result .ok) (c .before .if1 .left)), omega arith)
+    let v = found (c .before .before .before .before .before) in (
+      one-read (c .before .before .before .before .before .before .before .before .before .before .before .loop .inv .0) _ (nextly (c .before .before .before .before .before .before .before .before .before .before)) _ _ v _ (c .before .before .before .read-chain .ensures)
+          (not-false (c .before .before .before .read-chain .result .ok) (c .before .if1 .left)),
+      omega arith,
+    )
 
 -- src/parts.rt:226:1
 returns-3 : tie.Need-returns-3 Inv-loop μ-loop

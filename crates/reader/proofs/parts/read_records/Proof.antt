@@ -28,11 +28,11 @@ start c = c .before .before .before .before
 
 more : (c : tie.In-loop Inv-loop μ-loop)
     → SoFar (start c .args .s .now) (start c .args .at) (start c .args .line) (start c .args .count) (c .before .loop .programs)
-        (c .before .loop .o) (c .before .loop .n) (suc (c .before .loop .left - 1))
+    (c .before .loop .o) (c .before .loop .n) (suc (c .before .loop .left - 1))
 more c =
     let e : c .before .loop .left ≡ suc (c .before .loop .left - 1) = omega arith in
     subst (SoFar (start c .args .s .now) (start c .args .at) (start c .args .line) (start c .args .count) (c .before .loop .programs)
-        (c .before .loop .o) (c .before .loop .n)) e (c .before .loop .inv)
+    (c .before .loop .o) (c .before .loop .n)) e (c .before .loop .inv)
 
 abbrev theRead : tie.Joined2 Inv-loop μ-loop → Record
 theRead c = c .before .before .before .read-record .result
