@@ -33,7 +33,7 @@ use Rattle.chains.specs.Links.{linksOf}
 use Rattle.tables.specs.declared.Tables.{Tables}
 use Rattle.tables.specs.Tables.{plain, lay, freshly, smallest, Arrays}
 use Rattle.tables.specs.Sound.{sound}
-use Rattle.tables.specs.Calls.{laid, planned, asked, made}
+use Rattle.tables.specs.Calls.{Result, laid, planned, asked, made}
 use Rattle.tables.proofs.Agree.{sound-clauses, sound-test}
 use Rattle.tables.proofs.Plain.{plain-lay, lay-sound, sound-plain}
 use Rattle.tables.proofs.Orderly.{orderly-lay, sound-orderly}
@@ -44,13 +44,13 @@ use Rattle.console.specs.Line.{Line, bad, PAGE, lineOf}
 use Rattle.console.specs.Line as line
 use Rattle.console.specs.Console.{obeyedIn, keyedIn, obeyed, keyed}
 use Rattle.reader.specs.Reading.{reading}
+use Rattle.reader.proofs.Exact.{accepted, accepted-arrays, not-read}
 use Rattle.history.specs.Runs.{Made, step, run, outcomes, Beginning, begins}
 use Rattle.history.specs.Runs as calls
 use Rattle.history.specs.Demand.{sortedOut, replaying, toldOf, ActsFor, for-none, for-first, Agrees, Demanded, firstEntries, notesOf}
 use Rattle.history.proofs.Steps.{asked-planned}
 use Rattle.history.proofs.Begins.{requested-asked, requested-replayed}
 use Rattle.history.proofs.FirstEntries.{first-accounts}
-use Rattle.history.proofs.Readings.{accepted, not-read}
 use Rattle.rules.proofs.Statements.{Acts}
 
 -- sound tables, laid out as their plain state is, and the notes of a replay that it is alike to
@@ -282,21 +282,22 @@ smallest-arrays : Arrays smallest
 unfolding linksOf
 smallest-arrays = record { programs = refl; links = refl; holders = refl; resources = refl }
 
-module _ (accepted-arrays : (bytes : List ℕ) → reading bytes .number ≡ 0 → Arrays (reading bytes .tables)) where
-  kept-read : (bytes : List ℕ) → Dec (reading bytes .number ≡ 0)
-      → Kept (reading bytes .tables) (firstEntries (plain (reading bytes .tables)))
-  kept-read bytes (yes e) = kept-first (reading bytes .tables) (accepted-arrays bytes e) (accepted bytes e .0)
-  kept-read bytes (no n) =
-      subst (λ (t : Tables). Kept t (firstEntries (plain t))) (sym (not-read bytes n))
-      (kept-first smallest smallest-arrays (kept-new 1 0 0 refl .test))
+kept-read : (bytes : List ℕ) → Dec (reading bytes .number ≡ 0)
+    → Kept (reading bytes .tables) (firstEntries (plain (reading bytes .tables)))
+kept-read bytes (yes e) =
+    let t : Tables = reading bytes .tables in
+    kept-first t (accepted-arrays bytes e) (sound-test t (accepted bytes e .0))
+kept-read bytes (no n) =
+    subst (λ (t : Tables). Kept t (firstEntries (plain t))) (sym (ap (λ (r : Result). r .tables) (not-read bytes n)))
+    (kept-first smallest smallest-arrays (kept-new 1 0 0 refl .test))
 
-  kept-begun : (b : Beginning) → Kept (begins b) (notesOf b)
-  unfolding begins notesOf
-  kept-begun (calls.fresh T S R) = kept-made T S R (sizes T S R) refl
-  kept-begun (calls.read bytes) = kept-read bytes (ℕ-discrete (reading bytes .number) 0)
+kept-begun : (b : Beginning) → Kept (begins b) (notesOf b)
+unfolding begins notesOf
+kept-begun (calls.fresh T S R) = kept-made T S R (sizes T S R) refl
+kept-begun (calls.read bytes) = kept-read bytes (ℕ-discrete (reading bytes .number) 0)
 
-  pub demand-begun : (b : Beginning) (cs : List Made) → Demanded (begins b) (notesOf b) cs
-  demand-begun b = kept-demanded (begins b) (notesOf b) (kept-begun b)
+pub demand-begun : (b : Beginning) (cs : List Made) → Demanded (begins b) (notesOf b) cs
+demand-begun b = kept-demanded (begins b) (notesOf b) (kept-begun b)
 
-  pub laid-begun : (b : Beginning) (cs : List Made) → run linked (begins b) cs ≡ lay (sortedOut (run replaying (notesOf b) cs))
-  laid-begun b = kept-laid (begins b) (notesOf b) (kept-begun b)
+pub laid-begun : (b : Beginning) (cs : List Made) → run linked (begins b) cs ≡ lay (sortedOut (run replaying (notesOf b) cs))
+laid-begun b = kept-laid (begins b) (notesOf b) (kept-begun b)

@@ -3,5 +3,4 @@ pub mod Demand1
 pub mod Frames
 pub mod Begins
 pub mod FirstEntries
-pub mod Readings
 pub mod Demand3
