@@ -80,13 +80,15 @@ module _ {s : List ℕ} {at line : ℕ} {links : List ℕ} {o n i : ℕ} (p : So
       }
 
   -- one more
-  module _ (k : ℕ) (t : Next i k) (from to : ℕ) (v : ValueIs s o (keyOfChain k) from to) (c : List ℕ) (e : listed (slice from to s) ≡ some c) where
+  module _ (k : ℕ) (t : Next i k) (from to : ℕ) (v : ValueIs s o (keyOfChain k) from to) (c : List ℕ)
+      (e : listed (slice from to s) ≡ some c) where
     chain-says : (b : State lists)
         → chainsSaid (k ∷ drop (i + 1) chained) b (ahead s o) ≡ chainsSaid (drop (i + 1) chained) (withChain k c b) (ahead s (to + 1))
     unfolding chainsSaid
     chain-says b =
         ap (chainsSaid (k ∷ drop (i + 1) chained) b) (v .cut)
-        ∙ ap (λ (x : Option (List ℕ)). chainsSaid (drop (i + 1) chained) (withChain k (otherwise [] (listed (otherwise [] x))) b) (ahead s (to + 1)))
+        ∙ ap (λ (x : Option (List ℕ)). chainsSaid (drop (i + 1) chained) (withChain k (otherwise [] (listed (otherwise [] x))) b)
+        (ahead s (to + 1)))
         (value-behind (keyOfChain k) (slice from to s))
         ∙ ap (λ (x : Option (List ℕ)). chainsSaid (drop (i + 1) chained) (withChain k (otherwise [] x) b) (ahead s (to + 1))) e
 
@@ -100,17 +102,20 @@ module _ {s : List ℕ} {at line : ℕ} {links : List ℕ} {o n i : ℕ} (p : So
               ∙ ap (λ (x : List (List ℕ)). layThese chained x (replicate slots 0)) (sym (append-assoc (p .told) (c ∷ []) cs));
           scan = p .scan ∙ ap (λ (fs : List Form). firstBad (chainsAhead fs) n (ahead s o)) (t .forms)
               ∙ scan-on listed s o (chaining (chainForm k ∷ drop (i + 1) chainForms)) _ [] refl (line-shaped listed v e) refl n
-              ∙ ap (λ (x : ℕ). firstBad (chainsAhead (drop (i + 1) chainForms)) x (ahead s (to + 1))) (let f : suc n ≡ n + 1 = omega arith in f);
+              ∙ ap (λ (x : ℕ). firstBad (chainsAhead (drop (i + 1) chainForms)) x (ahead s (to + 1)))
+              (let f : suc n ≡ n + 1 = omega arith in f);
           says = λ a. p .says a ∙ ap (λ (x : List ℕ). chainsSaid x (p .state a) (ahead s o)) (t .states) ∙ chain-says (p .state a);
           puts = λ a cs. sym (ap (λ (x : List ℕ). withChains x (c ∷ cs) (p .state a)) (t .states)) ∙ p .puts a (c ∷ cs)
               ∙ ap (λ (x : List (List ℕ)). withChains chained x a) (sym (append-assoc (p .told) (c ∷ []) cs));
         }
 
-  pub one-read : (k : ℕ) → Next i k → (from to : ℕ) → ValueIs s o (keyOfChain k) from to → (r : Chain) → ChainRead (slice from to s) links k r
+  pub one-read : (k : ℕ) → Next i k → (from to : ℕ) → ValueIs s o (keyOfChain k) from to → (r : Chain)
+      → ChainRead (slice from to s) links k r
       → r .ok ≡ true → SoFar s at line (r .links) (to + 1) (n + 1) (i + 1)
   one-read k t from to v r q h = go (listed (slice from to s)) refl (q .yes h)
     where
-      go : (x : Option (List ℕ)) → listed (slice from to s) ≡ x → into (λ c. layChain links k (map byte c)) (listed (slice from to s)) ≡ some (r .links)
+      go : (x : Option (List ℕ)) → listed (slice from to s) ≡ x
+          → into (λ c. layChain links k (map byte c)) (listed (slice from to s)) ≡ some (r .links)
           → SoFar s at line (r .links) (to + 1) (n + 1) (i + 1)
       go none e f =
           absurd (Option·none-ne-some (r .links) (sym (ap (into (λ c. layChain links k (map byte c))) e) ∙ f))

@@ -97,6 +97,7 @@ module _ (s : List ℕ) (at line next : ℕ) (l : LineIs (wordIs (text lastWord)
   pub more-behind : next < length s → EndRead s at line (line + 1)
   more-behind h =
       record {
-        scan = scan-end ∙ over (suc line) (drop next s) (omega (arith, length-drop next s)) ∙ (let e : suc line ≡ line + 1 = omega arith in e);
+        scan = scan-end ∙ over (suc line) (drop next s) (omega (arith, length-drop next s))
+            ∙ (let e : suc line ≡ line + 1 = omega arith in e);
         says = λ e. absurd (omega arith);
       }

@@ -91,7 +91,8 @@ module _ (s : List ℕ) (at : ℕ) where
                   scan-5 ∙ scan-on (figure) s e (behindHead 5) _ [] refl l6 refl 6
                   ∙ ap (λ (o : Option ℕ). firstBad (recordsAhead (otherwise 0 o)) 7 (ahead s f)) (l6 .shaped)
 
-              cut-1 : ahead s at ≡ (text pageKey ++ (61 ∷ l1 .value)) ∷ (text clockKey ++ (61 ∷ l2 .value)) ∷ (text tracksKey ++ (61 ∷ l3 .value)) ∷ (text systemKey ++ (61 ∷ l4 .value))
+              cut-1 : ahead s at ≡ (text pageKey ++ (61 ∷ l1 .value)) ∷ (text clockKey ++ (61 ∷ l2 .value)) ∷
+                  (text tracksKey ++ (61 ∷ l3 .value)) ∷ (text systemKey ++ (61 ∷ l4 .value))
                   ∷ (text numbersKey ++ (61 ∷ l5 .value)) ∷ (text programsKey ++ (61 ∷ l6 .value)) ∷ ahead s f
               cut-1 =
                   l1 .cut ∙ ap (λ (x : List (List ℕ)). (text pageKey ++ (61 ∷ l1 .value)) ∷ x) (l2 .cut
@@ -104,7 +105,8 @@ module _ (s : List ℕ) (at : ℕ) where
               head-says =
                   ap said cut-1
                   ∙ six (l1 .value) (l2 .value) (l3 .value) (l4 .value) (l5 .value) (l6 .value) (ahead s f)
-                  ∙ ap₂ (λ (x y : Option ℕ). startedBy (ahead s f) x y (figure (l4 .value)) (figure (l5 .value)) (figure (l6 .value))) (l2 .shaped) (l3 .shaped)
+                  ∙ ap₂ (λ (x y : Option ℕ). startedBy (ahead s f) x y (figure (l4 .value)) (figure (l5 .value)) (figure (l6 .value)))
+                  (l2 .shaped) (l3 .shaped)
                   ∙ ap₂ (λ (x y : Option ℕ). startedBy (ahead s f) (some clock) (some T) x y (figure (l6 .value))) (l4 .shaped) (l5 .shaped)
                   ∙ ap (startedBy (ahead s f) (some clock) (some T) (some S) (some R)) (l6 .shaped)
 

@@ -63,15 +63,18 @@ pub put-in : (t : Tracks) (i j h n : ℕ) → i ≤ j → j < t .count → n ≡
     → tableOf (t .count) (t .system) (filled i n h (holders t)) ≡ putRun t i j h
 put-in t i j h n l u e =
     ap (λ (k : ℕ). tableOf (t .count) (t .system) (filled i k h (holders t))) e
-    ∙ sym (ap (λ (b : Bool). cond b (tableOf (t .count) (t .system) (filled i (suc j - i) h (holders t))) t) (and (le-leb i j l) (lt-ltb j (t .count) u)))
+    ∙ sym (ap (λ (b : Bool). cond b (tableOf (t .count) (t .system) (filled i (suc j - i) h (holders t))) t)
+    (and (le-leb i j l) (lt-ltb j (t .count) u)))
 
 pub put-over : (t : Tracks) (i j h : ℕ) → t .count ≤ j → t ≡ putRun t i j h
 put-over t i j h u =
-    sym (ap (λ (b : Bool). cond b (tableOf (t .count) (t .system) (filled i (suc j - i) h (holders t))) t) (fails (leb i j) (ltb j (t .count)) (le-ltb j (t .count) u)))
+    sym (ap (λ (b : Bool). cond b (tableOf (t .count) (t .system) (filled i (suc j - i) h (holders t))) t)
+    (fails (leb i j) (ltb j (t .count)) (le-ltb j (t .count) u)))
 
 pub put-back : (t : Tracks) (i j h : ℕ) → j < i → t ≡ putRun t i j h
 put-back t i j h u =
-    sym (ap (λ (b : Bool). cond (b && ltb j (t .count)) (tableOf (t .count) (t .system) (filled i (suc j - i) h (holders t))) t) (lt-leb i j u))
+    sym (ap (λ (b : Bool). cond (b && ltb j (t .count)) (tableOf (t .count) (t .system) (filled i (suc j - i) h (holders t))) t)
+    (lt-leb i j u))
 
 -- figures in a byte
 map-set : (xs : List ℕ) (i x : ℕ) → map byte (set xs i x) ≡ set (map byte xs) i (byte x)
@@ -105,7 +108,11 @@ module _ (t : Tracks) (a : State lists) (k : Holds t a) (g : Run) where
   run-says = go (leb (g .first) (g .last) && ltb (g .last) (a .book .tracks))
     where
       go : (b : Bool)
-          → record { book = cond b (withHolders (filled (g .first) (suc (g .last) - g .first) (g .holder) (a .book .holders)) (a .book)) (a .book); kept = a .kept }
+          → record {
+            book = cond b (withHolders (filled (g .first) (suc (g .last) - g .first) (g .holder) (a .book .holders)) (a .book))
+                (a .book);
+            kept = a .kept;
+          }
           ≡ onBook (withHolders (toldBy b)) a
       go true = refl
       go false = refl
@@ -123,9 +130,12 @@ module _ (t : Tracks) (a : State lists) (k : Holds t a) (g : Run) where
       go false = k
       go true =
           record {
-            table = ap (λ (x : Tracks). tableOf (x .count) (x .system) (filled (g .first) (suc (g .last) - g .first) (byte (g .holder)) (holders t))) (k .table)
-                ∙ ap (λ (x : List ℕ). tableOf (a .book .tracks) (a .book .system) (filled (g .first) (suc (g .last) - g .first) (byte (g .holder)) x)) holders-are
-                ∙ ap (tableOf (a .book .tracks) (a .book .system)) (sym (map-filled (g .first) (suc (g .last) - g .first) (g .holder) (a .book .holders)));
+            table = ap (λ (x : Tracks). tableOf (x .count) (x .system)
+                (filled (g .first) (suc (g .last) - g .first) (byte (g .holder)) (holders t))) (k .table)
+                ∙ ap (λ (x : List ℕ). tableOf (a .book .tracks) (a .book .system)
+                (filled (g .first) (suc (g .last) - g .first) (byte (g .holder)) x)) holders-are
+                ∙ ap (tableOf (a .book .tracks) (a .book .system))
+                (sym (map-filled (g .first) (suc (g .last) - g .first) (g .holder) (a .book .holders)));
             long = filled-long (g .first) (suc (g .last) - g .first) (g .holder) (a .book .holders) ∙ k .long;
           }
 
@@ -173,7 +183,8 @@ to-numbers s o n (shapeless v next e k) = absurd (Option·none-ne-some v (sym k)
 
 module _ {s : List ℕ} {at line : ℕ} {tracks table : Tracks} {o n : ℕ} (p : SoFar s at line tracks table o n) where
   -- no more of them
-  pub all-read : NoLine {A = List ℕ} some s o (text heldKey) → HeldRead s at line tracks (record { bad = 0; at = o; line = n; tracks = table })
+  pub all-read : NoLine {A = List ℕ} some s o (text heldKey)
+      → HeldRead s at line tracks (record { bad = 0; at = o; line = n; tracks = table })
   all-read l =
       record {
         read = λ e. record {
@@ -193,12 +204,14 @@ module _ {s : List ℕ} {at line : ℕ} {tracks table : Tracks} {o n : ℕ} (p :
           read = λ z. absurd (omega (arith, f, p .onward .some));
           stops = λ h. p .scan ∙ ap (firstBad holding n) (v .cut)
               ∙ scan-stop holding (text heldKey ++ (61 ∷ slice from to s)) (drop (to + 1) s) n
-              (pass-shape (choice heldForm holding) (choice numberForm numbering ∷ choice endForm ended ∷ []) (slice from to s) (ap there e))
+              (pass-shape (choice heldForm holding) (choice numberForm numbering ∷ choice endForm ended ∷ []) (slice from to s)
+              (ap there e))
               ∙ sym f;
         }
 
     -- one more
-    pub one-more : (g : Run) → runIn (slice from to s) ≡ some g → (table′ : Tracks) → table′ ≡ putRun table (g .first) (g .last) (byte (g .holder))
+    pub one-more : (g : Run) → runIn (slice from to s) ≡ some g → (table′ : Tracks)
+        → table′ ≡ putRun table (g .first) (g .last) (byte (g .holder))
         → SoFar s at line tracks table′ (to + 1) (n + 1)
     one-more g e table′ f =
         subst (λ (t : Tracks). SoFar s at line tracks t (to + 1) (n + 1)) (sym f)

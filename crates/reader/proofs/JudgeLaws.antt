@@ -36,6 +36,7 @@ module _ (s : List ℕ) (t : Tables) {x : Result} where
   other-bytes e k f =
       f ∙ sym (ap₂ (λ (b c : Bool). judge-if s t (b && c)) e (other-way s (page (plain t)) false k))
 
-pub these-bytes : (s : List ℕ) (t : Tables) → sound t ≡ true → alike s (page (plain t)) ≡ true → told (record { answer = Done 0; tables = t }) ≡ judged s 0 t
+pub these-bytes : (s : List ℕ) (t : Tables) → sound t ≡ true → alike s (page (plain t)) ≡ true
+    → told (record { answer = Done 0; tables = t }) ≡ judged s 0 t
 unfolding writes judge-if
 these-bytes s t e k = sym (ap₂ (λ (b c : Bool). judge-if s t (b && c)) e (other-way s (page (plain t)) true k))

@@ -47,7 +47,8 @@ value-is s key at e i p h b l c =
       high = h;
       beyond = omega (arith, b .place);
       cut = p .more h
-          ∙ ap (λ (x : List ℕ). x ∷ parts 10 (drop (e + 1) s)) (behind-exact key (slice at e s) (slice i e s) (b .rest) ∙ ap (λ (x : List ℕ). key ++ x) d);
+          ∙ ap (λ (x : List ℕ). x ∷ parts 10 (drop (e + 1) s))
+          (behind-exact key (slice at e s) (slice i e s) (b .rest) ∙ ap (λ (x : List ℕ). key ++ x) d);
     }
 
 -- and of one that has another key, or ends behind it, or goes on otherwise
@@ -100,7 +101,8 @@ wordIf b = cond b (some true) none
 pub some-line : (s : List ℕ) → (l : List ℕ) × (ls : List (List ℕ)) × (parts 10 s ≡ l ∷ ls)
 some-line s = (_, _, parts-cut 10 s)
 
-pub scan-line : (p q : Place) (l s : List ℕ) (n : ℕ) → behindLine p l ≡ some q → firstBad p n (l ∷ parts 10 s) ≡ firstBad q (suc n) (parts 10 s)
+pub scan-line : (p q : Place) (l s : List ℕ) (n : ℕ) → behindLine p l ≡ some q
+    → firstBad p n (l ∷ parts 10 s) ≡ firstBad q (suc n) (parts 10 s)
 unfolding firstBad
 scan-line p q l s n e =
     let (m, ls, f) = some-line s in
@@ -112,7 +114,8 @@ pub scan-stop : (p : Place) (l s : List ℕ) (n : ℕ) → behindLine p l ≡ no
 unfolding firstBad
 scan-stop p l s n e =
     let (m, ls, f) = some-line s in
-    ap (λ (x : List (List ℕ)). firstBad p n (l ∷ x)) f ∙ ap (λ (o : Option Place). elim o [ none ↦ n | some r ↦ firstBad r (suc n) (m ∷ ls) ]) e
+    ap (λ (x : List (List ℕ)). firstBad p n (l ∷ x)) f ∙ ap (λ
+    (o : Option Place). elim o [ none ↦ n | some r ↦ firstBad r (suc n) (m ∷ ls) ]) e
 
 -- one that is of another kind, or of the kind but not of its shape
 pub pass-key : (c : Choice) (cs : List Choice) (l : List ℕ) → valueBehind (c .kind .key) l ≡ none → afterOne (c ∷ cs) l ≡ afterOne cs l
@@ -130,8 +133,10 @@ pass-shape c cs v e =
     ∙ ap (λ (t : Bool). afterKind (c .then v) t (afterOne cs l)) e
 
 -- the scan over the line at a place, of the first kind that may come there
-module _ {A : Type 0} (shape : List ℕ → Option A) (s : List ℕ) (at : ℕ) (p : Place) (c : Choice) (cs : List Choice) (may : mayCome p ≡ c ∷ cs) where
-  pub scan-on : {a : A} {next : ℕ} (l : LineIs shape s at (c .kind .key) a next) → c .kind .shape (l .value) ≡ there (shape (l .value)) → (n : ℕ)
+module _ {A : Type 0} (shape : List ℕ → Option A) (s : List ℕ) (at : ℕ) (p : Place) (c : Choice) (cs : List Choice)
+    (may : mayCome p ≡ c ∷ cs) where
+  pub scan-on : {a : A} {next : ℕ} (l : LineIs shape s at (c .kind .key) a next) → c .kind .shape (l .value) ≡ there (shape (l .value))
+      → (n : ℕ)
       → firstBad p n (parts 10 (drop at s)) ≡ firstBad (c .then (l .value)) (suc n) (parts 10 (drop next s))
   unfolding behindLine
   scan-on {a} {next} l e n =

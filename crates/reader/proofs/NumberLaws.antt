@@ -78,7 +78,8 @@ module _ (t : Numbers) (a : State lists) (k : Keeps t a) (x : shapes.Numbered) w
   resources-are : resources t ≡ map narrowResource (a .book .resources)
   resources-are =
       ap resources (k .table)
-      ∙ resources-made (a .book .numbers) (map narrowResource (a .book .resources)) (length-map (a .book .resources) narrowResource ∙ k .long)
+      ∙ resources-made (a .book .numbers) (map narrowResource (a .book .resources))
+      (length-map (a .book .resources) narrowResource ∙ k .long)
 
   abbrev toldBy : Bool → List Resource
   toldBy b = cond b (withNumber (x .number) (x .resource .owner) (x .resource .lock) (a .book .resources)) (a .book .resources)
@@ -91,7 +92,11 @@ module _ (t : Numbers) (a : State lists) (k : Keeps t a) (x : shapes.Numbered) w
   number-says = go (upTo 1 (a .book .numbers) (x .number))
     where
       go : (b : Bool)
-          → record { book = cond b (withResources (withNumber (x .number) (x .resource .owner) (x .resource .lock) (a .book .resources)) (a .book)) (a .book); kept = a .kept }
+          → record {
+            book = cond b (withResources (withNumber (x .number) (x .resource .owner) (x .resource .lock) (a .book .resources))
+                (a .book)) (a .book);
+            kept = a .kept;
+          }
           ≡ onBook (withResources (toldBy b)) a
       go true = refl
       go false = refl
@@ -109,14 +114,17 @@ module _ (t : Numbers) (a : State lists) (k : Keeps t a) (x : shapes.Numbered) w
       go false = k
       go true =
           record {
-            table = ap (λ (y : Numbers). tableOf (y .count) (withNumber (x .number) (byte (x .resource .owner)) (byte (x .resource .lock)) (resources t))) (k .table)
-                ∙ ap (λ (y : List Resource). tableOf (a .book .numbers) (withNumber (x .number) (byte (x .resource .owner)) (byte (x .resource .lock)) y)) resources-are
+            table = ap (λ (y : Numbers). tableOf (y .count) (withNumber (x .number) (byte (x .resource .owner))
+                (byte (x .resource .lock)) (resources t))) (k .table)
+                ∙ ap (λ (y : List Resource). tableOf (a .book .numbers)
+                (withNumber (x .number) (byte (x .resource .owner)) (byte (x .resource .lock)) y)) resources-are
                 ∙ ap (tableOf (a .book .numbers)) (sym (map-set (a .book .resources) (x .number - 1) (x .resource)));
             long = length-set (a .book .resources) (x .number - 1) (x .resource) ∙ k .long;
           }
 
 -- a number as the code reads it
-pub number-found : (o : Option shapes.Numbered) (r w l : ℕ) → some (record { number = r; resource = record { owner = w; lock = l } }) ≡ into narrowNumbered o
+pub number-found : (o : Option shapes.Numbered) (r w l : ℕ) → some (record { number = r; resource = record { owner = w; lock = l } })
+    ≡ into narrowNumbered o
     → (x : shapes.Numbered) × (o ≡ some x) × (narrowNumbered x ≡ record { number = r; resource = record { owner = w; lock = l } })
 number-found none r w l e = absurd (Option·none-ne-some _ (sym e))
 number-found (some x) r w l e = (x, refl, Option·some-injective _ _ (sym e))
@@ -140,7 +148,8 @@ fits-put t r o l f = go (upTo 1 (t .count) r)
 
 module _ {s : List ℕ} {at line : ℕ} {numbers table : Numbers} {o n : ℕ} (p : SoFar s at line numbers table o n) where
   -- no more of them
-  pub all-read : NoLine {A = List ℕ} some s o (text numberKey) → NumbersRead s at line numbers (record { bad = 0; at = o; line = n; numbers = table })
+  pub all-read : NoLine {A = List ℕ} some s o (text numberKey)
+      → NumbersRead s at line numbers (record { bad = 0; at = o; line = n; numbers = table })
   all-read l =
       record {
         read = λ e. record {
@@ -167,7 +176,8 @@ module _ {s : List ℕ} {at line : ℕ} {numbers table : Numbers} {o n : ℕ} (p
 
     -- one more
     pub one-more : (x : shapes.Numbered) → numbered (slice from to s) ≡ some x → (table′ : Numbers)
-        → table′ ≡ putNumber table (x .number) (byte (x .resource .owner)) (byte (x .resource .lock)) → SoFar s at line numbers table′ (to + 1) (n + 1)
+        → table′ ≡ putNumber table (x .number) (byte (x .resource .owner)) (byte (x .resource .lock))
+        → SoFar s at line numbers table′ (to + 1) (n + 1)
     one-more x e table′ f =
         subst (λ (t : Numbers). SoFar s at line numbers t (to + 1) (n + 1)) (sym f)
         (record {

@@ -59,7 +59,8 @@ unfolding recordsSaid valueOf valueBehind behind
 seven v₁ v₂ v₃ v₄ v₅ v₆ v₇ rs n a = refl
 
 -- so many lines are well formed, and the next is not
-stopped-at : (s : List ℕ) (at k : ℕ) → k < 7 → ((n line : ℕ) → firstBad (behindLines 0 n) line (ahead s at) ≡ line + k) → (r : Record) → r .good ≡ k
+stopped-at : (s : List ℕ) (at k : ℕ) → k < 7 → ((n line : ℕ) → firstBad (behindLines 0 n) line (ahead s at) ≡ line + k) → (r : Record)
+    → r .good ≡ k
     → RecordRead s at r
 stopped-at s at k h f r e =
     record {
@@ -70,7 +71,8 @@ stopped-at s at k h f r e =
 
 module _ (s : List ℕ) (at : ℕ) where
   bad-1 : NoLine figure s at (text idKey) → (n line : ℕ) → firstBad (behindLines 0 n) line (ahead s at) ≡ line + 0
-  bad-1 l n line = scan-off figure s at (behindLines 0 n) _ refl (λ m x. refl) (λ v. refl) l line ∙ (let e : line ≡ line + 0 = omega arith in e)
+  bad-1 l n line = scan-off figure s at (behindLines 0 n) _ refl (λ m x. refl) (λ v. refl) l line
+      ∙ (let e : line ≡ line + 0 = omega arith in e)
 
   pub stop-1 : NoLine figure s at (text idKey) → (r : Record) → r .good ≡ 0 → RecordRead s at r
   stop-1 l = stopped-at s at 0 (omega arith) (bad-1 l)
@@ -80,7 +82,8 @@ module _ (s : List ℕ) (at : ℕ) where
     scan-1 n line = scan-on figure s at (behindLines 0 n) _ [] refl l1 refl line
 
     bad-2 : NoLine nameOf s a (text nameKey) → (n line : ℕ) → firstBad (behindLines 0 n) line (ahead s at) ≡ line + 1
-    bad-2 l n line = scan-1 n line ∙ scan-off nameOf s a (behindLines 1 n) _ refl (λ m x. refl) (λ v. refl) l (suc line) ∙ (let e : suc line ≡ line + 1 = omega arith in e)
+    bad-2 l n line = scan-1 n line ∙ scan-off nameOf s a (behindLines 1 n) _ refl (λ m x. refl) (λ v. refl) l (suc line)
+        ∙ (let e : suc line ≡ line + 1 = omega arith in e)
 
     pub stop-2 : NoLine nameOf s a (text nameKey) → (r : Record) → r .good ≡ 1 → RecordRead s at r
     stop-2 l = stopped-at s at 1 (omega arith) (bad-2 l)
@@ -90,7 +93,8 @@ module _ (s : List ℕ) (at : ℕ) where
       scan-2 n line = scan-1 n line ∙ scan-on nameOf s a (behindLines 1 n) _ [] refl l2 refl (suc line)
 
       bad-3 : NoLine figure s b (text priorityKey) → (n line : ℕ) → firstBad (behindLines 0 n) line (ahead s at) ≡ line + 2
-      bad-3 l n line = scan-2 n line ∙ scan-off figure s b (behindLines 2 n) _ refl (λ m x. refl) (λ v. refl) l (suc (suc line)) ∙ (let e : suc (suc line) ≡ line + 2 = omega arith in e)
+      bad-3 l n line = scan-2 n line ∙ scan-off figure s b (behindLines 2 n) _ refl (λ m x. refl) (λ v. refl) l (suc (suc line))
+          ∙ (let e : suc (suc line) ≡ line + 2 = omega arith in e)
 
       pub stop-3 : NoLine figure s b (text priorityKey) → (r : Record) → r .good ≡ 2 → RecordRead s at r
       stop-3 l = stopped-at s at 2 (omega arith) (bad-3 l)
@@ -100,47 +104,60 @@ module _ (s : List ℕ) (at : ℕ) where
         scan-3 n line = scan-2 n line ∙ scan-on figure s b (behindLines 2 n) _ [] refl l3 refl (suc (suc line))
 
         bad-4 : NoLine figure s c (text stateKey) → (n line : ℕ) → firstBad (behindLines 0 n) line (ahead s at) ≡ line + 3
-        bad-4 l n line = scan-3 n line ∙ scan-off figure s c (behindLines 3 n) _ refl (λ m x. refl) (λ v. refl) l (suc (suc (suc line))) ∙ (let e : suc (suc (suc line)) ≡ line + 3 = omega arith in e)
+        bad-4 l n line = scan-3 n line ∙ scan-off figure s c (behindLines 3 n) _ refl (λ m x. refl) (λ v. refl) l (suc (suc (suc line)))
+            ∙ (let e : suc (suc (suc line)) ≡ line + 3 = omega arith in e)
 
         pub stop-4 : NoLine figure s c (text stateKey) → (r : Record) → r .good ≡ 3 → RecordRead s at r
         stop-4 l = stopped-at s at 3 (omega arith) (bad-4 l)
 
         module _ {state d : ℕ} (l4 : LineIs figure s c (text stateKey) state d) where
-          scan-4 : (n line : ℕ) → firstBad (behindLines 0 n) line (ahead s at) ≡ firstBad (behindLines 4 n) (suc (suc (suc (suc line)))) (ahead s d)
+          scan-4 : (n line : ℕ) → firstBad (behindLines 0 n) line (ahead s at)
+              ≡ firstBad (behindLines 4 n) (suc (suc (suc (suc line)))) (ahead s d)
           scan-4 n line = scan-3 n line ∙ scan-on figure s c (behindLines 3 n) _ [] refl l4 refl (suc (suc (suc line)))
 
           bad-5 : NoLine narrowReason s d (text whyKey) → (n line : ℕ) → firstBad (behindLines 0 n) line (ahead s at) ≡ line + 4
-          bad-5 l n line = scan-4 n line ∙ scan-off narrowReason s d (behindLines 4 n) _ refl (λ m x. refl) reason-there l (suc (suc (suc (suc line)))) ∙ (let e : suc (suc (suc (suc line))) ≡ line + 4 = omega arith in e)
+          bad-5 l n line = scan-4 n line ∙ scan-off narrowReason s d (behindLines 4 n) _ refl (λ m x. refl) reason-there l
+              (suc (suc (suc (suc line)))) ∙ (let e : suc (suc (suc (suc line))) ≡ line + 4 = omega arith in e)
 
           pub stop-5 : NoLine narrowReason s d (text whyKey) → (r : Record) → r .good ≡ 4 → RecordRead s at r
           stop-5 l = stopped-at s at 4 (omega arith) (bad-5 l)
 
           module _ {why : Why} {e : ℕ} (l5 : LineIs narrowReason s d (text whyKey) why e) where
-            scan-5 : (n line : ℕ) → firstBad (behindLines 0 n) line (ahead s at) ≡ firstBad (behindLines 5 n) (suc (suc (suc (suc (suc line))))) (ahead s e)
-            scan-5 n line = scan-4 n line ∙ scan-on narrowReason s d (behindLines 4 n) _ [] refl l5 (reason-there (l5 .value)) (suc (suc (suc (suc line))))
+            scan-5 : (n line : ℕ) → firstBad (behindLines 0 n) line (ahead s at)
+                ≡ firstBad (behindLines 5 n) (suc (suc (suc (suc (suc line))))) (ahead s e)
+            scan-5 n line = scan-4 n line ∙ scan-on narrowReason s d (behindLines 4 n) _ [] refl l5 (reason-there (l5 .value))
+                (suc (suc (suc (suc line))))
 
             bad-6 : NoLine figureOrDash s e (text dueKey) → (n line : ℕ) → firstBad (behindLines 0 n) line (ahead s at) ≡ line + 5
-            bad-6 l n line = scan-5 n line ∙ scan-off figureOrDash s e (behindLines 5 n) _ refl (λ m x. refl) (λ v. refl) l (suc (suc (suc (suc (suc line))))) ∙ (let e : suc (suc (suc (suc (suc line)))) ≡ line + 5 = omega arith in e)
+            bad-6 l n line = scan-5 n line ∙ scan-off figureOrDash s e (behindLines 5 n) _ refl (λ m x. refl) (λ v. refl) l
+                (suc (suc (suc (suc (suc line))))) ∙ (let e : suc (suc (suc (suc (suc line)))) ≡ line + 5 = omega arith in e)
 
             pub stop-6 : NoLine figureOrDash s e (text dueKey) → (r : Record) → r .good ≡ 5 → RecordRead s at r
             stop-6 l = stopped-at s at 5 (omega arith) (bad-6 l)
 
             module _ {due f : ℕ} (l6 : LineIs figureOrDash s e (text dueKey) due f) where
-              scan-6 : (n line : ℕ) → firstBad (behindLines 0 n) line (ahead s at) ≡ firstBad (behindLines 6 n) (suc (suc (suc (suc (suc (suc line)))))) (ahead s f)
-              scan-6 n line = scan-5 n line ∙ scan-on figureOrDash s e (behindLines 5 n) _ [] refl l6 refl (suc (suc (suc (suc (suc line)))))
+              scan-6 : (n line : ℕ) → firstBad (behindLines 0 n) line (ahead s at)
+                  ≡ firstBad (behindLines 6 n) (suc (suc (suc (suc (suc (suc line)))))) (ahead s f)
+              scan-6 n line = scan-5 n line ∙ scan-on figureOrDash s e (behindLines 5 n) _ [] refl l6 refl
+                  (suc (suc (suc (suc (suc line)))))
 
               bad-7 : NoLine figureOrDash s f (text intervalKey) → (n line : ℕ) → firstBad (behindLines 0 n) line (ahead s at) ≡ line + 6
-              bad-7 l n line = scan-6 n line ∙ scan-off figureOrDash s f (behindLines 6 n) _ refl (λ m x. refl) (λ v. refl) l (suc (suc (suc (suc (suc (suc line)))))) ∙ (let e : suc (suc (suc (suc (suc (suc line))))) ≡ line + 6 = omega arith in e)
+              bad-7 l n line = scan-6 n line ∙ scan-off figureOrDash s f (behindLines 6 n) _ refl (λ m x. refl) (λ v. refl) l
+                  (suc (suc (suc (suc (suc (suc line)))))) ∙ (let e : suc (suc (suc (suc (suc (suc line))))) ≡ line + 6 = omega arith in e)
 
               pub stop-7 : NoLine figureOrDash s f (text intervalKey) → (r : Record) → r .good ≡ 6 → RecordRead s at r
               stop-7 l = stopped-at s at 6 (omega arith) (bad-7 l)
 
               module _ {interval g : ℕ} (l7 : LineIs figureOrDash s f (text intervalKey) interval g) where
-                scan-7 : (n line : ℕ) → firstBad (behindLines 0 n) line (ahead s at) ≡ firstBad (behindLines 7 n) (suc (suc (suc (suc (suc (suc (suc line))))))) (ahead s g)
-                scan-7 n line = scan-6 n line ∙ scan-on figureOrDash s f (behindLines 6 n) _ [] refl l7 refl (suc (suc (suc (suc (suc (suc line))))))
+                scan-7 : (n line : ℕ) → firstBad (behindLines 0 n) line (ahead s at)
+                    ≡ firstBad (behindLines 7 n) (suc (suc (suc (suc (suc (suc (suc line))))))) (ahead s g)
+                scan-7 n line = scan-6 n line ∙ scan-on figureOrDash s f (behindLines 6 n) _ [] refl l7 refl
+                    (suc (suc (suc (suc (suc (suc line))))))
 
-                cut-1 : ahead s at ≡ (text idKey ++ (61 ∷ l1 .value)) ∷ (text nameKey ++ (61 ∷ l2 .value)) ∷ (text priorityKey ++ (61 ∷ l3 .value))
-                    ∷ (text stateKey ++ (61 ∷ l4 .value)) ∷ (text whyKey ++ (61 ∷ l5 .value)) ∷ (text dueKey ++ (61 ∷ l6 .value)) ∷ (text intervalKey ++ (61 ∷ l7 .value)) ∷ ahead s g
+                cut-1 : ahead s at ≡ (text idKey ++ (61 ∷ l1 .value)) ∷ (text nameKey ++ (61 ∷ l2 .value)) ∷
+                    (text priorityKey ++ (61 ∷ l3 .value))
+                    ∷ (text stateKey ++ (61 ∷ l4 .value)) ∷ (text whyKey ++ (61 ∷ l5 .value)) ∷ (text dueKey ++ (61 ∷ l6 .value)) ∷
+                    (text intervalKey ++ (61 ∷ l7 .value)) ∷ ahead s g
                 cut-1 =
                     l1 .cut ∙ ap (λ (x : List (List ℕ)). (text idKey ++ (61 ∷ l1 .value)) ∷ x) (l2 .cut
                     ∙ ap (λ (x : List (List ℕ)). (text nameKey ++ (61 ∷ l2 .value)) ∷ x) (l3 .cut
@@ -152,13 +169,15 @@ module _ (s : List ℕ) (at : ℕ) where
                 told : Program
                 told = recorded (some nm) (some priority) (some state) (reasonOf (l5 .value)) (some due) (some interval)
 
-                record-says : (n : ℕ) (a : State lists) → recordsSaid (suc n) a (ahead s at) ≡ recordsSaid n (withRecord id told a) (ahead s g)
+                record-says : (n : ℕ) (a : State lists) → recordsSaid (suc n) a (ahead s at)
+                    ≡ recordsSaid n (withRecord id told a) (ahead s g)
                 unfolding told
                 record-says n a =
                     ap (recordsSaid (suc n) a) cut-1
                     ∙ seven (l1 .value) (l2 .value) (l3 .value) (l4 .value) (l5 .value) (l6 .value) (l7 .value) (ahead s g) n a
                     ∙ (λ i. recordsSaid n (withRecord (otherwise 0 (l1 .shaped i))
-                    (recorded (l2 .shaped i) (l3 .shaped i) (l4 .shaped i) (reasonOf (l5 .value)) (l6 .shaped i) (l7 .shaped i)) a) (ahead s g))
+                    (recorded (l2 .shaped i) (l3 .shaped i) (l4 .shaped i) (reasonOf (l5 .value)) (l6 .shaped i) (l7 .shaped i)) a)
+                    (ahead s g))
 
                 -- the record that the code makes of them
                 pub record-read : (r : Record) → r .good ≡ 7 → r .at ≡ g → r .id ≡ id
@@ -173,8 +192,10 @@ module _ (s : List ℕ) (at : ℕ) where
                             (reason-is (reasonOf (l5 .value)) why (l5 .shaped));
                         beyond = omega (arith, l1 .beyond, l2 .beyond, l3 .beyond, l4 .beyond, l5 .beyond, l6 .beyond, l7 .beyond, e₂);
                         within = omega (arith, l7 .within, e₂);
-                        scan = λ n line. scan-7 n line ∙ ap₂ (λ (x y : ℕ). firstBad (recordsAhead n) x (ahead s y)) (let e : suc (suc (suc (suc (suc (suc (suc line)))))) ≡ line + 7 = omega arith in e) (sym e₂);
-                        says = λ n a. record-says n a ∙ ap₂ (λ (x y : ℕ). recordsSaid n (withRecord x told a) (ahead s y)) (sym e₃) (sym e₂);
+                        scan = λ n line. scan-7 n line ∙ ap₂ (λ (x y : ℕ). firstBad (recordsAhead n) x (ahead s y))
+                            (let e : suc (suc (suc (suc (suc (suc (suc line)))))) ≡ line + 7 = omega arith in e) (sym e₂);
+                        says = λ n a. record-says n a ∙ ap₂ (λ (x y : ℕ). recordsSaid n (withRecord x told a) (ahead s y)) (sym e₃)
+                            (sym e₂);
                       };
                       most = omega (arith, e₁);
                       stops = λ h. absurd (omega (arith, e₁));

@@ -56,7 +56,8 @@ holds-as t a b e k =
     }
 
 keeps-as : (t : records.Numbers) (a b : State lists) → a .book ≡ b .book → Keeps t b → Keeps t a
-keeps-as t a b e k = subst (λ (x : Book). Keeps t (record { book = x; kept = a .kept })) (sym e) (record { table = k .table; long = k .long })
+keeps-as t a b e k = subst (λ (x : Book). Keeps t (record { book = x; kept = a .kept })) (sym e)
+    (record { table = k .table; long = k .long })
 
 -- nothing stands from there on
 nothing : reading [] ≡ notRead 1
@@ -119,7 +120,8 @@ module _ (s : List ℕ) (at : ℕ) where
               kept₂ : Keeps u a₂
               kept₂ =
                   keeps-as u a₂ a₁ (chains-book chained (C .told) a₁)
-                  (let k = subst (λ (x : records.Numbers). Keeps x a₀) (sym uf) (fresh-keeps (h .clock) (h .tracks) (h .system) (h .numbers)) in
+                  (let k = subst (λ (x : records.Numbers). Keeps x a₀) (sym uf)
+                  (fresh-keeps (h .clock) (h .tracks) (h .system) (h .numbers)) in
                   record { table = k .table; long = k .long })
 
               abbrev a₃ : State lists
@@ -136,7 +138,8 @@ module _ (s : List ℕ) (at : ℕ) where
                   H .says ∙ R .says a₀ (started-programs (h .clock) (h .tracks) (h .system) (h .numbers)) ∙ C .says a₁
                   ∙ D .of a₂ held₂ .says ∙ N .of a₃ kept₃ .says ∙ E .says refl a₄
 
-              tables-are : (x : Tables) → x .ledger .programs ≡ r .programs → x .ledger .clock .ticks ≡ h .clock → x .ledger .tracks ≡ d .tracks
+              tables-are : (x : Tables) → x .ledger .programs ≡ r .programs → x .ledger .clock .ticks ≡ h .clock
+                  → x .ledger .tracks ≡ d .tracks
                   → x .ledger .numbers ≡ n .numbers → x .links ≡ c .links → x ≡ lay (narrow a₄)
               tables-are x P K T U L =
                   let b = chains-book chained (C .told) a₁ in
@@ -148,7 +151,8 @@ module _ (s : List ℕ) (at : ℕ) where
                   (L ∙ C .held ∙ sym (links-these a₁ refl (C .told)))
 
               -- all lines are well formed
-              pub whole-page : EndRead s (n .at) (n .line) 0 → (x : Tables) → x .ledger .programs ≡ r .programs → x .ledger .clock .ticks ≡ h .clock
+              pub whole-page : EndRead s (n .at) (n .line) 0 → (x : Tables) → x .ledger .programs ≡ r .programs
+                  → x .ledger .clock .ticks ≡ h .clock
                   → x .ledger .tracks ≡ d .tracks → x .ledger .numbers ≡ n .numbers → x .links ≡ c .links
                   → {y : Result} → y ≡ judged (drop at s) 0 x → y ≡ reading (drop at s)
               unfolding reading

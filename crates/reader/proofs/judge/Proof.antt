@@ -44,19 +44,25 @@ approved c = sym (c .before .is-sound .ensures) ∙ not-false (c .before .is-sou
 fits : (c : tie.After-space) → CanPage (c .before .before .before .before .args .tables) (replicate {A = ℕ} pageRoom 0)
 fits c =
     let s = c .before .before .before .before in
-    can-page (s .args .tables) (replicate {A = ℕ} pageRoom 0) (arrays s) (approved (c .before)) (omega (arith, length-replicate {A = ℕ} pageRoom 0))
+    can-page (s .args .tables) (replicate {A = ℕ} pageRoom 0) (arrays s) (approved (c .before))
+    (omega (arith, length-replicate {A = ℕ} pageRoom 0))
 
 within : (c : tie.After-put-page) → c .put-page .result ≤ length (c .put-page .last .0)
 within c = omega (arith, c .put-page .ensures .place, wrote-length (c .put-page .ensures), fits (c .before) .room)
 
-begins : (c : tie.After-put-page) → take (c .put-page .result) (c .put-page .last .0) ≡ page (plain (c .before .before .before .before .before .args .tables))
+begins : (c : tie.After-put-page) → take (c .put-page .result) (c .put-page .last .0)
+    ≡ page (plain (c .before .before .before .before .before .args .tables))
 begins c = wrote-take (c .put-page .ensures) (fits (c .before) .room)
 
 -- what was compared
 compared : (c : tie.After-is-word)
-    → alike (drop (c .before .before .before .before .before .before .before .before .args .at) (c .before .before .before .before .before .before .before .before .args .s .now)) (page (plain (c .before .before .before .before .before .before .before .before .args .tables))) ≡ c .is-word .result
+    → alike (drop (c .before .before .before .before .before .before .before .before .args .at)
+    (c .before .before .before .before .before .before .before .before .args .s .now))
+    (page (plain (c .before .before .before .before .before .before .before .before .args .tables))) ≡ c .is-word .result
 compared c =
-    ap₂ alike (ap (drop (c .before .before .before .before .before .before .before .before .args .at)) (sym (take-length (c .before .before .before .before .before .before .before .before .args .s .now)))) (sym (begins (c .before .before .before)))
+    ap₂ alike (ap (drop (c .before .before .before .before .before .before .before .before .args .at))
+    (sym (take-length (c .before .before .before .before .before .before .before .before .args .s .now))))
+    (sym (begins (c .before .before .before)))
     ∙ sym (c .is-word .ensures)
 
 -- src/lib.rt:41:9
@@ -70,7 +76,8 @@ not-read-requires c κs = search needs
 -- src/lib.rt:42:9
 returns : tie.Need-returns
 returns c =
-    unsound _ _ (sym (c .before .before .is-sound .ensures) ∙ not-true (c .before .before .is-sound .result) (c .before .if1 .taken)) (c .not-read .ensures)
+    unsound _ _ (sym (c .before .before .is-sound .ensures) ∙ not-true (c .before .before .is-sound .result) (c .before .if1 .taken))
+    (c .not-read .ensures)
 
 -- src/lib.rt:45:28
 slice-aggregate-put-page : tie.Need-slice-aggregate-put-page
@@ -102,12 +109,14 @@ not-read-requires-2 c κs = search needs
 -- src/lib.rt:47:9
 returns-2 : tie.Need-returns-2
 returns-2 c =
-    other-bytes _ _ (approved (c .before .before .before .before .before .before .before)) (compared (c .before .before) ∙ not-true (c .before .before .is-word .result) (c .before .if2 .taken)) (c .not-read2 .ensures)
+    other-bytes _ _ (approved (c .before .before .before .before .before .before .before))
+    (compared (c .before .before) ∙ not-true (c .before .before .is-word .result) (c .before .if2 .taken)) (c .not-read2 .ensures)
 
 -- src/lib.rt:37:1
 returns-3 : tie.Need-returns-3
 returns-3 c =
-    these-bytes _ _ (approved (c .before .before .before .before .before .before)) (compared (c .before) ∙ not-false (c .before .is-word .result) (c .if2 .left))
+    these-bytes _ _ (approved (c .before .before .before .before .before .before))
+    (compared (c .before) ∙ not-false (c .before .is-word .result) (c .if2 .left))
 
 pub judge-spec : {M : Type 1} → statement M
 judge-spec =

@@ -44,20 +44,26 @@ head : (e : tie.Else2) → HeadIs (start-2 e .args .s .now) (start-2 e .args .at
 head e = e .before .before .read-head .ensures .read (omega arith)
 
 records : (e : tie.Else3)
-    → RecordsAre (start-3 e .args .s .now) (e .before .before .before .before .before .read-head .result .at) 7 (e .before .before .before .before .before .read-head .result .programs) (e .before .before .read-records .result)
+    → RecordsAre (start-3 e .args .s .now) (e .before .before .before .before .before .read-head .result .at) 7
+    (e .before .before .before .before .before .read-head .result .programs) (e .before .before .read-records .result)
 records e = e .before .before .read-records .ensures .read (omega arith)
 
 chains : (e : tie.Else4)
-    → ChainsAre (start-4 e .args .s .now) (e .before .before .before .before .before .read-records .result .at) (e .before .before .before .before .before .read-records .result .line) (e .before .before .read-chains .result)
+    → ChainsAre (start-4 e .args .s .now) (e .before .before .before .before .before .read-records .result .at)
+    (e .before .before .before .before .before .read-records .result .line) (e .before .before .read-chains .result)
 chains e = e .before .before .read-chains .ensures .read (omega arith)
 
 held : (e : tie.Else5)
-    → HeldIs (start-5 e .args .s .now) (e .before .before .before .before .before .before .before .before .read-chains .result .at) (e .before .before .before .before .before .before .before .before .read-chains .result .line) (e .before .before .before .before .before .fresh .result .tables .ledger .tracks)
+    → HeldIs (start-5 e .args .s .now) (e .before .before .before .before .before .before .before .before .read-chains .result .at)
+    (e .before .before .before .before .before .before .before .before .read-chains .result .line)
+    (e .before .before .before .before .before .fresh .result .tables .ledger .tracks)
     (e .before .before .read-held .result)
 held e = e .before .before .read-held .ensures .read (omega arith)
 
 numbered : (e : tie.Else6)
-    → NumbersAre (start-6 e .args .s .now) (e .before .before .before .before .before .read-held .result .at) (e .before .before .before .before .before .read-held .result .line) (e .before .before .before .before .before .before .before .before .fresh .result .tables .ledger .numbers)
+    → NumbersAre (start-6 e .args .s .now) (e .before .before .before .before .before .read-held .result .at)
+    (e .before .before .before .before .before .read-held .result .line)
+    (e .before .before .before .before .before .before .before .before .fresh .result .tables .ledger .numbers)
     (e .before .before .read-numbers .result)
 numbered e = e .before .before .read-numbers .ensures .read (omega arith)
 
@@ -117,7 +123,8 @@ returns-4 c =
     let r = c .before .before .before .before in
     let s = start-3 r in
     laws.bad-page (s .args .s .now) (s .args .at) _ (omega arith)
-    (laws.bad-chains _ _ _ (head (r .before .before .before)) _ (records r) _ (c .before .before .before .read-chains .ensures) (omega arith)) (c .not-read4 .ensures)
+    (laws.bad-chains _ _ _ (head (r .before .before .before)) _ (records r) _ (c .before .before .before .read-chains .ensures)
+    (omega arith)) (c .not-read4 .ensures)
 
 -- src/lib.rt:74:9
 fresh-requires : tie.Need-fresh-requires
@@ -125,8 +132,11 @@ fresh-requires c κs = search needs
 
 -- src/lib.rt:77:9
 read-held-requires : tie.Need-read-held-requires
-read-held-requires c κs =
-    (chains (c .before .before .before) .onward, subst Fit (sym (ap (λ (r : Result). r .tables .ledger .tracks) (c .before .before .fresh .ensures))) (fresh-tracks-fit 0 _ _ _))
+read-held-requires c κs = (
+  chains (c .before .before .before) .onward,
+  subst Fit (sym
+      (ap (λ (r : Result). r .tables .ledger .tracks) (c .before .before .fresh .ensures))) (fresh-tracks-fit 0 _ _ _),
+)
 
 -- src/lib.rt:79:9
 not-read-requires-5 : tie.Need-not-read-requires-5
@@ -138,12 +148,16 @@ returns-5 c =
     let k = c .before .before .before .before .before .before .before in
     let s = start-4 k in
     laws.bad-page (s .args .s .now) (s .args .at) _ (omega arith)
-    (laws.bad-held _ _ _ (head (k .before .before .before .before .before .before)) _ (records (k .before .before .before)) _ (chains k) _ _ (c .before .before .before .read-held .ensures) (omega arith)) (c .not-read5 .ensures)
+    (laws.bad-held _ _ _ (head (k .before .before .before .before .before .before)) _ (records (k .before .before .before)) _
+    (chains k) _ _ (c .before .before .before .read-held .ensures) (omega arith)) (c .not-read5 .ensures)
 
 -- src/lib.rt:81:9
 read-numbers-requires : tie.Need-read-numbers-requires
-read-numbers-requires c κs =
-    (held c .onward, subst numbers.Fit (sym (ap (λ (r : Result). r .tables .ledger .numbers) (c .before .before .before .before .before .fresh .ensures))) (fresh-numbers-fit 0 _ _ _))
+read-numbers-requires c κs = (
+  held c .onward,
+  subst numbers.Fit (sym (ap (λ (r : Result). r .tables .ledger .numbers)
+      (c .before .before .before .before .before .fresh .ensures))) (fresh-numbers-fit 0 _ _ _),
+)
 
 -- src/lib.rt:83:9
 not-read-requires-6 : tie.Need-not-read-requires-6
@@ -156,7 +170,8 @@ returns-6 c =
     let k = d .before .before .before .before .before .before in
     let s = start-5 d in
     laws.bad-page (s .args .s .now) (s .args .at) _ (omega arith)
-    (laws.bad-numbers _ _ _ (head (k .before .before .before .before .before .before)) _ (records (k .before .before .before)) _ (chains k) _ _ (held d) _ _ (c .before .before .before .read-numbers .ensures) (omega arith))
+    (laws.bad-numbers _ _ _ (head (k .before .before .before .before .before .before)) _ (records (k .before .before .before)) _
+    (chains k) _ _ (held d) _ _ (c .before .before .before .read-numbers .ensures) (omega arith))
     (c .not-read6 .ensures)
 
 -- src/lib.rt:85:9
@@ -176,7 +191,8 @@ returns-7 c =
     let k = d .before .before .before .before .before .before in
     let s = start-6 n in
     laws.bad-page (s .args .s .now) (s .args .at) _ (omega arith)
-    (laws.bad-end _ _ _ (head (k .before .before .before .before .before .before)) _ (records (k .before .before .before)) _ (chains k) _ _ (held d) _ _ (numbered n) _ (c .before .before .read-end .ensures)) (c .not-read7 .ensures)
+    (laws.bad-end _ _ _ (head (k .before .before .before .before .before .before)) _ (records (k .before .before .before)) _
+    (chains k) _ _ (held d) _ _ (numbered n) _ (c .before .before .read-end .ensures)) (c .not-read7 .ensures)
 
 -- src/lib.rt:95:16
 from-ticks-requires : tie.Need-from-ticks-requires
@@ -196,9 +212,14 @@ returns-8 c =
     let k = d .before .before .before .before .before .before in
     let s = start-6 n in
     let f = d .before .before .before .before .before .fresh .ensures in
-    laws.whole-page (s .args .s .now) (s .args .at) _ (head (k .before .before .before .before .before .before)) _ (records (k .before .before .before)) _ (chains k) _ _ (held d) _ _ (numbered n)
+    laws.whole-page (s .args .s .now) (s .args .at) _ (head (k .before .before .before .before .before .before)) _
+    (records (k .before .before .before)) _ (chains k) _ _ (held d) _ _ (numbered n)
     (ap (λ (r : Result). r .tables .ledger .tracks) f) (ap (λ (r : Result). r .tables .ledger .numbers) f)
-    (subst (EndRead (s .args .s .now) (n .before .before .read-numbers .result .at) (n .before .before .read-numbers .result .line)) (let e : c .before .before .before .before .before .before .before .read-end .result ≡ 0 = omega (arith, c .before .before .before .before .before .before .if7 .left) in e) (c .before .before .before .before .before .before .before .read-end .ensures)) _ refl (c .before .from-ticks .ensures) refl refl refl
+    (subst (EndRead (s .args .s .now) (n .before .before .read-numbers .result .at) (n .before .before .read-numbers .result .line))
+    (let e : c .before .before .before .before .before .before .before .read-end .result
+    ≡ 0 = omega (arith, c .before .before .before .before .before .before .if7 .left) in e)
+    (c .before .before .before .before .before .before .before .read-end .ensures)) _ refl
+    (c .before .from-ticks .ensures) refl refl refl
     (c .judge .ensures)
 
 pub read-from-spec : {M : Type 1} → statement M

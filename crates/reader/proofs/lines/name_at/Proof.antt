@@ -48,19 +48,22 @@ enum-told-2 c = search needs
 -- src/lines.rt:89:9
 returns-2 : tie.Need-returns-2
 returns-2 c =
-    let v = subst (ValueAt _ _ _) (c .before .before .before .before .from .given .1) (c .before .before .before .before .before .before .value-at .ensures) in
+    let v = subst (ValueAt _ _ _) (c .before .before .before .before .from .given .1)
+    (c .before .before .before .before .before .before .value-at .ensures) in
     line-unshaped nameOf v (sym (c .before .before .read-name .ensures) ∙ ap named (c .enum-told2 .given .1))
 
 -- src/lines.rt:91:33
 add-t13 : tie.Need-add-t13
 add-t13 c =
-    let v = subst (ValueAt _ _ _) (c .before .before .before .before .before .from .given .1) (c .before .before .before .before .before .before .before .value-at .ensures) in
+    let v = subst (ValueAt _ _ _) (c .before .before .before .before .before .from .given .1)
+    (c .before .before .before .before .before .before .before .value-at .ensures) in
     omega (arith, v .high)
 
 -- src/lines.rt:81:1
 returns-3 : tie.Need-returns-3
 returns-3 c =
-    let v = subst (ValueAt _ _ _) (c .before .before .before .before .before .from .given .1) (c .before .before .before .before .before .before .before .value-at .ensures) in
+    let v = subst (ValueAt _ _ _) (c .before .before .before .before .before .from .given .1)
+    (c .before .before .before .before .before .before .before .value-at .ensures) in
     line-shaped nameOf v (sym (c .before .before .before .read-name .ensures) ∙ ap named (c .before .a .given .1))
 
 pub name-at-spec : {M : Type 1} → statement M

@@ -46,19 +46,22 @@ enum-told-2 c = search needs
 -- src/lines.rt:102:9
 returns-2 : tie.Need-returns-2
 returns-2 c =
-    let v = subst (ValueAt _ _ _) (c .before .before .before .before .from .given .1) (c .before .before .before .before .before .before .value-at .ensures) in
+    let v = subst (ValueAt _ _ _) (c .before .before .before .before .from .given .1)
+    (c .before .before .before .before .before .before .value-at .ensures) in
     line-unshaped narrowReason v (sym (c .before .before .read-reason .ensures) ∙ ap reasonRead (c .enum-told2 .given .1))
 
 -- src/lines.rt:104:25
 add-t9 : tie.Need-add-t9
 add-t9 c =
-    let v = subst (ValueAt _ _ _) (c .before .before .before .before .before .from .given .1) (c .before .before .before .before .before .before .before .value-at .ensures) in
+    let v = subst (ValueAt _ _ _) (c .before .before .before .before .before .from .given .1)
+    (c .before .before .before .before .before .before .before .value-at .ensures) in
     omega (arith, v .high)
 
 -- src/lines.rt:94:1
 returns-3 : tie.Need-returns-3
 returns-3 c =
-    let v = subst (ValueAt _ _ _) (c .before .before .before .before .before .from .given .1) (c .before .before .before .before .before .before .before .value-at .ensures) in
+    let v = subst (ValueAt _ _ _) (c .before .before .before .before .before .from .given .1)
+    (c .before .before .before .before .before .before .before .value-at .ensures) in
     line-shaped narrowReason v (sym (c .before .before .before .read-reason .ensures) ∙ ap reasonRead (c .before .why .given .1))
 
 pub reason-at-spec : {M : Type 1} → statement M

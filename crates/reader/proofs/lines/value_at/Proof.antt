@@ -59,7 +59,8 @@ returns-4 : tie.Need-returns-4
 returns-4 c =
     let h = c .before .before .before .before in
     let p = h .before .before .before .before .part-end .ensures in
-    value-other _ _ _ _ p (omega (arith, p .high)) _ (h .before .before .behind .ensures .at _ (h .i .given .1)) (λ e. omega arith) (λ e. omega arith)
+    value-other _ _ _ _ p (omega (arith, p .high)) _ (h .before .before .behind .ensures .at _ (h .i .given .1)) (λ e. omega arith)
+    (λ e. omega arith)
 
 -- src/lines.rt:52:15
 add-t6 : tie.Need-add-t6

@@ -39,19 +39,22 @@ is-word-requires c κs =
 -- src/lines.rt:116:9
 returns-2 : tie.Need-returns-2
 returns-2 c =
-    let v = subst (ValueAt _ _ _) (c .before .before .before .from .given .1) (c .before .before .before .before .before .value-at .ensures) in
+    let v = subst (ValueAt _ _ _) (c .before .before .before .from .given .1)
+    (c .before .before .before .before .before .value-at .ensures) in
     line-unshaped (wordIs _) v (ap wordIf (sym (c .before .is-word .ensures) ∙ not-true (c .before .is-word .result) (c .if1 .taken)))
 
 -- src/lines.rt:118:15
 add-t10 : tie.Need-add-t10
 add-t10 c =
-    let v = subst (ValueAt _ _ _) (c .before .before .before .from .given .1) (c .before .before .before .before .before .value-at .ensures) in
+    let v = subst (ValueAt _ _ _) (c .before .before .before .from .given .1)
+    (c .before .before .before .before .before .value-at .ensures) in
     omega (arith, v .high)
 
 -- src/lines.rt:108:1
 returns-3 : tie.Need-returns-3
 returns-3 c =
-    let v = subst (ValueAt _ _ _) (c .before .before .before .from .given .1) (c .before .before .before .before .before .value-at .ensures) in
+    let v = subst (ValueAt _ _ _) (c .before .before .before .from .given .1)
+    (c .before .before .before .before .before .value-at .ensures) in
     line-shaped (wordIs _) v (ap wordIf (sym (c .before .is-word .ensures) ∙ not-false (c .before .is-word .result) (c .if1 .left)))
 
 pub word-at-spec : {M : Type 1} → statement M

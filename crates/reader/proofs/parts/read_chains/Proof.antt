@@ -31,8 +31,10 @@ nextly c = next-of (c .before .loop .i) (omega arith)
 
 -- the value of its line
 found : (c : tie.After-from Inv-loop μ-loop)
-    → ValueIs (c .before .before .before .before .before .before .before .before .args .s .now) (c .before .before .before .before .before .before .loop .o)
-    (keyOfChain (getD chained (c .before .before .before .before .before .before .loop .i) 0)) (c .from .given .0 .0) (c .from .given .0 .1 .0)
+    → ValueIs (c .before .before .before .before .before .before .before .before .args .s .now)
+    (c .before .before .before .before .before .before .loop .o)
+    (keyOfChain (getD chained (c .before .before .before .before .before .before .loop .i) 0)) (c .from .given .0 .0)
+    (c .from .given .0 .1 .0)
 found c =
     value-as (c .before .before .before .before .chain-key .ensures)
     (subst (ValueAt _ _ _) (c .from .given .1) (c .before .before .value-at .ensures))
@@ -94,7 +96,10 @@ read-chain-requires c κs =
 returns-2 : tie.Need-returns-2 Inv-loop μ-loop
 returns-2 c =
     let v = found (c .before .before .before .before) in
-    bad-chain (c .before .before .before .before .before .before .before .before .before .before .loop .inv .0) _ (nextly (c .before .before .before .before .before .before .before .before .before)) (line-unshaped listed v (c .before .before .read-chain .ensures .nay (not-true (c .before .before .read-chain .result .ok) (c .if1 .taken)))) _ refl
+    bad-chain (c .before .before .before .before .before .before .before .before .before .before .loop .inv .0) _
+    (nextly (c .before .before .before .before .before .before .before .before .before))
+    (line-unshaped listed v (c .before .before .read-chain .ensures .nay
+    (not-true (c .before .before .read-chain .result .ok) (c .if1 .taken)))) _ refl
 
 -- src/parts.rt:256:13
 add-o : tie.Need-add-o Inv-loop μ-loop
@@ -122,7 +127,9 @@ loop-less c =
 loop-again : tie.Need-loop-again Inv-loop μ-loop
 loop-again c =
     let v = found (c .before .before .before .before .before) in (
-      one-read (c .before .before .before .before .before .before .before .before .before .before .before .loop .inv .0) _ (nextly (c .before .before .before .before .before .before .before .before .before .before)) _ _ v _ (c .before .before .before .read-chain .ensures)
+      one-read (c .before .before .before .before .before .before .before .before .before .before .before .loop .inv .0) _
+          (nextly (c .before .before .before .before .before .before .before .before .before .before)) _ _ v _
+          (c .before .before .before .read-chain .ensures)
           (not-false (c .before .before .before .read-chain .result .ok) (c .before .if1 .left)),
       omega arith,
     )

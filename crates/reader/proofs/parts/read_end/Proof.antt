@@ -34,7 +34,9 @@ enum-told c = search needs
 -- src/parts.rt:360:9
 returns : tie.Need-returns
 returns c =
-    no-end _ _ _ (c .before .before .before .before .before .before .pre .0 .some) (c .before .before .before .before .before .before .pre .1) (subst (WordAt _ _ _ _) (c .enum-told .given .1) (c .before .before .word-at .ensures))
+    no-end _ _ _ (c .before .before .before .before .before .before .pre .0 .some)
+    (c .before .before .before .before .before .before .pre .1)
+    (subst (WordAt _ _ _ _) (c .enum-told .given .1) (c .before .before .word-at .ensures))
 
 -- src/parts.rt:363:16
 add-result : tie.Need-add-result
@@ -43,12 +45,14 @@ add-result c = search needs
 -- src/parts.rt:363:9
 returns-2 : tie.Need-returns-2
 returns-2 c =
-    more-behind _ _ _ _ (subst (WordAt _ _ _ _) (c .before .before .o .given .1) (c .before .before .before .before .word-at .ensures)) (omega arith)
+    more-behind _ _ _ _ (subst (WordAt _ _ _ _) (c .before .before .o .given .1) (c .before .before .before .before .word-at .ensures))
+    (omega arith)
 
 -- src/parts.rt:354:1
 returns-3 : tie.Need-returns-3
 returns-3 c =
-    all-over _ _ _ _ (subst (WordAt _ _ _ _) (c .before .before .o .given .1) (c .before .before .before .before .word-at .ensures)) (omega arith)
+    all-over _ _ _ _ (subst (WordAt _ _ _ _) (c .before .before .o .given .1) (c .before .before .before .before .word-at .ensures))
+    (omega arith)
 
 pub read-end-spec : {M : Type 1} → statement M
 read-end-spec =

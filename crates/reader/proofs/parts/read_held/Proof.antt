@@ -30,19 +30,22 @@ abbrev μ-loop : tie.MeasureT-loop
 
 -- the value of the line
 found : (c : tie.After-from Inv-loop μ-loop)
-    → ValueIs (c .before .before .before .before .before .before .before .args .s .now) (c .before .before .before .before .before .loop .o) (text heldKey) (c .from .given .0 .0) (c .from .given .0 .1 .0)
+    → ValueIs (c .before .before .before .before .before .before .before .args .s .now)
+    (c .before .before .before .before .before .loop .o) (text heldKey) (c .from .given .0 .0) (c .from .given .0 .1 .0)
 found c = subst (ValueAt _ _ _) (c .from .given .1) (c .before .before .value-at .ensures)
 
 -- the table with the run that was read
 put : (c : tie.Joined1 Inv-loop μ-loop)
-    → c .if1 .table ≡ putRun (c .before .before .before .before .before .before .before .before .before .before .before .loop .table) (c .before .before .first .given .0 .0) (c .before .before .first .given .0 .1 .0) (c .before .before .first .given .0 .1 .1 .0)
+    → c .if1 .table ≡ putRun (c .before .before .before .before .before .before .before .before .before .before .before .loop .table)
+    (c .before .before .first .given .0 .0) (c .before .before .first .given .0 .1 .0) (c .before .before .first .given .0 .1 .1 .0)
 put c =
     let t : Tracks = c .before .before .before .before .before .before .before .before .before .before .before .loop .table in
     let i : ℕ = c .before .before .first .given .0 .0 in
     let j : ℕ = c .before .before .first .given .0 .1 .0 in
     let h : ℕ = c .before .before .first .given .0 .1 .1 .0 in
     elim (c .if1 .came) [
-      | inl w ↦ w .4 ∙ w .3 .ensures ∙ put-in t i j h (j - i + 1) (omega (arith, w .0 .taken)) (omega (arith, w .2 .taken)) (omega (arith, w .0 .taken))
+      | inl w ↦ w .4 ∙ w .3 .ensures ∙ put-in t i j h (j - i + 1) (omega (arith, w .0 .taken)) (omega (arith, w .2 .taken))
+          (omega (arith, w .0 .taken))
       | inr v ↦ elim v [
         | inl w ↦ w .3 ∙ put-over t i j h (omega (arith, w .2 .left))
         | inr w ↦ w .1 ∙ put-back t i j h (omega (arith, w .0 .left))
@@ -77,7 +80,8 @@ enum-told c =
 -- src/parts.rt:280:13
 returns : tie.Need-returns Inv-loop μ-loop
 returns c =
-    all-read (c .before .before .before .before .before .loop .inv) (subst (ValueAt _ _ _) (c .enum-told .given .1) (c .before .before .value-at .ensures))
+    all-read (c .before .before .before .before .before .loop .inv)
+    (subst (ValueAt _ _ _) (c .enum-told .given .1) (c .before .before .value-at .ensures))
 
 -- src/parts.rt:287:44
 read-run-requires : tie.Need-read-run-requires Inv-loop μ-loop
@@ -98,7 +102,9 @@ enum-told-2 c =
 -- src/parts.rt:288:13
 returns-2 : tie.Need-returns-2 Inv-loop μ-loop
 returns-2 c =
-    bad-run (c .before .before .before .before .before .before .before .before .before .loop .inv) _ _ (found (c .before .before .before .before)) (no-run _ (sym (ap runRead (c .enum-told2 .given .1)) ∙ c .before .before .read-run .ensures)) _ refl
+    bad-run (c .before .before .before .before .before .before .before .before .before .loop .inv) _ _
+    (found (c .before .before .before .before)) (no-run _
+    (sym (ap runRead (c .enum-told2 .given .1)) ∙ c .before .before .read-run .ensures)) _ refl
 
 -- src/parts.rt:296:23
 cast-if2 : tie.Need-cast-if2 Inv-loop μ-loop
@@ -138,8 +144,11 @@ loop-again : tie.Need-loop-again Inv-loop μ-loop
 loop-again c =
     let r = c .before .before .before .before in
     let (g, e, h) = run-found (runIn _) _ _ _ (sym (ap runRead (c .before .before .first .given .1)) ∙ r .read-run .ensures) in
-    one-more (c .before .before .before .before .before .before .before .before .before .before .before .loop .inv) _ _ (found (c .before .before .before .before .before .before)) g e _
-    (put c ∙ sym (ap (λ (x : Run). putRun (c .before .before .before .before .before .before .before .before .before .before .before .loop .table) (x .first) (x .last) (x .holder)) h))
+    one-more (c .before .before .before .before .before .before .before .before .before .before .before .loop .inv) _ _
+    (found (c .before .before .before .before .before .before)) g e _
+    (put c ∙ sym (ap (λ (x : Run). putRun
+    (c .before .before .before .before .before .before .before .before .before .before .before .loop .table) (x .first) (x .last)
+    (x .holder)) h))
 
 -- src/parts.rt:270:1
 returns-3 : tie.Need-returns-3 Inv-loop μ-loop

@@ -30,12 +30,14 @@ abbrev μ-loop : tie.MeasureT-loop
 
 -- the value of the line
 found : (c : tie.After-from Inv-loop μ-loop)
-    → ValueIs (c .before .before .before .before .before .before .before .args .s .now) (c .before .before .before .before .before .loop .o) (text numberKey) (c .from .given .0 .0) (c .from .given .0 .1 .0)
+    → ValueIs (c .before .before .before .before .before .before .before .args .s .now)
+    (c .before .before .before .before .before .loop .o) (text numberKey) (c .from .given .0 .0) (c .from .given .0 .1 .0)
 found c = subst (ValueAt _ _ _) (c .from .given .1) (c .before .before .value-at .ensures)
 
 -- the table with the number that was read
 put : (c : tie.Joined1 Inv-loop μ-loop)
-    → c .if1 .table ≡ putNumber (c .before .before .before .before .before .before .before .before .before .before .before .loop .table) (c .before .before .r .given .0 .0) (c .before .before .r .given .0 .1 .0) (c .before .before .r .given .0 .1 .1 .0)
+    → c .if1 .table ≡ putNumber (c .before .before .before .before .before .before .before .before .before .before .before .loop .table)
+    (c .before .before .r .given .0 .0) (c .before .before .r .given .0 .1 .0) (c .before .before .r .given .0 .1 .1 .0)
 put c =
     let t : Numbers = c .before .before .before .before .before .before .before .before .before .before .before .loop .table in
     let r : ℕ = c .before .before .r .given .0 .0 in
@@ -77,7 +79,8 @@ enum-told c =
 -- src/parts.rt:322:13
 returns : tie.Need-returns Inv-loop μ-loop
 returns c =
-    all-read (c .before .before .before .before .before .loop .inv) (subst (ValueAt _ _ _) (c .enum-told .given .1) (c .before .before .value-at .ensures))
+    all-read (c .before .before .before .before .before .loop .inv)
+    (subst (ValueAt _ _ _) (c .enum-told .given .1) (c .before .before .value-at .ensures))
 
 -- src/parts.rt:329:44
 read-resource-requires : tie.Need-read-resource-requires Inv-loop μ-loop
@@ -98,7 +101,9 @@ enum-told-2 c =
 -- src/parts.rt:330:13
 returns-2 : tie.Need-returns-2 Inv-loop μ-loop
 returns-2 c =
-    bad-number (c .before .before .before .before .before .before .before .before .before .loop .inv) _ _ (found (c .before .before .before .before)) (no-number _ (sym (ap resourceRead (c .enum-told2 .given .1)) ∙ c .before .before .read-resource .ensures)) _ refl
+    bad-number (c .before .before .before .before .before .before .before .before .before .loop .inv) _ _
+    (found (c .before .before .before .before)) (no-number _
+    (sym (ap resourceRead (c .enum-told2 .given .1)) ∙ c .before .before .read-resource .ensures)) _ refl
 
 -- src/parts.rt:338:21
 cast-if2 : tie.Need-cast-if2 Inv-loop μ-loop
@@ -133,8 +138,11 @@ loop-again : tie.Need-loop-again Inv-loop μ-loop
 loop-again c =
     let r = c .before .before .before .before in
     let (x, e, h) = number-found (numbered _) _ _ _ (sym (ap resourceRead (c .before .before .r .given .1)) ∙ r .read-resource .ensures) in
-    one-more (c .before .before .before .before .before .before .before .before .before .before .before .loop .inv) _ _ (found (c .before .before .before .before .before .before)) x e _
-    (put c ∙ sym (ap (λ (y : Numbered). putNumber (c .before .before .before .before .before .before .before .before .before .before .before .loop .table) (y .number) (y .resource .owner) (y .resource .lock)) h))
+    one-more (c .before .before .before .before .before .before .before .before .before .before .before .loop .inv) _ _
+    (found (c .before .before .before .before .before .before)) x e _
+    (put c ∙ sym (ap (λ (y : Numbered). putNumber
+    (c .before .before .before .before .before .before .before .before .before .before .before .loop .table) (y .number)
+    (y .resource .owner) (y .resource .lock)) h))
 
 -- src/parts.rt:312:1
 returns-3 : tie.Need-returns-3 Inv-loop μ-loop

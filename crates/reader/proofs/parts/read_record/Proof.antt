@@ -39,27 +39,33 @@ line-1 : (c : tie.After-id)
 line-1 c = subst (FigureAt _ _ _) (c .id .given .1) (c .before .before .figure-at .ensures)
 
 line-2 : (c : tie.After-n0)
-    → LineIs nameOf (start-2 c .args .s .now) (c .before .before .before .before .before .id .given .0 .1 .0) (text nameKey) (c .n0 .given .0 .0 ∷ c .n0 .given .0 .1 .0 ∷ c .n0 .given .0 .1 .1 .0 ∷ c .n0 .given .0 .1 .1 .1 .0 ∷ c .n0 .given .0 .1 .1 .1 .1 .0 ∷ []) (c .n0 .given .0 .1 .1 .1 .1 .1 .0)
+    → LineIs nameOf (start-2 c .args .s .now) (c .before .before .before .before .before .id .given .0 .1 .0) (text nameKey)
+    (c .n0 .given .0 .0 ∷ c .n0 .given .0 .1 .0 ∷ c .n0 .given .0 .1 .1 .0 ∷ c .n0 .given .0 .1 .1 .1 .0 ∷ c .n0 .given .0 .1 .1 .1 .1 .0 ∷ []) (c .n0 .given .0 .1 .1 .1 .1 .1 .0)
 line-2 c = subst (NameAt _ _ _) (c .n0 .given .1) (c .before .before .name-at .ensures)
 
 line-3 : (c : tie.After-priority)
-    → LineIs figure (start-3 c .args .s .now) (c .before .before .before .before .before .n0 .given .0 .1 .1 .1 .1 .1 .0) (text priorityKey) (c .priority .given .0 .0) (c .priority .given .0 .1 .0)
+    → LineIs figure (start-3 c .args .s .now) (c .before .before .before .before .before .n0 .given .0 .1 .1 .1 .1 .1 .0)
+    (text priorityKey) (c .priority .given .0 .0) (c .priority .given .0 .1 .0)
 line-3 c = subst (FigureAt _ _ _) (c .priority .given .1) (c .before .before .figure-at2 .ensures)
 
 line-4 : (c : tie.After-state)
-    → LineIs figure (start-4 c .args .s .now) (c .before .before .before .before .before .priority .given .0 .1 .0) (text stateKey) (c .state .given .0 .0) (c .state .given .0 .1 .0)
+    → LineIs figure (start-4 c .args .s .now) (c .before .before .before .before .before .priority .given .0 .1 .0) (text stateKey)
+    (c .state .given .0 .0) (c .state .given .0 .1 .0)
 line-4 c = subst (FigureAt _ _ _) (c .state .given .1) (c .before .before .figure-at3 .ensures)
 
 line-5 : (c : tie.After-why)
-    → LineIs narrowReason (start-5 c .args .s .now) (c .before .before .before .before .before .state .given .0 .1 .0) (text whyKey) (c .why .given .0 .0) (c .why .given .0 .1 .0)
+    → LineIs narrowReason (start-5 c .args .s .now) (c .before .before .before .before .before .state .given .0 .1 .0) (text whyKey)
+    (c .why .given .0 .0) (c .why .given .0 .1 .0)
 line-5 c = subst (ReasonAt _ _ _) (c .why .given .1) (c .before .before .reason-at .ensures)
 
 line-6 : (c : tie.After-due)
-    → LineIs figureOrDash (start-6 c .args .s .now) (c .before .before .before .before .before .why .given .0 .1 .0) (text dueKey) (c .due .given .0 .0) (c .due .given .0 .1 .0)
+    → LineIs figureOrDash (start-6 c .args .s .now) (c .before .before .before .before .before .why .given .0 .1 .0) (text dueKey)
+    (c .due .given .0 .0) (c .due .given .0 .1 .0)
 line-6 c = subst (DashedAt _ _ _) (c .due .given .1) (c .before .before .dashed-at .ensures)
 
 line-7 : (c : tie.After-interval)
-    → LineIs figureOrDash (start-7 c .args .s .now) (c .before .before .before .before .before .due .given .0 .1 .0) (text intervalKey) (c .interval .given .0 .0) (c .interval .given .0 .1 .0)
+    → LineIs figureOrDash (start-7 c .args .s .now) (c .before .before .before .before .before .due .given .0 .1 .0) (text intervalKey)
+    (c .interval .given .0 .0) (c .interval .given .0 .1 .0)
 line-7 c = subst (DashedAt _ _ _) (c .interval .given .1) (c .before .before .dashed-at2 .ensures)
 
 returns : tie.Need-returns
@@ -76,37 +82,47 @@ returns-2 c =
 returns-3 : tie.Need-returns-3
 returns-3 c =
     let l = c .before .before .before .before .before .before in
-    laws.stop-3 _ _ (line-1 (l .before .before .before .before .before)) (line-2 l) (subst (FigureAt _ _ _) (c .before .enum-told3 .given .1) (c .before .before .before .figure-at2 .ensures)) _
+    laws.stop-3 _ _ (line-1 (l .before .before .before .before .before)) (line-2 l)
+    (subst (FigureAt _ _ _) (c .before .enum-told3 .given .1) (c .before .before .before .figure-at2 .ensures)) _
     (c .stopped3 .ensures)
 
 returns-4 : tie.Need-returns-4
 returns-4 c =
     let l = c .before .before .before .before .before .before in
-    laws.stop-4 _ _ (line-1 (l .before .before .before .before .before .before .before .before .before .before)) (line-2 (l .before .before .before .before .before)) (line-3 l) (subst (FigureAt _ _ _) (c .before .enum-told4 .given .1) (c .before .before .before .figure-at3 .ensures)) _
+    laws.stop-4 _ _ (line-1 (l .before .before .before .before .before .before .before .before .before .before))
+    (line-2 (l .before .before .before .before .before)) (line-3 l)
+    (subst (FigureAt _ _ _) (c .before .enum-told4 .given .1) (c .before .before .before .figure-at3 .ensures)) _
     (c .stopped4 .ensures)
 
 returns-5 : tie.Need-returns-5
 returns-5 c =
     let l = c .before .before .before .before .before .before in
-    laws.stop-5 _ _ (line-1 (l .before .before .before .before .before .before .before .before .before .before .before .before .before .before .before)) (line-2 (l .before .before .before .before .before .before .before .before .before .before)) (line-3 (l .before .before .before .before .before)) (line-4 l) (subst (ReasonAt _ _ _) (c .before .enum-told5 .given .1) (c .before .before .before .reason-at .ensures)) _
+    laws.stop-5 _ _ (line-1
+    (l .before .before .before .before .before .before .before .before .before .before .before .before .before .before .before))
+    (line-2 (l .before .before .before .before .before .before .before .before .before .before))
+    (line-3 (l .before .before .before .before .before)) (line-4 l)
+    (subst (ReasonAt _ _ _) (c .before .enum-told5 .given .1) (c .before .before .before .reason-at .ensures)) _
     (c .stopped5 .ensures)
 
 returns-6 : tie.Need-returns-6
 returns-6 c =
     let l = c .before .before .before .before .before .before in
-    laws.stop-6 _ _ (line-1 (l .before .before .before .before .before .before .before .before .before .before .before .before .before .before .before .before .before .before .before .before)) (line-2 (l .before .before .before .before .before .before .before .before .before .before .before .before .before .before .before)) (line-3 (l .before .before .before .before .before .before .before .before .before .before)) (line-4 (l .before .before .before .before .before)) (line-5 l) (subst (DashedAt _ _ _) (c .before .enum-told6 .given .1) (c .before .before .before .dashed-at .ensures)) _
+    laws.stop-6 _ _ (line-1
+    (l .before .before .before .before .before .before .before .before .before .before .before .before .before .before .before .before .before .before .before .before)) (line-2 (l .before .before .before .before .before .before .before .before .before .before .before .before .before .before .before)) (line-3 (l .before .before .before .before .before .before .before .before .before .before)) (line-4 (l .before .before .before .before .before)) (line-5 l) (subst (DashedAt _ _ _) (c .before .enum-told6 .given .1) (c .before .before .before .dashed-at .ensures)) _
     (c .stopped6 .ensures)
 
 returns-7 : tie.Need-returns-7
 returns-7 c =
     let l = c .before .before .before .before .before .before in
-    laws.stop-7 _ _ (line-1 (l .before .before .before .before .before .before .before .before .before .before .before .before .before .before .before .before .before .before .before .before .before .before .before .before .before)) (line-2 (l .before .before .before .before .before .before .before .before .before .before .before .before .before .before .before .before .before .before .before .before)) (line-3 (l .before .before .before .before .before .before .before .before .before .before .before .before .before .before .before)) (line-4 (l .before .before .before .before .before .before .before .before .before .before)) (line-5 (l .before .before .before .before .before)) (line-6 l) (subst (DashedAt _ _ _) (c .before .enum-told7 .given .1) (c .before .before .before .dashed-at2 .ensures)) _
+    laws.stop-7 _ _ (line-1
+    (l .before .before .before .before .before .before .before .before .before .before .before .before .before .before .before .before .before .before .before .before .before .before .before .before .before)) (line-2 (l .before .before .before .before .before .before .before .before .before .before .before .before .before .before .before .before .before .before .before .before)) (line-3 (l .before .before .before .before .before .before .before .before .before .before .before .before .before .before .before)) (line-4 (l .before .before .before .before .before .before .before .before .before .before)) (line-5 (l .before .before .before .before .before)) (line-6 l) (subst (DashedAt _ _ _) (c .before .enum-told7 .given .1) (c .before .before .before .dashed-at2 .ensures)) _
     (c .stopped7 .ensures)
 
 returns-8 : tie.Need-returns-8
 returns-8 c =
     let l = c .before .before .before in
-    laws.record-read _ _ (line-1 (l .before .before .before .before .before .before .before .before .before .before .before .before .before .before .before .before .before .before .before .before .before .before .before .before .before .before .before .before .before .before)) (line-2 (l .before .before .before .before .before .before .before .before .before .before .before .before .before .before .before .before .before .before .before .before .before .before .before .before .before)) (line-3 (l .before .before .before .before .before .before .before .before .before .before .before .before .before .before .before .before .before .before .before .before)) (line-4 (l .before .before .before .before .before .before .before .before .before .before .before .before .before .before .before)) (line-5 (l .before .before .before .before .before .before .before .before .before .before)) (line-6 (l .before .before .before .before .before)) (line-7 l) _ refl refl refl
+    laws.record-read _ _
+    (line-1 (l .before .before .before .before .before .before .before .before .before .before .before .before .before .before .before .before .before .before .before .before .before .before .before .before .before .before .before .before .before .before)) (line-2 (l .before .before .before .before .before .before .before .before .before .before .before .before .before .before .before .before .before .before .before .before .before .before .before .before .before)) (line-3 (l .before .before .before .before .before .before .before .before .before .before .before .before .before .before .before .before .before .before .before .before)) (line-4 (l .before .before .before .before .before .before .before .before .before .before .before .before .before .before .before)) (line-5 (l .before .before .before .before .before .before .before .before .before .before)) (line-6 (l .before .before .before .before .before)) (line-7 l) _ refl refl refl
     (λ i. record {
       used = true;
       name = (l .before .before .before .before .before .before .before .before .before .before .before .before .before .before .before .before .before .before .before .before .before .before .before .before .before .n0 .given .0 .0 ∷ l .before .before .before .before .before .before .before .before .before .before .before .before .before .before .before .before .before .before .before .before .before .before .before .before .before .n0 .given .0 .1 .0 ∷ l .before .before .before .before .before .before .before .before .before .before .before .before .before .before .before .before .before .before .before .before .before .before .before .before .before .n0 .given .0 .1 .1 .0 ∷ l .before .before .before .before .before .before .before .before .before .before .before .before .before .before .before .before .before .before .before .before .before .before .before .before .before .n0 .given .0 .1 .1 .1 .0 ∷ l .before .before .before .before .before .before .before .before .before .before .before .before .before .before .before .before .before .before .before .before .before .before .before .before .before .n0 .given .0 .1 .1 .1 .1 .0 ∷ []);
