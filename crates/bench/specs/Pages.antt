@@ -1,0 +1,53 @@
+-- Pages and what reading them comes to: the outline's example, and the same damaged, line by line.
+-- Assumes nothing.
+use Prim.Native.Nat.{ℕ}
+use Prim.Native.String.{String}
+use mathlib.Core.List.{List, [], _∷_, _++_}
+use Rattle.text.specs.Text.{text}
+use Rattle.tables.specs.Calls.{Result}
+use Rattle.reader.specs.Reading.{reading}
+
+-- lines, each ended by byte 10; bytes behind the last; the number and the values
+pub record Paged : Type 0 where
+  pub lines : List String
+  pub behind : List ℕ
+  pub number : ℕ
+  pub values : List ℕ
+
+unfoldable pub bytesOf : List String → List ℕ
+bytesOf [] = []
+bytesOf (l ∷ ls) = text l ++ (10 ∷ bytesOf ls)
+
+unfoldable pub readAll : List Paged → List Paged
+unfolding bytesOf
+readAll [] = []
+readAll (p ∷ ps) =
+    let r : Result = reading (bytesOf (p .lines) ++ p .behind) in
+    record { lines = p .lines; behind = p .behind; number = r .number; values = r .values } ∷ readAll ps
+
+-- the example, with some of its lines as they are given
+abbrev page : String → String → String → String → String → List String
+page tracks name chain held last =
+    "page=rte2" ∷ "clock=0" ∷ tracks ∷ "system=1" ∷ "numbers=1" ∷ "programs=1" ∷ "id=1" ∷ name ∷ "priority=10" ∷ "state=1" ∷ "why=-" ∷ "due=-"
+    ∷ "interval=-" ∷ chain ∷ "chain3=" ∷ "chain5=" ∷ "chain6=" ∷ held ∷ last ∷ []
+
+abbrev of : List String → List ℕ → ℕ → ℕ → Paged
+of ls more n v = record { lines = ls; behind = more; number = n; values = v ∷ [] }
+
+unfoldable pub pages : List Paged
+pages =
+    of (page "tracks=4" "name=WHZAT" "chain1=1" "held=1-2:1" "end=page") [] 0 0
+    ∷ of [] [] 15 1
+    ∷ of (page "tracks=04" "name=WHZAT" "chain1=1" "held=1-2:1" "end=page") [] 15 3
+    ∷ of (page "tracks=12345678901234" "name=WHZAT" "chain1=1" "held=1-2:1" "end=page") [] 15 3
+    ∷ of (page "tracks=1234567890123" "name=WHZAT" "chain1=1" "held=1-2:1" "end=page") [] 15 0
+    ∷ of (page "tracks=4" "name=WHZATS" "chain1=1" "held=1-2:1" "end=page") [] 15 8
+    ∷ of (page "tracks=4" "name=WHZAT" "chain1=1," "held=1-2:1" "end=page") [] 15 14
+    ∷ of (page "tracks=4" "name=WHZAT" "chain1=" "held=1-2:1" "end=page") [] 15 0
+    ∷ of (page "tracks=4" "name=WHZAT" "chain1=1" "held=1-1:1" "held=2-2:1") (text "end=page" ++ (10 ∷ [])) 15 0
+    ∷ of (page "tracks=4" "name=WHZAT" "chain1=1" "held=2-1:1" "end=page") [] 15 0
+    ∷ of (page "tracks=4" "name=WHZAT" "chain1=1" "held=1:1" "end=page") [] 15 18
+    ∷ of (page "tracks=4" "name=WHZAT" "chain1=1" "held=1-2:1" "end=pag") [] 15 19
+    ∷ of (page "tracks=4" "name=WHZAT" "chain1=1" "held=1-2:1" "end=page") (10 ∷ []) 15 20
+    ∷ of (page "tracks=4" "name=WHZAT" "chain1=1" "held=1-2:1" "held=3-3:global") [] 15 20
+    ∷ []
