@@ -2,7 +2,7 @@
 use Prim.Native.Nat.{ℕ}
 use mathlib.Core.Path.{_≡_, sym, _∙_}
 use mathlib.Core.List.{List}
-use Rattle.board.specs.Board.{Ran, ran, Boarded, boarded, soundly}
+use Rattle.board.specs.Board.{Ran, ran, Boarded, boarded, soundly, ReadBack, readBack}
 
 pub run-determined : (text out answer : List ℕ) (x y : Ran) → x ≡ ran text out answer → y ≡ ran text out answer → x ≡ y
 run-determined text out answer x y e f = e ∙ sym f
@@ -13,3 +13,7 @@ ask-determined tables line page answer x y e f = e ∙ sym f
 
 pub sound-determined : (tables : List ℕ) (x y : ℕ) → x ≡ soundly tables → y ≡ soundly tables → x ≡ y
 sound-determined tables x y e f = e ∙ sym f
+
+pub read-determined : (page tables answer : List ℕ) (x y : ReadBack) → x ≡ readBack page tables answer → y ≡ readBack page tables answer
+    → x ≡ y
+read-determined page tables answer x y e f = e ∙ sym f

@@ -11,7 +11,9 @@ use Rattle.tables.specs.declared.Tables.{Tables}
 use Rattle.tables.specs.Tables.{smallest}
 use Rattle.tables.specs.Sound.{sound}
 use Rattle.rules.specs.Engine.{front}
+use Rattle.tables.specs.Calls.{Result}
 use Rattle.page.specs.Paging.{Written}
+use Rattle.reader.specs.Reading.{reading}
 use Rattle.console.specs.Console.{keyed}
 use Rattle.console.specs.Sheet.{lent, bytesFor, linesOf, sheet}
 use Rattle.board.specs.Packed.{inBytes, packedLength, packed, unpacked}
@@ -93,3 +95,22 @@ boarded s line page buf =
 -- whether bytes are tables in packed form that are sound: 1 or 0
 unfoldable pub soundly : List ℕ → ℕ
 soundly s = hit (isPacked s && sound (unpacked s))
+
+-- A page read back: the answer's number, the tables in packed form at the front of the bytes lent for them, and the answer. 12, with
+-- nothing read, where too few bytes are lent for the answer, or, its value how many are needed, for the tables.
+pub record ReadBack : Type 0 where
+  pub number : ℕ
+  pub tables : List ℕ
+  pub answer : List ℕ
+
+unfoldable pub readBack : List ℕ → List ℕ → List ℕ → ReadBack
+readBack s tables buf =
+    let w : Result = reading s in
+    elim (leb figuresLength (length buf)) [
+      | true ↦ elim (leb packedLength (length tables)) [
+        | true ↦
+            record { number = w .number; tables = front (packed (w .tables)) tables; answer = answering (w .number) (w .values) buf }
+        | false ↦ record { number = 12; tables = tables; answer = answering 12 (packedLength ∷ []) buf }
+      ]
+      | false ↦ record { number = 12; tables = tables; answer = buf }
+    ]

@@ -1,20 +1,21 @@
-// The executive for callers in other languages: three functions on bytes. They trust nobody: whatever bytes they are handed, of whatever
+// The executive for callers in other languages: four functions on bytes. They trust nobody: whatever bytes they are handed, of whatever
 // lengths, the contracts say what comes back. In C, where a slice is a pointer and its length in bytes:
 //
 //     uint64_t board_run(const uint8_t *text, size_t, uint8_t *out, size_t, uint8_t *answer, size_t);
 //     uint64_t board_ask(uint8_t *tables, size_t, const uint8_t *line, size_t, uint8_t *page, size_t, uint8_t *answer, size_t);
 //     uint64_t board_sound(const uint8_t *tables, size_t);
+//     uint64_t board_read(const uint8_t *page, size_t, uint8_t *tables, size_t, uint8_t *answer, size_t);
 //
 // What no contract can say, the caller sees to: each pointer is valid for its length, for writing too where it is not const; bytes that are
 // lent for writing overlap no others that are handed in; and nothing else writes to any of them before the call returns.
 //
-// board_run and board_ask hand back the answer's number. The answer itself goes to the front of `answer`, in 48 bytes: its number and five
-// values of 8 bytes each, the lowest first. Fewer than 48 bytes are answered 12: nothing is done, and no byte is written.
+// board_run, board_ask and board_read hand back the answer's number. The answer itself goes to the front of `answer`, in 48 bytes: its
+// number and five values of 8 bytes each, the lowest first. Fewer than 48 bytes are answered 12: nothing is done, and no byte is written.
 mod pack;
 mod telling;
 
 ghost use mathlib.Core.Path.{_≡_};
-ghost use Rattle.board.specs.Board.{ran, boarded, soundly};
+ghost use Rattle.board.specs.Board.{ran, boarded, soundly, readBack};
 use limits::PAGE_ROOM;
 use rules::Answer;
 use tables::Tables;
@@ -102,6 +103,26 @@ pub extern "C" fn board_ask(
     let r = console::key_line(t, line, page);
     let after = r.tables;
     pack::put_tables(tables, after);
+    let told = r.answer;
+    telling::tell(answer, told)
+}
+
+// Reads a page back: the tables, in packed form, at the front of `tables`, the rest of it untouched. The reading's own answer, 0, or 15 and
+// the line, with the smallest tables; or 12, and `tables` as it was, where fewer than 1,237 bytes are lent for these, value 1237.
+#[no_mangle]
+pub extern "C" fn board_read(page: &[u8], tables: &mut [u8], answer: &mut [u8]) -> u64
+    ensures { λ r. ⌜ record { number = r; tables = now (tables .exit); answer = now (answer .exit) }
+        ≡ readBack (now (page .entry)) (now (tables .entry)) (now (answer .entry)) ⌝ }
+{
+    if answer.len() < telling::FIGURES_LENGTH {
+        return 12;
+    }
+    if tables.len() < pack::PACKED_LENGTH {
+        return telling::tell(answer, Answer::TooShort(1237));
+    }
+    let r = reader::read_page(page);
+    let t = r.tables;
+    pack::put_tables(tables, t);
     let told = r.answer;
     telling::tell(answer, told)
 }

@@ -32,7 +32,7 @@ const LINKS_PLACE: usize = 301;
 
 const PROGRAMS_PLACE: usize = 341;
 
-const PACKED_LENGTH: usize = 1237;
+pub(crate) const PACKED_LENGTH: usize = 1237;
 
 // The number in two bytes at a place, the lowest first.
 fn pair_at(s: &[u8], at: usize) -> u16
