@@ -28,6 +28,7 @@ use Rattle.reader.specs.Order.{behindLine, firstBad}
 use Rattle.reader.specs.Said.{onBook, withRun, withHeld, withNumbered, withLine, restSaid}
 use Rattle.reader.specs.Inner.{byte, narrowRun, LineIs, NoLine, unended, keyless, shapeless, ValueIs}
 use Rattle.reader.specs.Walks.{ahead, Onward, Holds, HeldOf, HeldIs, HeldRead}
+use Rattle.reader.proofs.Mapping.{map-set}
 use Rattle.reader.proofs.ScanLaws.{value-behind}
 use Rattle.reader.proofs.LineLaws.{line-shaped, some-line, scan-line, scan-stop, pass-key, pass-shape, scan-on}
 
@@ -77,15 +78,10 @@ put-back t i j h u =
     (lt-leb i j u))
 
 -- figures in a byte
-map-set : (xs : List ℕ) (i x : ℕ) → map byte (set xs i x) ≡ set (map byte xs) i (byte x)
-map-set [] i x = refl
-map-set (y ∷ ys) zero x = refl
-map-set (y ∷ ys) (suc i) x = ap (λ (zs : List ℕ). byte y ∷ zs) (map-set ys i x)
-
 map-filled : (i n h : ℕ) (xs : List ℕ) → map byte (filled i n h xs) ≡ filled i n (byte h) (map byte xs)
 map-filled i zero h xs = refl
 map-filled i (suc n) h xs =
-    map-set (filled i n h xs) (i + n) h ∙ ap (λ (zs : List ℕ). set zs (i + n) (byte h)) (map-filled i n h xs)
+    map-set byte (filled i n h xs) (i + n) h ∙ ap (λ (zs : List ℕ). set zs (i + n) (byte h)) (map-filled i n h xs)
 
 -- a run put into a table and into a state
 module _ (t : Tracks) (a : State lists) (k : Holds t a) (g : Run) where

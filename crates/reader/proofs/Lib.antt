@@ -6,6 +6,7 @@ pub mod NameBack
 pub mod ScanLaws
 pub mod HeadBack
 pub mod Copying
+pub mod Mapping
 pub mod RecordsBack
 pub mod ChainsBack
 pub mod NumbersBack

@@ -29,6 +29,7 @@ use Rattle.reader.specs.Order.{behindLine, firstBad}
 use Rattle.reader.specs.Said.{onBook, withResource, withHeld, withNumbered, withLine, restSaid}
 use Rattle.reader.specs.Inner.{byte, narrowResource, narrowNumbered, NoLine, ValueIs}
 use Rattle.reader.specs.Walks.{ahead, Onward, Keeps, NumbersOf, NumbersAre, NumbersRead}
+use Rattle.reader.proofs.Mapping.{map-set}
 use Rattle.reader.proofs.ScanLaws.{value-behind}
 use Rattle.reader.proofs.LineLaws.{line-shaped, scan-stop, pass-shape, scan-on}
 
@@ -63,12 +64,6 @@ put-over t r o l h =
 pub put-under : (t : Numbers) (r o l : ℕ) → r < 1 → t ≡ putNumber t r o l
 put-under t r o l h =
     sym (ap (λ (b : Bool). cond b (tableOf (t .count) (withNumber r o l (resources t))) t) (upTo-under 1 (t .count) r h))
-
--- figures in a byte
-map-set : (xs : List Resource) (i : ℕ) (x : Resource) → map narrowResource (set xs i x) ≡ set (map narrowResource xs) i (narrowResource x)
-map-set [] i x = refl
-map-set (y ∷ ys) zero x = refl
-map-set (y ∷ ys) (suc i) x = ap (λ (zs : List Resource). narrowResource y ∷ zs) (map-set ys i x)
 
 -- a number put into a table and into a state
 module _ (t : Numbers) (a : State lists) (k : Keeps t a) (x : shapes.Numbered) where
@@ -118,7 +113,7 @@ module _ (t : Numbers) (a : State lists) (k : Keeps t a) (x : shapes.Numbered) w
                 (byte (x .resource .lock)) (resources t))) (k .table)
                 ∙ ap (λ (y : List Resource). tableOf (a .book .numbers)
                 (withNumber (x .number) (byte (x .resource .owner)) (byte (x .resource .lock)) y)) resources-are
-                ∙ ap (tableOf (a .book .numbers)) (sym (map-set (a .book .resources) (x .number - 1) (x .resource)));
+                ∙ ap (tableOf (a .book .numbers)) (sym (map-set narrowResource (a .book .resources) (x .number - 1) (x .resource)));
             long = length-set (a .book .resources) (x .number - 1) (x .resource) ∙ k .long;
           }
 

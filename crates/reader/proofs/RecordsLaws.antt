@@ -20,6 +20,7 @@ use Rattle.reader.specs.declared.parts.Records.{Records}
 use Rattle.reader.specs.Order.{recording, recordForms, recordsAhead, chainsAhead, chainForms, firstBad}
 use Rattle.reader.specs.Said.{withRecord, chainsSaid, recordsSaid}
 use Rattle.reader.specs.Inner.{narrowRecord}
+use Rattle.reader.proofs.Mapping.{map-set}
 use Rattle.reader.specs.Walks.{ahead, Onward, withPrograms, RecordIs, RecordRead, RecordsAre, RecordsRead}
 
 -- `programs` holds the records read so far, and so many are left from place o, line n on
@@ -42,11 +43,6 @@ none-yet s at line count r u h =
       says = λ a e. ap (λ (ps : List Program). recordsSaid count (withPrograms ps a) (ahead s at)) e;
     }
 
-map-set : (f : Program → Program) (xs : List Program) (i : ℕ) (x : Program) → set (map f xs) i (f x) ≡ map f (set xs i x)
-map-set f [] i x = refl
-map-set f (y ∷ ys) zero x = refl
-map-set f (y ∷ ys) (suc i) x = ap (λ (zs : List Program). f y ∷ zs) (map-set f ys i x)
-
 -- the records with one put where its id says
 abbrev pub putAt : ℕ → Program → List Program → List Program
 putAt id x ps = cond (known id) (set ps (id - 1) x) ps
@@ -62,7 +58,7 @@ put-under id x ps h = sym (ap (λ (b : Bool). cond b (set ps (id - 1) x) ps) (up
 
 put-held : (b : Bool) (i : ℕ) (x : Program) (ps : List Program)
     → cond b (set (map narrowRecord ps) i (narrowRecord x)) (map narrowRecord ps) ≡ map narrowRecord (cond b (set ps i x) ps)
-put-held true i x ps = map-set narrowRecord ps i x
+put-held true i x ps = sym (map-set narrowRecord ps i x)
 put-held false i x ps = refl
 
 put-says : (id : ℕ) (x : Program) (ps : List Program) (a : State lists)
