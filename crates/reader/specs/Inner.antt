@@ -9,7 +9,7 @@ use lib.ListN.{length, drop}
 use lib.Seq.{slice}
 use lib.Dec.{ltb}
 use Rattle.lists.specs.Lists.{alike}
-use Rattle.text.specs.Text.{behind, parts}
+use Rattle.text.specs.Text.{text, behind, parts}
 use Rattle.text.specs.declared.Place.{Place}
 use Rattle.text.specs.declared.Place.the-variants as place
 use Rattle.records.specs.declared.Program.{Program}
@@ -19,6 +19,7 @@ use Rattle.records.specs.declared.Why.the-variants.{Nothing, Tracks, Son, Lock,
 use Rattle.records.specs.Names.{nameOf}
 use Rattle.tracks.specs.declared.held.Run as tracks
 use Rattle.chains.specs.Links.{layChain}
+use Rattle.page.specs.Page.{heldKey, numberKey}
 use Rattle.reader.specs.declared.values.Reason.{Reason}
 use Rattle.reader.specs.declared.values.Reason.the-variants as reason
 use Rattle.reader.specs.declared.values.Run.{Run}
@@ -28,14 +29,12 @@ use Rattle.reader.specs.declared.values.Resource.the-variants as resourc
 use Rattle.reader.specs.declared.values.Chain.{Chain}
 use Rattle.reader.specs.declared.lines.Value.{Value}
 use Rattle.reader.specs.declared.lines.Value.the-variants as value
-use Rattle.reader.specs.declared.lines.Figure.{Figure}
-use Rattle.reader.specs.declared.lines.Figure.the-variants as figured
+use Rattle.reader.specs.declared.values.Figure.{Figure}
+use Rattle.reader.specs.declared.values.Figure.the-variants as figured
 use Rattle.reader.specs.declared.lines.NameLine.{NameLine}
 use Rattle.reader.specs.declared.lines.NameLine.the-variants as name
-use Rattle.reader.specs.declared.lines.ReasonLine.{ReasonLine}
-use Rattle.reader.specs.declared.lines.ReasonLine.the-variants as why
 use Rattle.reader.specs.Shapes as shapes
-use Rattle.reader.specs.Shapes.{into, figure, figureOrDash, reasonOf, listed}
+use Rattle.reader.specs.Shapes.{into, figure, figureOrDash, reasonOf, listed, runIn, numbered}
 use Rattle.reader.specs.Order.{valueBehind}
 
 -- A NUMBER IN THE TABLES' BYTES: one, or two; the largest that these hold where it is larger, which sound tables have nowhere
@@ -78,43 +77,69 @@ pub record Marked (d : ℕ) (s : List ℕ) (from to r : ℕ) : Type 0 where
   pub last : r ≡ to → parts d (slice from to s) ≡ slice from to s ∷ []
   pub more : r < to → parts d (slice from to s) ≡ slice from r s ∷ parts d (slice (r + 1) to s)
 
--- there is one byte d, at i
-pub record OnlyAt (d : ℕ) (s : List ℕ) (from to i : ℕ) : Type 0 where
-  pub low : from ≤ i
-  pub high : i < to
-  pub two : parts d (slice from to s) ≡ slice from i s ∷ slice (i + 1) to s ∷ []
-
--- there is none, or more than one
-pub data NotTwo (ps : List (List ℕ)) : Type 0 where
-  one : (x : List ℕ) → ps ≡ x ∷ [] → NotTwo ps
-  three : (x y z : List ℕ) (zs : List (List ℕ)) → ps ≡ x ∷ y ∷ z ∷ zs → NotTwo ps
-
-abbrev pub Only : ℕ → List ℕ → ℕ → ℕ → Place → Type 0
-Only d s from to (place.At i) = OnlyAt d s from to i
-Only d s from to place.Not = NotTwo (parts d (slice from to s))
-
-abbrev pub reasonRead : Reason → Option Why
-reasonRead (reason.Is w) = some w
-reasonRead reason.Not = none
-
-abbrev pub runRead : Run → Option tracks.Run
-runRead (run.Is a b h) = some (record { first = a; last = b; holder = h })
-runRead run.Not = none
-
+-- why a program waits, a run and a number, as the tables' bytes hold them
 abbrev pub narrowRun : tracks.Run → tracks.Run
 narrowRun g = record { first = g .first; last = g .last; holder = byte (g .holder) }
 
-abbrev pub resourceRead : Resource → Option shapes.Numbered
-resourceRead (resource.Is r o l) = some (record { number = r; resource = record { owner = o; lock = l } })
-resourceRead resource.Not = none
-
 abbrev pub narrowNumbered : shapes.Numbered → shapes.Numbered
 narrowNumbered x = record { number = x .number; resource = narrowResource (x .resource) }
+
+abbrev pub reasonIn : List ℕ → Option Why
+reasonIn v = into narrowWhy (reasonOf v)
+
+abbrev pub heldIn : List ℕ → Option tracks.Run
+heldIn v = into narrowRun (runIn v)
+
+abbrev pub numberIn : List ℕ → Option shapes.Numbered
+numberIn v = into narrowNumbered (numbered v)
+
+-- whether a value is a word
+abbrev pub wordIs : List ℕ → List ℕ → Option Bool
+wordIs w v = cond (alike v w) (some true) none
 
 -- a chain put into links from a slot on
 pub record ChainRead (v : List ℕ) (links : List ℕ) (s : ℕ) (r : Chain) : Type 0 where
   pub yes : r .ok ≡ true → into (λ c. layChain links s (map byte c)) (listed v) ≡ some (r .links)
   pub nay : r .ok ≡ false → listed v ≡ none
+
+-- UP TO A MARK
+-- the bytes from a place up to a byte d are a value, of which the shape says a; behind that byte comes `next`
+pub record SaidIs {A : Type 0} (shape : List ℕ → Option A) (d : ℕ) (s : List ℕ) (from : ℕ) (a : A) (next : ℕ) : Type 0 where
+  pub value : List ℕ
+  pub cut : drop from s ≡ value ++ (d ∷ drop next s)
+  pub beyond : from < next
+  pub within : next ≤ length s
+  pub shaped : shape value ≡ some a
+
+-- no bytes from there up to a byte d have the shape
+pub record NotSaid {A : Type 0} (shape : List ℕ → Option A) (d : ℕ) (s : List ℕ) (from : ℕ) : Type 0 where
+  pub unshaped : (v rest : List ℕ) → drop from s ≡ v ++ (d ∷ rest) → shape v ≡ none
+
+abbrev pub WordTo : List ℕ → ℕ → List ℕ → ℕ → Place → Type 0
+WordTo w d s from (place.At next) = SaidIs (wordIs w) d s from true next
+WordTo w d s from place.Not = NotSaid (wordIs w) d s from
+
+abbrev pub FigureTo : (List ℕ → Option ℕ) → ℕ → List ℕ → ℕ → Figure → Type 0
+FigureTo shape d s from (figured.Is n next) = SaidIs shape d s from n next
+FigureTo shape d s from figured.Not = NotSaid shape d s from
+
+abbrev pub ReasonTo : List ℕ → ℕ → Reason → Type 0
+ReasonTo s from (reason.Is w next) = SaidIs reasonIn 10 s from w next
+ReasonTo s from reason.Not = NotSaid reasonIn 10 s from
+
+abbrev pub runOf : ℕ → ℕ → ℕ → tracks.Run
+runOf i j h = record { first = i; last = j; holder = h }
+
+abbrev pub RunTo : List ℕ → ℕ → Run → Type 0
+RunTo s from (run.Is i j h next) = SaidIs heldIn 10 s from (runOf i j h) next
+RunTo s from run.Not = NotSaid heldIn 10 s from
+
+abbrev pub numberedOf : ℕ → ℕ → ℕ → shapes.Numbered
+numberedOf r o l = record { number = r; resource = record { owner = o; lock = l } }
+
+abbrev pub ResourceTo : List ℕ → ℕ → Resource → Type 0
+ResourceTo s from (resource.Is r o l next) = SaidIs numberIn 10 s from (numberedOf r o l) next
+ResourceTo s from resource.Not = NotSaid numberIn 10 s from
 
 -- LINES
 -- the line at a place is ended and has that key; its value's shape says a; the next line begins at `next`
@@ -154,16 +179,18 @@ abbrev pub NameAt : List ℕ → ℕ → List ℕ → NameLine → Type 0
 NameAt s at key (name.Is a b c d e next) = LineIs nameOf s at key (a ∷ b ∷ c ∷ d ∷ e ∷ []) next
 NameAt s at key name.Not = NoLine nameOf s at key
 
-abbrev pub narrowReason : List ℕ → Option Why
-narrowReason v = into narrowWhy (reasonOf v)
-
-abbrev pub ReasonAt : List ℕ → ℕ → List ℕ → ReasonLine → Type 0
-ReasonAt s at key (why.Is w next) = LineIs narrowReason s at key w next
-ReasonAt s at key why.Not = NoLine narrowReason s at key
-
-abbrev pub wordIs : List ℕ → List ℕ → Option Bool
-wordIs w v = cond (alike v w) (some true) none
+abbrev pub ReasonAt : List ℕ → ℕ → List ℕ → Reason → Type 0
+ReasonAt s at key (reason.Is w next) = LineIs reasonIn s at key w next
+ReasonAt s at key reason.Not = NoLine reasonIn s at key
 
 abbrev pub WordAt : List ℕ → ℕ → List ℕ → List ℕ → Place → Type 0
 WordAt s at key w (place.At next) = LineIs (wordIs w) s at key true next
 WordAt s at key w place.Not = NoLine (wordIs w) s at key
+
+abbrev pub RunAt : List ℕ → ℕ → Run → Type 0
+RunAt s at (run.Is i j h next) = LineIs heldIn s at (text heldKey) (runOf i j h) next
+RunAt s at run.Not = NoLine heldIn s at (text heldKey)
+
+abbrev pub ResourceAt : List ℕ → ℕ → Resource → Type 0
+ResourceAt s at (resource.Is r o l next) = LineIs numberIn s at (text numberKey) (numberedOf r o l) next
+ResourceAt s at resource.Not = NoLine numberIn s at (text numberKey)

@@ -5,7 +5,6 @@ use mathlib.Core.Path.{_≡_}
 use mathlib.Core.List.{List, [], _∷_, map}
 use lib.ListN.{length, drop, replicate}
 use Rattle.limits.specs.Limits.{mostPrograms}
-use mathlib.Core.Option.{some}
 use Rattle.text.specs.Text.{text, parts}
 use Rattle.records.specs.declared.Program.{Program}
 use Rattle.records.specs.declared.Numbers.{Numbers}
@@ -27,7 +26,7 @@ use Rattle.reader.specs.declared.parts.Numbered.{Numbered}
 use Rattle.reader.specs.Order.{heading, recording, recordsAhead, chainsAhead, holding, numbering, headForms, recordForms, chainForms}
 use Rattle.reader.specs.Order.{firstBad}
 use Rattle.reader.specs.Said.{onBook, withChain, withRecord, started, restSaid, chainsSaid, recordsSaid, said}
-use Rattle.reader.specs.Inner.{byte, narrowRecord, narrowResource, NoLine}
+use Rattle.reader.specs.Inner.{byte, narrowRecord, narrowResource, numberIn, NoLine}
 
 -- the lines from a place on
 abbrev pub ahead : List ℕ → ℕ → List (List ℕ)
@@ -111,14 +110,10 @@ pub record HeldOf (s : List ℕ) (at : ℕ) (a : State lists) (r : Held) : Type 
   pub held : Holds (r .tracks) (onBook (withHolders told) a)
   pub says : restSaid a (ahead s at) ≡ restSaid (onBook (withHolders told) a) (ahead s (r .at))
 
-pub record HeldIs (s : List ℕ) (at line : ℕ) (t : Tracks) (r : Held) : Type 0 where
+pub record HeldRead (s : List ℕ) (at line : ℕ) (t : Tracks) (r : Held) : Type 0 where
   pub onward : Onward s (r .at) (r .line)
   pub scan : firstBad holding line (ahead s at) ≡ firstBad numbering (r .line) (ahead s (r .at))
   pub of : (a : State lists) → Holds t a → HeldOf s at a r
-
-pub record HeldRead (s : List ℕ) (at line : ℕ) (t : Tracks) (r : Held) : Type 0 where
-  pub read : r .bad ≡ 0 → HeldIs s at line t r
-  pub stops : 1 ≤ r .bad → firstBad holding line (ahead s at) ≡ r .bad
 
 -- a table of numbers holds what a state says
 pub record Keeps (t : Numbers) (a : State lists) : Type 0 where
@@ -130,15 +125,11 @@ pub record NumbersOf (s : List ℕ) (at : ℕ) (a : State lists) (r : Numbered) 
   pub held : Keeps (r .numbers) (onBook (withResources told) a)
   pub says : restSaid a (ahead s at) ≡ restSaid (onBook (withResources told) a) (ahead s (r .at))
 
-pub record NumbersAre (s : List ℕ) (at line : ℕ) (t : Numbers) (r : Numbered) : Type 0 where
+pub record NumbersRead (s : List ℕ) (at line : ℕ) (t : Numbers) (r : Numbered) : Type 0 where
   pub onward : Onward s (r .at) (r .line)
   pub scan : firstBad numbering line (ahead s at) ≡ firstBad numbering (r .line) (ahead s (r .at))
-  pub next : NoLine {A = List ℕ} some s (r .at) (text numberKey)  -- the next line is no number
+  pub next : NoLine numberIn s (r .at) (text numberKey)  -- the next line is no number
   pub of : (a : State lists) → Keeps t a → NumbersOf s at a r
-
-pub record NumbersRead (s : List ℕ) (at line : ℕ) (t : Numbers) (r : Numbered) : Type 0 where
-  pub read : r .bad ≡ 0 → NumbersAre s at line t r
-  pub stops : 1 ≤ r .bad → firstBad numbering line (ahead s at) ≡ r .bad
 
 -- the last line
 pub record EndRead (s : List ℕ) (at line r : ℕ) : Type 0 where

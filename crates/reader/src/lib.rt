@@ -43,7 +43,7 @@ fn judge(s: &[u8], at: usize, tables: Tables) -> Outcome
     }
     let mut space = [0u8; PAGE_ROOM];
     let n = page::put_page(&mut space, tables);
-    if !text::is_word(s, at, s.len(), &space[..n]) {
+    if !text::rest_is(s, at, &space[..n]) {
         return not_read(0);
     }
     Outcome {
@@ -75,13 +75,7 @@ pub fn read_from(s: &[u8], at: usize) -> Outcome
     let begun = fresh.tables;
     let blank = begun.ledger;
     let held = parts::read_held(s, chains.at, chains.line, blank.tracks);
-    if held.bad != 0 {
-        return not_read(held.bad);
-    }
     let numbers = parts::read_numbers(s, held.at, held.line, blank.numbers);
-    if numbers.bad != 0 {
-        return not_read(numbers.bad);
-    }
     let last = parts::read_end(s, numbers.at, numbers.line);
     if last != 0 {
         return not_read(last);

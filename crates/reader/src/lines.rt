@@ -1,12 +1,16 @@
 // The line at a place of a page: its key is compared, and its value read.
 ghost use Prim.Native.Nat.{_≤_};
+ghost use mathlib.Core.Path.{_≡_};
 ghost use lib.ListN.{length};
-ghost use Rattle.reader.specs.Inner.{ValueAt, FigureAt, DashedAt, NameAt, ReasonAt, WordAt};
+ghost use Rattle.lists.specs.Lists.{count};
+ghost use Rattle.reader.specs.Inner.{ValueAt, FigureAt, DashedAt, NameAt, ReasonAt, WordAt, RunAt, ResourceAt};
 use super::values;
+use super::values::Figure;
 use super::values::Reason;
+use super::values::Resource;
+use super::values::Run;
+use page::keys;
 use records::Name;
-use records::Why;
-use text::Number;
 use text::Place;
 
 // Where the value of a line begins and ends.
@@ -15,19 +19,9 @@ pub(crate) enum Value {
     Not,
 }
 
-// What a line says, and the place of the next line.
-pub(crate) enum Figure {
-    Is(u64, usize),
-    Not,
-}
-
+// A name, and the place of the next line.
 pub(crate) enum NameLine {
     Is(u8, u8, u8, u8, u8, usize),
-    Not,
-}
-
-pub(crate) enum ReasonLine {
-    Is(Why, usize),
     Not,
 }
 
@@ -54,28 +48,24 @@ pub(crate) fn value_at(s: &[u8], at: usize, key: &[u8]) -> Value
 
 pub(crate) fn figure_at(s: &[u8], at: usize, key: &[u8]) -> Figure
     requires { ⌜ at ≤ length (now s) ⌝ }
+    requires { ⌜ count 10 (now key) ≡ 0 ⌝ }
     ensures { λ r. ⌜ FigureAt (now (s .entry)) at (now (key .entry)) r ⌝ }
 {
-    let Value::Is(from, to) = value_at(s, at, key) else {
+    let Place::At(from) = values::word_to(s, at, key, b'=') else {
         return Figure::Not;
     };
-    let Number::Is(n) = values::read_figure(s, from, to) else {
-        return Figure::Not;
-    };
-    Figure::Is(n, to + 1)
+    values::figure_to(s, from, 10)
 }
 
 pub(crate) fn dashed_at(s: &[u8], at: usize, key: &[u8]) -> Figure
     requires { ⌜ at ≤ length (now s) ⌝ }
+    requires { ⌜ count 10 (now key) ≡ 0 ⌝ }
     ensures { λ r. ⌜ DashedAt (now (s .entry)) at (now (key .entry)) r ⌝ }
 {
-    let Value::Is(from, to) = value_at(s, at, key) else {
+    let Place::At(from) = values::word_to(s, at, key, b'=') else {
         return Figure::Not;
     };
-    let Number::Is(n) = values::read_dashed(s, from, to) else {
-        return Figure::Not;
-    };
-    Figure::Is(n, to + 1)
+    values::dashed_to(s, from, 10)
 }
 
 pub(crate) fn name_at(s: &[u8], at: usize, key: &[u8]) -> NameLine
@@ -91,29 +81,47 @@ pub(crate) fn name_at(s: &[u8], at: usize, key: &[u8]) -> NameLine
     NameLine::Is(a, b, c, d, e, to + 1)
 }
 
-pub(crate) fn reason_at(s: &[u8], at: usize, key: &[u8]) -> ReasonLine
+pub(crate) fn reason_at(s: &[u8], at: usize, key: &[u8]) -> Reason
     requires { ⌜ at ≤ length (now s) ⌝ }
+    requires { ⌜ count 10 (now key) ≡ 0 ⌝ }
     ensures { λ r. ⌜ ReasonAt (now (s .entry)) at (now (key .entry)) r ⌝ }
 {
-    let Value::Is(from, to) = value_at(s, at, key) else {
-        return ReasonLine::Not;
+    let Place::At(from) = values::word_to(s, at, key, b'=') else {
+        return Reason::Not;
     };
-    let Reason::Is(why) = values::read_reason(s, from, to) else {
-        return ReasonLine::Not;
-    };
-    ReasonLine::Is(why, to + 1)
+    values::reason_to(s, from)
 }
 
 // A line with one word for its value.
 pub(crate) fn word_at(s: &[u8], at: usize, key: &[u8], word: &[u8]) -> Place
     requires { ⌜ at ≤ length (now s) ⌝ }
+    requires { ⌜ count 10 (now key) ≡ 0 ⌝ }
+    requires { ⌜ count 10 (now word) ≡ 0 ⌝ }
     ensures { λ r. ⌜ WordAt (now (s .entry)) at (now (key .entry)) (now (word .entry)) r ⌝ }
 {
-    let Value::Is(from, to) = value_at(s, at, key) else {
+    let Place::At(from) = values::word_to(s, at, key, b'=') else {
         return Place::Not;
     };
-    if !text::is_word(s, from, to, word) {
-        return Place::Not;
-    }
-    Place::At(to + 1)
+    values::word_to(s, from, word, 10)
+}
+
+// A line of what is held, and one of a resource number.
+pub(crate) fn held_at(s: &[u8], at: usize) -> Run
+    requires { ⌜ at ≤ length (now s) ⌝ }
+    ensures { λ r. ⌜ RunAt (now (s .entry)) at r ⌝ }
+{
+    let Place::At(from) = values::word_to(s, at, &keys::HELD, b'=') else {
+        return Run::Not;
+    };
+    values::run_to(s, from)
+}
+
+pub(crate) fn number_at(s: &[u8], at: usize) -> Resource
+    requires { ⌜ at ≤ length (now s) ⌝ }
+    ensures { λ r. ⌜ ResourceAt (now (s .entry)) at r ⌝ }
+{
+    let Place::At(from) = values::word_to(s, at, &keys::NUMBER, b'=') else {
+        return Resource::Not;
+    };
+    values::resource_to(s, from)
 }

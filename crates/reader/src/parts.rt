@@ -1,22 +1,20 @@
 // The parts of a page, each from a place on: the head, the records, the chains, what is held, the numbers, the last line. Where a line is
 // not well formed, `bad` is that line's number; else it is 0, `at` is where the next part begins and `line` the number of its first line.
-ghost use Prim.Native.Nat.{ℕ, _≤_};
+ghost use Prim.Native.Nat.{_≤_};
 ghost use lib.ListN.{length};
-ghost use mathlib.Core.List.{List};
-ghost use mathlib.Core.Option.{some};
 ghost use Rattle.text.specs.Text.{text};
 ghost use Rattle.page.specs.Page.{keyOfChain, numberKey};
-ghost use Rattle.reader.specs.Inner.{NoLine};
+ghost use Rattle.reader.specs.Inner.{NoLine, numberIn};
 ghost use mathlib.Core.Path.{_≡_};
 ghost use Rattle.records.specs.Inner as records;
 ghost use Rattle.tracks.specs.Inner.{Fit};
 ghost use Rattle.reader.specs.Walks.{Onward, HeadRead, RecordRead, RecordsRead, ChainsRead, HeldRead, NumbersRead, EndRead};
 use super::lines;
-use super::lines::Figure;
 use super::lines::NameLine;
-use super::lines::ReasonLine;
 use super::lines::Value;
 use super::values;
+use super::values::Figure;
+use super::values::Reason;
 use super::values::Resource;
 use super::values::Run;
 use chains::SLOTS;
@@ -60,14 +58,12 @@ pub(crate) struct Chains {
 }
 
 pub(crate) struct Held {
-    pub(crate) bad: u64,
     pub(crate) at: usize,
     pub(crate) line: u64,
     pub(crate) tracks: Tracks,
 }
 
 pub(crate) struct Numbered {
-    pub(crate) bad: u64,
     pub(crate) at: usize,
     pub(crate) line: u64,
     pub(crate) numbers: Numbers,
@@ -149,7 +145,7 @@ fn read_record(s: &[u8], at: usize) -> Record
     let Figure::Is(state, d) = lines::figure_at(s, c, &keys::STATE) else {
         return stopped(3, at);
     };
-    let ReasonLine::Is(why, e) = lines::reason_at(s, d, &keys::WHY) else {
+    let Reason::Is(why, e) = lines::reason_at(s, d, &keys::WHY) else {
         return stopped(4, at);
     };
     let Figure::Is(due, f) = lines::dashed_at(s, e, &keys::DUE) else {
@@ -266,49 +262,41 @@ pub(crate) fn read_chains(s: &[u8], at: usize, line: u64) -> Chains
     }
 }
 
-// The tracks that are held. A run that is not one of these tracks is passed over.
+// The tracks that are held, up to a line that is none. A run that is not one of these tracks is passed over.
 pub(crate) fn read_held(s: &[u8], at: usize, line: u64, tracks: Tracks) -> Held
     requires { ⌜ Onward (now s) at line ⌝ }
     requires { ⌜ Fit tracks ⌝ }
     ensures { λ r. ⌜ HeldRead (now (s .entry)) at line tracks r ⌝ }
 {
-    let mut table = tracks;
+    let count = tracks.count;
+    let system = tracks.system;
+    let mut places = tracks.places();
     let mut o = at;
     let mut n = line;
     while o < s.len() {
-        let Value::Is(from, to) = lines::value_at(s, o, &keys::HELD) else {
+        let Run::Is(first, last, holder, next) = lines::held_at(s, o) else {
             return Held {
-                bad: 0,
                 at: o,
                 line: n,
-                tracks: table,
-            };
-        };
-        let Run::Is(first, last, holder) = values::read_run(s, from, to) else {
-            return Held {
-                bad: n,
-                at: o,
-                line: n,
-                tracks: table,
+                tracks: Tracks::from_places(count, system, places),
             };
         };
         if first <= last {
-            if last < table.count as u64 {
-                table = table.filled(first as usize, (last - first + 1) as usize, holder);
+            if last < count as u64 {
+                tracks::fill(&mut places, first as usize, last as usize, holder);
             }
         }
-        o = to + 1;
+        o = next;
         n += 1;
     }
     Held {
-        bad: 0,
         at: o,
         line: n,
-        tracks: table,
+        tracks: Tracks::from_places(count, system, places),
     }
 }
 
-// The numbers that are allocated. One that is none of these numbers is passed over.
+// The numbers that are allocated, up to a line that is none. One that is none of these numbers is passed over.
 pub(crate) fn read_numbers(s: &[u8], at: usize, line: u64, numbers: Numbers) -> Numbered
     requires { ⌜ Onward (now s) at line ⌝ }
     requires { ⌜ records.Fit numbers ⌝ }
@@ -318,17 +306,8 @@ pub(crate) fn read_numbers(s: &[u8], at: usize, line: u64, numbers: Numbers) -> 
     let mut o = at;
     let mut n = line;
     while o < s.len() {
-        let Value::Is(from, to) = lines::value_at(s, o, &keys::NUMBER) else {
+        let Resource::Is(r, owner, lock, next) = lines::number_at(s, o) else {
             return Numbered {
-                bad: 0,
-                at: o,
-                line: n,
-                numbers: table,
-            };
-        };
-        let Resource::Is(r, owner, lock) = values::read_resource(s, from, to) else {
-            return Numbered {
-                bad: n,
                 at: o,
                 line: n,
                 numbers: table,
@@ -339,11 +318,10 @@ pub(crate) fn read_numbers(s: &[u8], at: usize, line: u64, numbers: Numbers) -> 
                 table = table.with_number(r as usize, owner, lock);
             }
         }
-        o = to + 1;
+        o = next;
         n += 1;
     }
     Numbered {
-        bad: 0,
         at: o,
         line: n,
         numbers: table,
@@ -353,7 +331,7 @@ pub(crate) fn read_numbers(s: &[u8], at: usize, line: u64, numbers: Numbers) -> 
 // The last line, and nothing behind it: 0, or the line that is not well formed.
 pub(crate) fn read_end(s: &[u8], at: usize, line: u64) -> u64
     requires { ⌜ Onward (now s) at line ⌝ }
-    requires { ⌜ NoLine {A = List ℕ} some (now s) at (text numberKey) ⌝ }
+    requires { ⌜ NoLine numberIn (now s) at (text numberKey) ⌝ }
     ensures { λ r. ⌜ EndRead (now (s .entry)) at line r ⌝ }
 {
     let Place::At(o) = lines::word_at(s, at, &keys::END, &keys::PAGE) else {

@@ -1,12 +1,14 @@
-// What the bytes of a value say, s[from..to] each time.
+// What values say: from a place up to the mark that ends them, or, of a chain, s[from..to].
 ghost use mathlib.Core.Path.{_≡_};
+ghost use mathlib.Core.Bool.{false};
 ghost use Prim.Native.Nat.{_≤_};
 ghost use lib.ListN.{length};
 ghost use lib.Seq.{slice};
+ghost use Rattle.lists.specs.Lists.{upTo};
 ghost use Rattle.text.specs.Inner.{read};
-ghost use Rattle.reader.specs.Shapes.{into, figure, figureOrDash, partyOf, reasonOf, runIn, numbered};
-ghost use Rattle.reader.specs.Inner.{byte, twoBytes, codedBy, narrowWhy, narrowRun, narrowNumbered};
-ghost use Rattle.reader.specs.Inner.{Marked, Only, reasonRead, runRead, resourceRead, ChainRead};
+ghost use Rattle.reader.specs.Shapes.{figure, figureOrDash, partyOf};
+ghost use Rattle.reader.specs.Inner.{byte, twoBytes, codedBy, Marked, ChainRead};
+ghost use Rattle.reader.specs.Inner.{FigureTo, WordTo, ReasonTo, RunTo, ResourceTo};
 use chains::SLOTS;
 use limits::PAGE_DIGITS;
 use limits::STATES;
@@ -16,21 +18,27 @@ use records::Why;
 use text::Number;
 use text::Place;
 
-// Why a program waits, if the bytes say it.
+// A number, and the place behind its mark.
+pub(crate) enum Figure {
+    Is(u64, usize),
+    Not,
+}
+
+// Why a program waits, and the place behind the mark.
 pub(crate) enum Reason {
-    Is(Why),
+    Is(Why, usize),
     Not,
 }
 
-// The first and the last track of a run, and its holder.
+// The first and the last track of a run, its holder, and the place behind the mark.
 pub(crate) enum Run {
-    Is(u64, u64, u8),
+    Is(u64, u64, u8, usize),
     Not,
 }
 
-// A resource number, its owner and its lock.
+// A resource number, its owner, its lock, and the place behind the mark.
 pub(crate) enum Resource {
-    Is(u64, u8, u8),
+    Is(u64, u8, u8, usize),
     Not,
 }
 
@@ -68,24 +76,7 @@ fn mark(s: &[u8], from: usize, to: usize, d: u8) -> usize
     text::part_end(&s[..to], from, d)
 }
 
-// The place of the byte d, where there is one and no other.
-fn only(s: &[u8], from: usize, to: usize, d: u8) -> Place
-    requires { ⌜ from ≤ to ⌝ }
-    requires { ⌜ to ≤ length (now s) ⌝ }
-    ensures { λ r. ⌜ Only d (now (s .entry)) from to r ⌝ }
-{
-    let first = mark(s, from, to, d);
-    if first == to {
-        return Place::Not;
-    }
-    let second = mark(s, first + 1, to, d);
-    if second < to {
-        return Place::Not;
-    }
-    Place::At(first)
-}
-
-pub(crate) fn read_figure(s: &[u8], from: usize, to: usize) -> Number
+fn read_figure(s: &[u8], from: usize, to: usize) -> Number
     requires { ⌜ from ≤ to ⌝ }
     requires { ⌜ to ≤ length (now s) ⌝ }
     ensures { λ r. ⌜ read r ≡ figure (slice from to (now (s .entry))) ⌝ }
@@ -93,112 +84,137 @@ pub(crate) fn read_figure(s: &[u8], from: usize, to: usize) -> Number
     text::read_number(s, from, to, PAGE_DIGITS)
 }
 
-// A number, or a dash where there is none.
-pub(crate) fn read_dashed(s: &[u8], from: usize, to: usize) -> Number
-    requires { ⌜ from ≤ to ⌝ }
-    requires { ⌜ to ≤ length (now s) ⌝ }
-    ensures { λ r. ⌜ read r ≡ figureOrDash (slice from to (now (s .entry))) ⌝ }
+// A word, with the mark behind it.
+pub(crate) fn word_to(s: &[u8], from: usize, word: &[u8], mark: u8) -> Place
+    requires { ⌜ from ≤ length (now s) ⌝ }
+    ensures { λ r. ⌜ WordTo (now (word .entry)) mark (now (s .entry)) from r ⌝ }
 {
-    if text::is_word(s, from, to, &keys::NONE) {
-        return Number::Is(0);
+    let Place::At(end) = text::behind(s, from, s.len(), word) else {
+        return Place::Not;
+    };
+    if end == s.len() {
+        return Place::Not;
     }
-    read_figure(s, from, to)
+    if s[end] != mark {
+        return Place::Not;
+    }
+    Place::At(end + 1)
+}
+
+pub(crate) fn figure_to(s: &[u8], from: usize, mark: u8) -> Figure
+    requires { ⌜ from ≤ length (now s) ⌝ }
+    requires { ⌜ upTo 48 57 mark ≡ false ⌝ }
+    ensures { λ r. ⌜ FigureTo figure mark (now (s .entry)) from r ⌝ }
+{
+    let digits = text::digits_from(s, from, PAGE_DIGITS);
+    let end = digits.end;
+    if end == from {
+        return Figure::Not;
+    }
+    if end == s.len() {
+        return Figure::Not;
+    }
+    if s[end] != mark {
+        return Figure::Not;
+    }
+    if from + 1 < end {
+        if s[from] == 48 {
+            return Figure::Not;
+        }
+    }
+    Figure::Is(digits.value, end + 1)
+}
+
+// A number, or a dash where there is none.
+pub(crate) fn dashed_to(s: &[u8], from: usize, mark: u8) -> Figure
+    requires { ⌜ from ≤ length (now s) ⌝ }
+    requires { ⌜ upTo 48 57 mark ≡ false ⌝ }
+    ensures { λ r. ⌜ FigureTo figureOrDash mark (now (s .entry)) from r ⌝ }
+{
+    if let Place::At(next) = word_to(s, from, &keys::NONE, mark) {
+        return Figure::Is(0, next);
+    }
+    figure_to(s, from, mark)
 }
 
 // A holder or an owner.
-pub(crate) fn read_party(s: &[u8], from: usize, to: usize) -> Number
-    requires { ⌜ from ≤ to ⌝ }
-    requires { ⌜ to ≤ length (now s) ⌝ }
-    ensures { λ r. ⌜ read r ≡ partyOf (slice from to (now (s .entry))) ⌝ }
+fn party_to(s: &[u8], from: usize, mark: u8) -> Figure
+    requires { ⌜ from ≤ length (now s) ⌝ }
+    requires { ⌜ upTo 48 57 mark ≡ false ⌝ }
+    ensures { λ r. ⌜ FigureTo partyOf mark (now (s .entry)) from r ⌝ }
 {
-    if text::is_word(s, from, to, &keys::GLOBAL) {
-        return Number::Is(Numbers::GLOBAL as u64);
+    if let Place::At(next) = word_to(s, from, &keys::GLOBAL, mark) {
+        return Figure::Is(Numbers::GLOBAL as u64, next);
     }
-    read_figure(s, from, to)
+    figure_to(s, from, mark)
 }
 
 // A number behind a word.
-fn read_coded(s: &[u8], from: usize, to: usize, word: &[u8]) -> Number
-    requires { ⌜ from ≤ to ⌝ }
-    requires { ⌜ to ≤ length (now s) ⌝ }
-    ensures { λ r. ⌜ read r ≡ codedBy (now (word .entry)) (slice from to (now (s .entry))) ⌝ }
+fn coded_to(s: &[u8], from: usize, word: &[u8], mark: u8) -> Figure
+    requires { ⌜ from ≤ length (now s) ⌝ }
+    requires { ⌜ upTo 48 57 mark ≡ false ⌝ }
+    ensures { λ r. ⌜ FigureTo (codedBy (now (word .entry))) mark (now (s .entry)) from r ⌝ }
 {
-    let Place::At(i) = text::behind(s, from, to, word) else {
-        return Number::Not;
+    let Place::At(i) = text::behind(s, from, s.len(), word) else {
+        return Figure::Not;
     };
-    read_figure(s, i, to)
+    figure_to(s, i, mark)
 }
 
-pub(crate) fn read_reason(s: &[u8], from: usize, to: usize) -> Reason
-    requires { ⌜ from ≤ to ⌝ }
-    requires { ⌜ to ≤ length (now s) ⌝ }
-    ensures { λ r. ⌜ reasonRead r ≡ into narrowWhy (reasonOf (slice from to (now (s .entry)))) ⌝ }
+pub(crate) fn reason_to(s: &[u8], from: usize) -> Reason
+    requires { ⌜ from ≤ length (now s) ⌝ }
+    ensures { λ r. ⌜ ReasonTo (now (s .entry)) from r ⌝ }
 {
-    if text::is_word(s, from, to, &keys::NONE) {
-        return Reason::Is(Why::Nothing);
+    if let Place::At(next) = word_to(s, from, &keys::NONE, 10) {
+        return Reason::Is(Why::Nothing, next);
     }
-    if let Number::Is(n) = read_coded(s, from, to, &keys::FOR_TRACKS) {
-        return Reason::Is(Why::Tracks(two_bytes(n)));
+    if let Figure::Is(n, next) = coded_to(s, from, &keys::FOR_TRACKS, 10) {
+        return Reason::Is(Why::Tracks(two_bytes(n)), next);
     }
-    if let Number::Is(k) = read_coded(s, from, to, &keys::FOR_SON) {
-        return Reason::Is(Why::Son(byte(k)));
+    if let Figure::Is(k, next) = coded_to(s, from, &keys::FOR_SON, 10) {
+        return Reason::Is(Why::Son(byte(k)), next);
     }
-    if let Number::Is(r) = read_coded(s, from, to, &keys::FOR_LOCK) {
-        return Reason::Is(Why::Lock(byte(r)));
+    if let Figure::Is(r, next) = coded_to(s, from, &keys::FOR_LOCK, 10) {
+        return Reason::Is(Why::Lock(byte(r)), next);
     }
-    if text::is_word(s, from, to, &keys::FOR_NUMBER) {
-        return Reason::Is(Why::Number);
+    if let Place::At(next) = word_to(s, from, &keys::FOR_NUMBER, 10) {
+        return Reason::Is(Why::Number, next);
     }
     Reason::Not
 }
 
 // first-last:holder
-pub(crate) fn read_run(s: &[u8], from: usize, to: usize) -> Run
-    requires { ⌜ from ≤ to ⌝ }
-    requires { ⌜ to ≤ length (now s) ⌝ }
-    ensures { λ r. ⌜ runRead r ≡ into narrowRun (runIn (slice from to (now (s .entry)))) ⌝ }
+pub(crate) fn run_to(s: &[u8], from: usize) -> Run
+    requires { ⌜ from ≤ length (now s) ⌝ }
+    ensures { λ r. ⌜ RunTo (now (s .entry)) from r ⌝ }
 {
-    let Place::At(colon) = only(s, from, to, b':') else {
+    let Figure::Is(first, a) = figure_to(s, from, b'-') else {
         return Run::Not;
     };
-    let Place::At(dash) = only(s, from, colon, b'-') else {
+    let Figure::Is(last, b) = figure_to(s, a, b':') else {
         return Run::Not;
     };
-    let Number::Is(first) = read_figure(s, from, dash) else {
+    let Figure::Is(holder, next) = party_to(s, b, 10) else {
         return Run::Not;
     };
-    let Number::Is(last) = read_figure(s, dash + 1, colon) else {
-        return Run::Not;
-    };
-    let Number::Is(holder) = read_party(s, colon + 1, to) else {
-        return Run::Not;
-    };
-    Run::Is(first, last, byte(holder))
+    Run::Is(first, last, byte(holder), next)
 }
 
 // r:owner:lock
-pub(crate) fn read_resource(s: &[u8], from: usize, to: usize) -> Resource
-    requires { ⌜ from ≤ to ⌝ }
-    requires { ⌜ to ≤ length (now s) ⌝ }
-    ensures { λ r. ⌜ resourceRead r ≡ into narrowNumbered (numbered (slice from to (now (s .entry)))) ⌝ }
+pub(crate) fn resource_to(s: &[u8], from: usize) -> Resource
+    requires { ⌜ from ≤ length (now s) ⌝ }
+    ensures { λ r. ⌜ ResourceTo (now (s .entry)) from r ⌝ }
 {
-    let first = mark(s, from, to, b':');
-    if first == to {
-        return Resource::Not;
-    }
-    let Place::At(second) = only(s, first + 1, to, b':') else {
+    let Figure::Is(r, a) = figure_to(s, from, b':') else {
         return Resource::Not;
     };
-    let Number::Is(r) = read_figure(s, from, first) else {
+    let Figure::Is(owner, b) = party_to(s, a, b':') else {
         return Resource::Not;
     };
-    let Number::Is(owner) = read_party(s, first + 1, second) else {
+    let Figure::Is(lock, next) = dashed_to(s, b, 10) else {
         return Resource::Not;
     };
-    let Number::Is(lock) = read_dashed(s, second + 1, to) else {
-        return Resource::Not;
-    };
-    Resource::Is(r, byte(owner), byte(lock))
+    Resource::Is(r, byte(owner), byte(lock), next)
 }
 
 // The programs of a chain, joined by commas, put into the links from a slot on.
