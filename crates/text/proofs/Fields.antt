@@ -5,13 +5,13 @@ use Prim.Native.Nat.{ℕ, zero, suc, _+_, _-_, _<_, _≤_}
 use native.Mathlib.Nat.{suc-add, zero-add}
 use native.Mathlib.Numerals.{add-one}
 use native.Mathlib.Omega.{arith}
-use mathlib.Core.Path.{_≡_, refl, sym, ap, ap₂, _∙_}
+use mathlib.Core.Path.{_≡_, refl, sym, ap, ap₂, subst, _∙_}
 use mathlib.Core.Logic.{_≢_}
 use mathlib.Core.Bool.{Bool, true, false, cond, _&&_}
-use mathlib.Core.List.{List, [], _∷_}
+use mathlib.Core.List.{List, [], _∷_, _++_}
 use lib.Dec.{eqb, eqb·zero-suc, eqb·suc-suc}
 use lib.ListN.{length, getD, take, drop, length-drop, drop-of-length-le}
-use lib.Seq.{slice, slice-cons, slice-empty, drop-cons, take-nil, drop-drop}
+use lib.Seq.{slice, slice-cons, slice-empty, drop-cons, take-nil, drop-drop, take-add, drop-append-le, length-take-le}
 use borrow.Author.Tests.{eq-eqb, ne-eqb}
 use Rattle.lists.specs.Lists.{alike}
 use Rattle.lists.proofs.Tests.{alike-true}
@@ -34,6 +34,15 @@ pub drop-take : (a c : ℕ) (l : List ℕ) → drop a (take (a + c) l) ≡ take 
 drop-take zero c l = rw (zero-add c)
 drop-take (suc a) c [] = rw (suc-add a c) (sym (take-nil c))
 drop-take (suc a) c (x ∷ l) = rw (suc-add a c) (drop-take a c l)
+
+-- a slice up to a place in it, and on from there
+pub slice-split : (l : List ℕ) (f m t : ℕ) → f ≤ m → m ≤ t → t ≤ length l → slice f t l ≡ slice f m l ++ slice m t l
+slice-split l f m t h k b =
+    let e : m + (t - m) ≡ t = omega arith in
+    subst (λ (n : ℕ). slice f n l ≡ slice f m l ++ slice m n l) e
+    (ap (drop f) (take-add m (t - m) l)
+    ∙ drop-append-le f (take m l) (take (t - m) (drop m l)) (omega (arith, length-take-le m l (omega arith)))
+    ∙ ap (λ (r : List ℕ). slice f m l ++ r) (sym (drop-take m (t - m) l)))
 
 -- where the first d stands, or the length where there is none
 unfoldable pub until : ℕ → List ℕ → ℕ

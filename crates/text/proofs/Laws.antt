@@ -13,7 +13,7 @@ use lib.Seq.{sets, sets-eq, take-at, length-sets, drop-cons}
 use borrow.Author.Tests.{lt-ltb, le-ltb}
 use Rattle.lists.specs.Lists.{join}
 use Rattle.text.specs.Text.{digits, decimal, entry}
-use Rattle.text.specs.Inner.{Wrote}
+use Rattle.text.specs.Inner.{Wrote, threeDigits}
 
 pub sets-append : (x y l : List ℕ) (i : ℕ) → sets l i (x ++ y) ≡ sets (sets l i x) (i + length x) y
 sets-append [] y l i = ap (λ (k : ℕ). sets l k y) (sym (add-zero i))
@@ -166,6 +166,34 @@ decimal-small n h = digits-small 19 n h
 pub decimal-step : (n : ℕ) → 10 ≤ n → n < ten 20 → decimal n ≡ decimal (n / 10) ++ ((48 + n % 10) ∷ [])
 unfolding decimal
 decimal-step n h b = digits-step 19 n h ∙ ap (λ (r : List ℕ). r ++ ((48 + n % 10) ∷ [])) (digits-more 18 (n / 10) (omega arith))
+
+-- the same, before what stands behind
+decimal-on : (n : ℕ) (r : List ℕ) → 10 ≤ n → n < ten 20 → decimal n ++ r ≡ decimal (n / 10) ++ ((48 + n % 10) ∷ r)
+decimal-on n r h b = ap (λ (l : List ℕ). l ++ r) (decimal-step n h b) ∙ append-assoc (decimal (n / 10)) ((48 + n % 10) ∷ []) r
+
+-- numbers of two digits, of three, and of more by their thousands
+pub decimal-two : (n : ℕ) → 10 ≤ n → n < 100 → decimal n ≡ (48 + n / 10) ∷ (48 + n % 10) ∷ []
+decimal-two n h b =
+    decimal-step n h (omega arith) ∙ ap (λ (l : List ℕ). l ++ ((48 + n % 10) ∷ [])) (decimal-small (n / 10) (omega arith))
+
+pub decimal-three : (n : ℕ) → 100 ≤ n → n < 1000 → decimal n ≡ threeDigits n
+decimal-three n h b =
+    decimal-step n (omega arith) (omega arith)
+    ∙ ap (λ (l : List ℕ). l ++ ((48 + n % 10) ∷ [])) (decimal-two (n / 10) (omega arith) (omega arith))
+    ∙ ap (λ (k : ℕ). (48 + k) ∷ (48 + n / 10 % 10) ∷ (48 + n % 10) ∷ []) (omega arith)
+
+pub decimal-thousands : (n : ℕ) → 1000 ≤ n → n < ten 20 → decimal n ≡ decimal (n / 1000) ++ threeDigits (n % 1000)
+decimal-thousands n h b =
+    let q : n / 10 / 10 / 10 ≡ n / 1000 = omega arith in
+    let x : n / 10 / 10 % 10 ≡ n % 1000 / 100 = omega arith in
+    let y : n / 10 % 10 ≡ n % 1000 / 10 % 10 = omega arith in
+    let z : n % 10 ≡ n % 1000 % 10 = omega arith in
+    rw (← q, ← x, ← y, ← z) (decimal-step n (omega arith) b
+    ∙ decimal-on (n / 10) ((48 + n % 10) ∷ []) (omega arith) (omega arith)
+    ∙ decimal-on (n / 10 / 10) ((48 + n / 10 % 10) ∷ (48 + n % 10) ∷ []) (omega arith) (omega arith))
+
+pub thousands-length : (n : ℕ) → 1000 ≤ n → n < ten 20 → length (decimal n) ≡ length (decimal (n / 1000)) + 3
+thousands-length n h b = ap length (decimal-thousands n h b) ∙ length-append (decimal (n / 1000)) (threeDigits (n % 1000))
 
 -- a number below 10 ^ (f + 1) has at most f + 1 digits, whatever the fuel
 pub digits-length : (f g n : ℕ) → n < ten (suc f) → length (digits g n) ≤ suc f

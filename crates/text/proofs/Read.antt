@@ -1,4 +1,4 @@
--- Laws of reading a number: a turn of the loop, the answers, and that what was written is read back.
+-- Laws of reading a number: one digit more, the answers, and that what was written is read back.
 -- Assumes nothing.
 use Prim.Native.Nat.{ℕ, zero, suc, _+_, _*_, _-_, _/_, _%_, _<_, _≤_}
 use native.Mathlib.Omega.{arith}
@@ -8,13 +8,13 @@ use mathlib.Core.List.{List, [], _∷_, _++_, append-assoc, append-nil}
 use mathlib.Core.Option.{Option, none, some}
 use lib.Dec.{leb, ltb, eqb}
 use lib.ListN.{length, getD, List·getD-append}
-use lib.Seq.{slice}
+use lib.Seq.{slice, slice-empty}
 use borrow.Author.Tests.{ltb-true, ltb-false, lt-leb, eqb-false, eq-eqb, ne-eqb}
 use Rattle.lists.specs.Lists.{upTo}
 use Rattle.lists.proofs.Tests.{and, or, upTo-is}
 use Rattle.text.specs.Text.{digits, decimal, horner, numberOf}
 use Rattle.text.proofs.Laws.{ten, digits-small, digits-step, digits-pos, decimal-small, decimal-length, decimal-pos, ten-mono}
-use Rattle.text.proofs.Fields.{slice-next}
+use Rattle.text.proofs.Fields.{slice-next, slice-split}
 
 -- a test that fails with its second part
 fails : (a b : Bool) → b ≡ false → (a && b) ≡ false
@@ -31,15 +31,37 @@ upTo-over l h n k = fails (leb l n) (leb n h) (lt-leb n h k)
 abbrev turn : ℕ → ℕ → List ℕ → Bool → Option ℕ
 turn a x xs t = elim t [ true ↦ horner (a * 10 + (x - 48)) xs | false ↦ none ]
 
-pub horner-digit : (a x : ℕ) (xs : List ℕ) → 48 ≤ x → x ≤ 57 → horner a (x ∷ xs) ≡ horner (a * 10 + (x - 48)) xs
+horner-digit : (a x : ℕ) (xs : List ℕ) → 48 ≤ x → x ≤ 57 → horner a (x ∷ xs) ≡ horner (a * 10 + (x - 48)) xs
 horner-digit a x xs l h = ap (turn a x xs) (upTo-is 48 57 x l h)
 
-module _ (a : ℕ) (s : List ℕ) (i t : ℕ) (h : i < t) (k : t ≤ length s) where
-  pub horner-on : 48 ≤ getD s i 0 → getD s i 0 ≤ 57 → horner a (slice i t s) ≡ horner (a * 10 + (getD s i 0 - 48)) (slice (i + 1) t s)
-  horner-on l m = ap (horner a) (slice-next s i t h k) ∙ horner-digit a (getD s i 0) (slice (i + 1) t s) l m
+-- digits that were read, and what stands behind them
+horner-append : (xs ys : List ℕ) (a b : ℕ) → horner a xs ≡ some b → horner a (xs ++ ys) ≡ horner b ys
+horner-append [] ys a b e = let q : a ≡ b = cc in ap (λ (k : ℕ). horner k ys) q
+horner-append (x ∷ xs) ys a b e = go (upTo 48 57 x) e (horner-append xs ys (a * 10 + (x - 48)) b)
+  where
+    go : (t : Bool) → turn a x xs t ≡ some b
+        → (horner (a * 10 + (x - 48)) xs ≡ some b → horner (a * 10 + (x - 48)) (xs ++ ys) ≡ horner b ys)
+        → turn a x (xs ++ ys) t ≡ horner b ys
+    go true h ih = ih h
+    go false h ih = let z : _≡_ {A = ℕ} 0 1 = cc in absurd (omega arith)
 
-  pub horner-not : upTo 48 57 (getD s i 0) ≡ false → horner a (slice i t s) ≡ none
-  horner-not e = ap (horner a) (slice-next s i t h k) ∙ ap (turn a (getD s i 0) (slice (i + 1) t s)) e
+-- what stands before i was read as a; at i stands one digit more, or a byte that is none
+module _ (s : List ℕ) (from i a : ℕ) (l : from ≤ i) (e : horner 0 (slice from i s) ≡ some a) where
+  horner-at : (t : ℕ) → i < t → t ≤ length s → horner 0 (slice from t s) ≡ horner a (getD s i 0 ∷ slice (i + 1) t s)
+  horner-at t h k =
+      ap (horner 0) (slice-split s from i t l (omega arith) k)
+      ∙ horner-append (slice from i s) (slice i t s) 0 a e
+      ∙ ap (horner a) (slice-next s i t h k)
+
+  pub horner-more : i < length s → 48 ≤ getD s i 0 → getD s i 0 ≤ 57
+      → horner 0 (slice from (i + 1) s) ≡ some (a * 10 + (getD s i 0 - 48))
+  horner-more k b c =
+      horner-at (i + 1) (omega arith) (omega arith)
+      ∙ horner-digit a (getD s i 0) (slice (i + 1) (i + 1) s) b c
+      ∙ ap (horner (a * 10 + (getD s i 0 - 48))) (slice-empty (i + 1) s)
+
+  pub horner-stop : (t : ℕ) → i < t → t ≤ length s → upTo 48 57 (getD s i 0) ≡ false → horner 0 (slice from t s) ≡ none
+  horner-stop t h k n = horner-at t h k ∙ ap (turn a (getD s i 0) (slice (i + 1) t s)) n
 
 -- the answers
 abbrev shown : ℕ → List ℕ → Bool

@@ -1,12 +1,12 @@
 // Text as bytes: put at a place of a lent buffer, and read: fields, words and numbers.
 ghost use mathlib.Core.Path.{_≡_};
 ghost use mathlib.Core.List.{[], _∷_, _++_};
-ghost use Prim.Native.Nat.{_+_, _≤_};
-ghost use lib.ListN.{length};
+ghost use Prim.Native.Nat.{_+_, _≤_, _<_};
+ghost use lib.ListN.{length, drop};
 ghost use lib.Seq.{slice};
 ghost use Rattle.lists.specs.Lists.{alike};
-ghost use Rattle.text.specs.Text.{decimal, horner, numberOf, entry};
-ghost use Rattle.text.specs.Inner.{Wrote, PartEnd, Behind, read};
+ghost use Rattle.text.specs.Text.{decimal, numberOf, entry};
+ghost use Rattle.text.specs.Inner.{Wrote, PartEnd, Behind, read, threeDigits, DigitsFrom};
 
 // Puts b at `at`. Each function that puts bytes hands back the place behind them.
 pub fn put_byte(buf: &mut [u8], at: usize, b: u8) -> usize
@@ -29,17 +29,54 @@ pub fn put_bytes(buf: &mut [u8], at: usize, s: &[u8]) -> usize
     o
 }
 
-// n in decimal.
-pub fn put_number(buf: &mut [u8], at: usize, n: u64) -> usize
+// The three digits of a number below 1,000, zeros in front of it too.
+fn put_three(buf: &mut [u8], at: usize, n: u64) -> usize
+    requires { ⌜ n < 1000 ⌝ }
+    requires { ⌜ at + 3 ≤ length (now buf) ⌝ }
+    ensures { λ r. ⌜ Wrote (now (buf .entry)) at (threeDigits n) (now (buf .exit)) r ⌝ }
+{
+    let a = put_byte(buf, at, 48 + (n / 100) as u8);
+    let b = put_byte(buf, a, 48 + (n / 10 % 10) as u8);
+    put_byte(buf, b, 48 + (n % 10) as u8)
+}
+
+// A number below 1,000 in decimal.
+fn put_small(buf: &mut [u8], at: usize, n: u64) -> usize
+    requires { ⌜ n < 1000 ⌝ }
     requires { ⌜ at + length (decimal n) ≤ length (now buf) ⌝ }
     ensures { λ r. ⌜ Wrote (now (buf .entry)) at (decimal n) (now (buf .exit)) r ⌝ }
 {
     if n < 10 {
-        put_byte(buf, at, 48 + n as u8)
-    } else {
-        let next = put_number(buf, at, n / 10);
-        put_byte(buf, next, 48 + (n % 10) as u8)
+        return put_byte(buf, at, 48 + n as u8);
     }
+    if n < 100 {
+        let a = put_byte(buf, at, 48 + (n / 10) as u8);
+        return put_byte(buf, a, 48 + (n % 10) as u8);
+    }
+    put_three(buf, at, n)
+}
+
+// n in decimal, three digits at a time.
+fn put_large(buf: &mut [u8], at: usize, n: u64) -> usize
+    requires { ⌜ at + length (decimal n) ≤ length (now buf) ⌝ }
+    ensures { λ r. ⌜ Wrote (now (buf .entry)) at (decimal n) (now (buf .exit)) r ⌝ }
+{
+    if n < 1000 {
+        return put_small(buf, at, n);
+    }
+    let next = put_large(buf, at, n / 1000);
+    put_three(buf, next, n % 1000)
+}
+
+// n in decimal. Most numbers of a page are small: for them nothing calls itself, and the compiler puts them in place.
+pub fn put_number(buf: &mut [u8], at: usize, n: u64) -> usize
+    requires { ⌜ at + length (decimal n) ≤ length (now buf) ⌝ }
+    ensures { λ r. ⌜ Wrote (now (buf .entry)) at (decimal n) (now (buf .exit)) r ⌝ }
+{
+    if n < 1000 {
+        return put_small(buf, at, n);
+    }
+    put_large(buf, at, n)
 }
 
 // The beginning of a line: a key, and `=`.
@@ -103,6 +140,23 @@ pub fn is_word(s: &[u8], from: usize, to: usize, w: &[u8]) -> bool
     true
 }
 
+// Whether s from a place on is w. Every byte is compared, also behind one that differs: so the compiler compares many at once.
+pub fn rest_is(s: &[u8], from: usize, w: &[u8]) -> bool
+    requires { ⌜ from ≤ length (now s) ⌝ }
+    ensures { λ r. ⌜ r ≡ alike (drop from (now (s .entry))) (now (w .entry)) ⌝ }
+{
+    if s.len() - from != w.len() {
+        return false;
+    }
+    let mut same = true;
+    for i in 0..w.len() {
+        if s[from + i] != w[i] {
+            same = false;
+        }
+    }
+    same
+}
+
 // The place behind a word, or none.
 pub enum Place {
     At(usize),
@@ -134,25 +188,37 @@ pub enum Number {
     Not,
 }
 
-// What the digits s[from..to] say.
-fn read_digits(s: &[u8], from: usize, to: usize) -> Number
-    requires { ⌜ from ≤ to ⌝ }
-    requires { ⌜ to ≤ from + 19 ⌝ }
-    requires { ⌜ to ≤ length (now s) ⌝ }
-    ensures { λ r. ⌜ read r ≡ horner 0 (slice from to (now (s .entry))) ⌝ }
+// What digits say, and the place behind them.
+pub struct Digits {
+    pub value: u64,
+    pub end: usize,
+}
+
+// The digits that stand from a place on, `most` of them at most.
+pub fn digits_from(s: &[u8], from: usize, most: usize) -> Digits
+    requires { ⌜ from ≤ length (now s) ⌝ }
+    requires { ⌜ most ≤ 19 ⌝ }
+    ensures { λ r. ⌜ DigitsFrom (now (s .entry)) from most r ⌝ }
 {
+    let mut limit = s.len();
+    if most < limit - from {
+        limit = from + most;
+    }
     let mut a: u64 = 0;
-    for i in from..to {
-        let b = s[i];
+    for i in from..limit {
+        let b = s[i] as u64;
         if b < 48 {
-            return Number::Not;
+            return Digits { value: a, end: i };
         }
         if 57 < b {
-            return Number::Not;
+            return Digits { value: a, end: i };
         }
-        a = a * 10 + (b - 48) as u64;
+        a = a * 10 + (b - 48);
     }
-    Number::Is(a)
+    Digits {
+        value: a,
+        end: limit,
+    }
 }
 
 // s[from..to] as a number of 1 to `most` digits without leading zeros.
@@ -169,11 +235,14 @@ pub fn read_number(s: &[u8], from: usize, to: usize, most: usize) -> Number
     if most < n {
         return Number::Not;
     }
-    if n == 1 {
-        return read_digits(s, from, to);
+    if 1 < n {
+        if s[from] == 48 {
+            return Number::Not;
+        }
     }
-    if s[from] == 48 {
+    let d = digits_from(s, from, n);
+    if d.end < to {
         return Number::Not;
     }
-    read_digits(s, from, to)
+    Number::Is(d.value)
 }
