@@ -2,7 +2,7 @@
 -- Assumes nothing.
 use Prim.Native.Nat.{ℕ, suc, _+_, _≤_, _<_}
 use native.Mathlib.Omega.{arith}
-use mathlib.Core.Path.{_≡_, refl, sym, ap, _∙_}
+use mathlib.Core.Path.{_≡_, refl, sym, ap, _∙_, subst}
 use mathlib.Core.Bool.{Bool, true, false, cond}
 use lib.Dec.{eqb}
 use mathlib.Core.List.{List, [], _∷_, _++_}
@@ -11,19 +11,25 @@ use lib.ListN.{length, drop, length-drop, drop-of-length-le}
 use Rattle.text.specs.Text.{text, behind, onFirst, parts}
 use Rattle.rules.specs.Keeper.{lists, State}
 use Rattle.page.specs.Page.{numberKey, endKey, lastWord}
-use Rattle.reader.specs.Shapes.{there}
+use Rattle.reader.specs.Shapes.{there, numbered}
 use Rattle.reader.specs.Order.{Place, numbering, ended, numberForm, endForm, Choice, choice, mayCome, valueBehind, afterOne, behindLine, behindAll, firstBad}
 use Rattle.reader.specs.Said.{withLine, restSaid}
-use Rattle.reader.specs.Inner.{LineIs, NoLine, unended, keyless, shapeless, wordIs}
+use Rattle.reader.specs.Inner.{narrowNumbered, numberIn, LineIs, NoLine, unended, keyless, shapeless, wordIs}
 use Rattle.reader.specs.Walks.{ahead, EndRead}
 use Rattle.reader.proofs.ScanLaws.{pass}
-use Rattle.reader.proofs.LineLaws.{some-line, scan-line, scan-stop, pass-key, pass-shape}
+use Rattle.reader.proofs.LineLaws.{some-line, scan-line, scan-stop, pass-key, pass-shape, there-into}
 use Rattle.reader.proofs.HeadLaws.{word-there}
 
--- at the numbers, a line that is none can only be the last one
+-- at the numbers, a line that is none, or not of its shape, can only be the last one
 at-numbers : (l : List ℕ) → valueBehind (text numberKey) l ≡ none → behindLine numbering l ≡ afterOne (choice endForm ended ∷ []) l
 unfolding behindLine
 at-numbers l e = pass-key (choice numberForm numbering) (choice endForm ended ∷ []) l e
+
+misshapen : (v : List ℕ) → numberIn v ≡ none
+    → behindLine numbering (text numberKey ++ (61 ∷ v)) ≡ afterOne (choice endForm ended ∷ []) (text numberKey ++ (61 ∷ v))
+unfolding behindLine
+misshapen v e =
+    pass-shape (choice numberForm numbering) (choice endForm ended ∷ []) v (sym (there-into narrowNumbered (numbered v)) ∙ ap there e)
 
 -- two ways to cut one text
 one-line : {l m : List ℕ} {ls ms : List (List ℕ)} → l ∷ ls ≡ m ∷ ms → l ≡ m
@@ -35,28 +41,28 @@ one-line e = ap first e
 
 -- a line that is no number and not the last one either
 module _ (s : List ℕ) (at line : ℕ) where
-  stops : (l : List ℕ) (next : ℕ) → parts 10 (drop at s) ≡ l ∷ parts 10 (drop next s) → valueBehind (text numberKey) l ≡ none
-      → afterOne (choice endForm ended ∷ []) l ≡ none → firstBad numbering line (ahead s at) ≡ line
-  stops l next e f g = ap (firstBad numbering line) e ∙ scan-stop numbering l (drop next s) line (at-numbers l f ∙ g)
-
-  not-number : (l : List ℕ) (next : ℕ) → parts 10 (drop at s) ≡ l ∷ parts 10 (drop next s) → NoLine {A = List ℕ} some s at (text numberKey)
-      → valueBehind (text numberKey) l ≡ none
-  not-number l next e (unended m f) =
+  no-number : (l : List ℕ) (next : ℕ) → parts 10 (drop at s) ≡ l ∷ parts 10 (drop next s) → NoLine numberIn s at (text numberKey)
+      → behindLine numbering l ≡ afterOne (choice endForm ended ∷ []) l
+  no-number l next e (unended m f) =
       let (y, ys, g) = some-line (drop next s) in
       absurd (omega (arith, ap length (sym f ∙ e ∙ ap (λ (x : List (List ℕ)). l ∷ x) g)))
-  not-number l next e (keyless m n f g) = ap (valueBehind (text numberKey)) (one-line (sym e ∙ f)) ∙ g
-  not-number l next e (shapeless v n f g) = absurd (Option·none-ne-some v (sym g))
+  no-number l next e (keyless m n f g) = at-numbers l (ap (valueBehind (text numberKey)) (one-line (sym e ∙ f)) ∙ g)
+  no-number l next e (shapeless v n f g) =
+      subst (λ (x : List ℕ). behindLine numbering x ≡ afterOne (choice endForm ended ∷ []) x) (sym (one-line (sym e ∙ f))) (misshapen v g)
 
-  scan-no-end : NoLine {A = List ℕ} some s at (text numberKey) → NoLine (wordIs (text lastWord)) s at (text endKey)
+  stops : (l : List ℕ) (next : ℕ) → parts 10 (drop at s) ≡ l ∷ parts 10 (drop next s) → NoLine numberIn s at (text numberKey)
+      → afterOne (choice endForm ended ∷ []) l ≡ none → firstBad numbering line (ahead s at) ≡ line
+  stops l next e x g = ap (firstBad numbering line) e ∙ scan-stop numbering l (drop next s) line (no-number l next e x ∙ g)
+
+  scan-no-end : NoLine numberIn s at (text numberKey) → NoLine (wordIs (text lastWord)) s at (text endKey)
       → firstBad numbering line (ahead s at) ≡ line
   unfolding firstBad
   scan-no-end x (unended l e) = ap (firstBad numbering line) e
-  scan-no-end x (keyless l next e f) = stops l next e (not-number l next e x) (pass-key (choice endForm ended) [] l f)
+  scan-no-end x (keyless l next e f) = stops l next e x (pass-key (choice endForm ended) [] l f)
   scan-no-end x (shapeless v next e f) =
-      stops (text endKey ++ (61 ∷ v)) next e (not-number (text endKey ++ (61 ∷ v)) next e x)
-      (pass-shape (choice endForm ended) [] v (word-there (text lastWord) v ∙ ap there f))
+      stops (text endKey ++ (61 ∷ v)) next e x (pass-shape (choice endForm ended) [] v (word-there (text lastWord) v ∙ ap there f))
 
-  pub no-end : 1 ≤ line → NoLine {A = List ℕ} some s at (text numberKey) → NoLine (wordIs (text lastWord)) s at (text endKey)
+  pub no-end : 1 ≤ line → NoLine numberIn s at (text numberKey) → NoLine (wordIs (text lastWord)) s at (text endKey)
       → EndRead s at line line
   no-end h x y = record { scan = scan-no-end x y; says = λ e. absurd (omega arith) }
 

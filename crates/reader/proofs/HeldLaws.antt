@@ -7,7 +7,6 @@ use mathlib.Core.Bool.{Bool, true, false, cond, _&&_}
 use mathlib.Core.List.{List, [], _∷_, _++_, map}
 use mathlib.Core.Option.{Option, none, some, Option·none-ne-some, Option·some-injective}
 use lib.ListN.{length, set, drop, length-map, drop-of-length-le}
-use lib.Seq.{slice}
 use lib.Dec.{leb, ltb}
 use borrow.Author.Tests.{le-leb, lt-leb, lt-ltb, le-ltb}
 use Rattle.lists.proofs.Tests.{and}
@@ -21,16 +20,15 @@ use Rattle.tracks.proofs.Runs.{filled-long}
 use Rattle.rules.specs.Book.{withHolders}
 use Rattle.rules.specs.Keeper.{lists, State}
 use Rattle.page.specs.Page.{heldKey, numberKey}
-use Rattle.reader.specs.declared.parts.Held.{Held}
 use Rattle.reader.specs.Shapes.{there, into, runIn}
 use Rattle.reader.specs.Order.{Place, holding, numbering, ended, heldForm, numberForm, endForm, Choice, choice, valueBehind, afterOne}
 use Rattle.reader.specs.Order.{behindLine, firstBad}
 use Rattle.reader.specs.Said.{onBook, withRun, withHeld, withNumbered, withLine, restSaid}
-use Rattle.reader.specs.Inner.{byte, narrowRun, LineIs, NoLine, unended, keyless, shapeless, ValueIs}
-use Rattle.reader.specs.Walks.{ahead, Onward, Holds, HeldOf, HeldIs, HeldRead}
+use Rattle.reader.specs.Inner.{byte, narrowRun, heldIn, runOf, LineIs, NoLine, unended, keyless, shapeless}
+use Rattle.reader.specs.Walks.{ahead, Onward, Holds, HeldOf, HeldRead}
 use Rattle.reader.proofs.Mapping.{map-set}
 use Rattle.reader.proofs.ScanLaws.{value-behind}
-use Rattle.reader.proofs.LineLaws.{line-shaped, some-line, scan-line, scan-stop, pass-key, pass-shape, scan-on}
+use Rattle.reader.proofs.LineLaws.{there-into, scan-alike, pass-key, pass-shape, scan-on}
 
 -- what is held so far in a state
 pub record HeldSoFar (s : List ℕ) (at o : ℕ) (table : Tracks) (a : State lists) : Type 0 where
@@ -136,14 +134,10 @@ module _ (t : Tracks) (a : State lists) (k : Holds t a) (g : Run) where
           }
 
 -- a run as the code reads it
-pub run-found : (o : Option Run) (i j h : ℕ) → some (record { first = i; last = j; holder = h }) ≡ into narrowRun o
-    → (g : Run) × (o ≡ some g) × (narrowRun g ≡ record { first = i; last = j; holder = h })
+run-found : (o : Option Run) (i j h : ℕ) → some (runOf i j h) ≡ into narrowRun o
+    → (g : Run) × (o ≡ some g) × (narrowRun g ≡ runOf i j h)
 run-found none i j h e = absurd (Option·none-ne-some _ (sym e))
 run-found (some g) i j h e = (g, refl, Option·some-injective _ _ (sym e))
-
-pub no-run : (o : Option Run) → none ≡ into narrowRun o → o ≡ none
-no-run none e = refl
-no-run (some g) e = absurd (Option·none-ne-some _ e)
 
 -- a line of a run
 held-says : (b : State lists) (v : List ℕ) (g : Run) (ls : List (List ℕ)) → runIn v ≡ some g
@@ -163,66 +157,53 @@ fits-put t i j h f = go (within t i j)
     go true = fit (t .count) (t .system) (filled i (suc j - i) h (holders t)) (filled-long i (suc j - i) h (holders t) ∙ f .long) (f .most)
     go false = f
 
--- a line of another kind: what may come is the same as at the numbers
-to-numbers : (s : List ℕ) (o n : ℕ) → NoLine {A = List ℕ} some s o (text heldKey)
-    → firstBad holding n (ahead s o) ≡ firstBad numbering n (ahead s o)
+-- a line of another kind, or of this one but not of its shape: what may come is the same as at the numbers
+unheld : (v : List ℕ) → heldIn v ≡ none → there (runIn v) ≡ false
+unheld v e = sym (there-into narrowRun (runIn v)) ∙ ap there e
+
+to-numbers : (s : List ℕ) (o n : ℕ) → NoLine heldIn s o (text heldKey) → firstBad holding n (ahead s o) ≡ firstBad numbering n (ahead s o)
 unfolding firstBad behindLine
 to-numbers s o n (unended l e) = ap (firstBad holding n) e ∙ sym (ap (firstBad numbering n) e)
 to-numbers s o n (keyless l next e k) =
-    let (m, ls, f) = some-line (drop next s) in
-    let g : ahead s o ≡ l ∷ m ∷ ls = e ∙ ap (λ (x : List (List ℕ)). l ∷ x) f in
-    ap (firstBad holding n) g
-    ∙ ap (λ (x : Option Place). elim x [ none ↦ n | some q ↦ firstBad q (suc n) (m ∷ ls) ])
-    (pass-key (choice heldForm holding) (choice numberForm numbering ∷ choice endForm ended ∷ []) l k)
-    ∙ sym (ap (firstBad numbering n) g)
-to-numbers s o n (shapeless v next e k) = absurd (Option·none-ne-some v (sym k))
+    scan-alike holding numbering l (drop next s) n
+    (pass-key (choice heldForm holding) (choice numberForm numbering ∷ choice endForm ended ∷ []) l k) e
+to-numbers s o n (shapeless v next e k) =
+    scan-alike holding numbering (text heldKey ++ (61 ∷ v)) (drop next s) n
+    (pass-shape (choice heldForm holding) (choice numberForm numbering ∷ choice endForm ended ∷ []) v (unheld v k)) e
 
 module _ {s : List ℕ} {at line : ℕ} {tracks table : Tracks} {o n : ℕ} (p : SoFar s at line tracks table o n) where
   -- no more of them
-  pub all-read : NoLine {A = List ℕ} some s o (text heldKey)
-      → HeldRead s at line tracks (record { bad = 0; at = o; line = n; tracks = table })
+  pub all-read : NoLine heldIn s o (text heldKey) → HeldRead s at line tracks (record { at = o; line = n; tracks = table })
   all-read l =
       record {
-        read = λ e. record {
-          onward = p .onward;
-          scan = p .scan ∙ to-numbers s o n l;
-          of = λ a k. let q = p .of a k in record { told = q .told; held = q .held; says = q .says };
-        };
-        stops = λ h. absurd (omega arith);
+        onward = p .onward;
+        scan = p .scan ∙ to-numbers s o n l;
+        of = λ a k. let q = p .of a k in record { told = q .told; held = q .held; says = q .says };
       }
 
-  module _ (from to : ℕ) (v : ValueIs s o (text heldKey) from to) where
-    -- one that is no run
-    pub bad-run : runIn (slice from to s) ≡ none → (x : Held) → x .bad ≡ n → HeldRead s at line tracks x
-    unfolding behindLine valueBehind behind
-    bad-run e x f =
+  -- one more
+  module _ {i j h next : ℕ} (l : LineIs heldIn s o (text heldKey) (runOf i j h) next) where
+    more : (g : Run) → runIn (l .value) ≡ some g → SoFar s at line tracks (putRun table (g .first) (g .last) (byte (g .holder))) next (n + 1)
+    more g e =
         record {
-          read = λ z. absurd (omega (arith, f, p .onward .some));
-          stops = λ h. p .scan ∙ ap (firstBad holding n) (v .cut)
-              ∙ scan-stop holding (text heldKey ++ (61 ∷ slice from to s)) (drop (to + 1) s) n
-              (pass-shape (choice heldForm holding) (choice numberForm numbering ∷ choice endForm ended ∷ []) (slice from to s)
-              (ap there e))
-              ∙ sym f;
-        }
-
-    -- one more
-    pub one-more : (g : Run) → runIn (slice from to s) ≡ some g → (table′ : Tracks)
-        → table′ ≡ putRun table (g .first) (g .last) (byte (g .holder))
-        → SoFar s at line tracks table′ (to + 1) (n + 1)
-    one-more g e table′ f =
-        subst (λ (t : Tracks). SoFar s at line tracks t (to + 1) (n + 1)) (sym f)
-        (record {
-          onward = record { within = omega (arith, v .high); some = omega arith; counted = omega (arith, v .beyond, p .onward .counted) };
+          onward = record { within = l .within; some = omega arith; counted = omega (arith, l .beyond, p .onward .counted) };
           fitting = fits-put table (g .first) (g .last) (byte (g .holder)) (p .fitting);
-          scan = p .scan ∙ scan-on runIn s o holding (choice heldForm holding) _ refl (line-shaped runIn v e) refl n
-              ∙ ap (λ (x : ℕ). firstBad holding x (ahead s (to + 1))) (let h : suc n ≡ n + 1 = omega arith in h);
+          scan = p .scan
+              ∙ scan-on heldIn s o holding (choice heldForm holding) _ refl l (sym (there-into narrowRun (runIn (l .value)))) n
+              ∙ ap (λ (x : ℕ). firstBad holding x (ahead s next)) (let h : suc n ≡ n + 1 = omega arith in h);
           of = λ a k.
               let q = p .of a k in
               let b : State lists = onBook (withHolders (q .told)) a in
               record {
                 told = newly table b (q .held) g;
                 held = run-holds table b (q .held) g;
-                says = q .says ∙ ap (restSaid b) (v .cut) ∙ held-says b (slice from to s) g (ahead s (to + 1)) e
-                    ∙ ap (λ (x : State lists). restSaid x (ahead s (to + 1))) (run-says table b (q .held) g);
+                says = q .says ∙ ap (restSaid b) (l .cut) ∙ held-says b (l .value) g (ahead s next) e
+                    ∙ ap (λ (x : State lists). restSaid x (ahead s next)) (run-says table b (q .held) g);
               };
-        })
+        }
+
+    pub one-more : (table′ : Tracks) → table′ ≡ putRun table i j h → SoFar s at line tracks table′ next (n + 1)
+    one-more table′ f =
+        let (g, e, k) = run-found (runIn (l .value)) i j h (sym (l .shaped)) in
+        subst (λ (t : Tracks). SoFar s at line tracks t next (n + 1))
+        (sym (f ∙ sym (ap (λ (x : Run). putRun table (x .first) (x .last) (x .holder)) k))) (more g e)

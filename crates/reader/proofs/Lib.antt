@@ -12,6 +12,10 @@ pub mod ChainsBack
 pub mod NumbersBack
 pub mod HeldBack
 pub mod LineLaws
+pub mod Marks
+pub mod MarkedFigures
+pub mod MarkedValues
+pub mod MarkedLines
 pub mod RoundTrip
 pub mod Lengths
 pub mod Exact

@@ -13,7 +13,7 @@ use Rattle.text.specs.Text.{behind, parts}
 use Rattle.text.specs.Inner.{PartEnd, BehindAt}
 use Rattle.text.proofs.Fields.{slice-next, slice-none, parts-cut}
 use Rattle.text.proofs.Words.{behind-append, behind-exact}
-use Rattle.reader.specs.Shapes.{there}
+use Rattle.reader.specs.Shapes.{there, into}
 use Rattle.reader.specs.Order.{Form, Place, Choice, valueBehind, mayCome, afterKind, afterOne, behindLine, behindAll, firstBad}
 use Rattle.reader.specs.Inner.{LineIs, NoLine, unended, keyless, shapeless, ValueIs}
 use Rattle.reader.proofs.ScanLaws.{value-behind, pass}
@@ -116,6 +116,22 @@ scan-stop p l s n e =
     let (m, ls, f) = some-line s in
     ap (λ (x : List (List ℕ)). firstBad p n (l ∷ x)) f ∙ ap (λ
     (o : Option Place). elim o [ none ↦ n | some r ↦ firstBad r (suc n) (m ∷ ls) ]) e
+
+-- two places behind which the line leads alike
+pub scan-alike : (p q : Place) (l s : List ℕ) (n : ℕ) → behindLine p l ≡ behindLine q l → {ls : List (List ℕ)} → ls ≡ l ∷ parts 10 s
+    → firstBad p n ls ≡ firstBad q n ls
+unfolding firstBad
+scan-alike p q l s n h e =
+    let (m, ls, f) = some-line s in
+    let g = e ∙ ap (λ (x : List (List ℕ)). l ∷ x) f in
+    ap (firstBad p n) g
+    ∙ ap (λ (o : Option Place). elim o [ none ↦ n | some r ↦ firstBad r (suc n) (m ∷ ls) ]) h
+    ∙ sym (ap (firstBad q n) g)
+
+-- whether there is something, of what is made of it
+pub there-into : {A : Type 0} {B : Type 0} (f : A → B) (o : Option A) → there (into f o) ≡ there o
+there-into f none = refl
+there-into f (some a) = refl
 
 -- one that is of another kind, or of the kind but not of its shape
 pub pass-key : (c : Choice) (cs : List Choice) (l : List ℕ) → valueBehind (c .kind .key) l ≡ none → afterOne (c ∷ cs) l ≡ afterOne cs l

@@ -27,11 +27,11 @@ use Rattle.reader.specs.Shapes.{there, into, numbered}
 use Rattle.reader.specs.Order.{Place, numbering, ended, numberForm, endForm, choice, valueBehind, afterOne}
 use Rattle.reader.specs.Order.{behindLine, firstBad}
 use Rattle.reader.specs.Said.{onBook, withResource, withHeld, withNumbered, withLine, restSaid}
-use Rattle.reader.specs.Inner.{byte, narrowResource, narrowNumbered, NoLine, ValueIs}
-use Rattle.reader.specs.Walks.{ahead, Onward, Keeps, NumbersOf, NumbersAre, NumbersRead}
+use Rattle.reader.specs.Inner.{byte, narrowResource, narrowNumbered, numberIn, numberedOf, LineIs, NoLine}
+use Rattle.reader.specs.Walks.{ahead, Onward, Keeps, NumbersOf, NumbersRead}
 use Rattle.reader.proofs.Mapping.{map-set}
 use Rattle.reader.proofs.ScanLaws.{value-behind}
-use Rattle.reader.proofs.LineLaws.{line-shaped, scan-stop, pass-shape, scan-on}
+use Rattle.reader.proofs.LineLaws.{there-into, scan-on}
 
 -- what is allocated so far in a state
 pub record SoFarOf (s : List ℕ) (at o : ℕ) (table : Numbers) (a : State lists) : Type 0 where
@@ -118,15 +118,10 @@ module _ (t : Numbers) (a : State lists) (k : Keeps t a) (x : shapes.Numbered) w
           }
 
 -- a number as the code reads it
-pub number-found : (o : Option shapes.Numbered) (r w l : ℕ) → some (record { number = r; resource = record { owner = w; lock = l } })
-    ≡ into narrowNumbered o
-    → (x : shapes.Numbered) × (o ≡ some x) × (narrowNumbered x ≡ record { number = r; resource = record { owner = w; lock = l } })
+number-found : (o : Option shapes.Numbered) (r w l : ℕ) → some (numberedOf r w l) ≡ into narrowNumbered o
+    → (x : shapes.Numbered) × (o ≡ some x) × (narrowNumbered x ≡ numberedOf r w l)
 number-found none r w l e = absurd (Option·none-ne-some _ (sym e))
 number-found (some x) r w l e = (x, refl, Option·some-injective _ _ (sym e))
-
-pub no-number : (o : Option shapes.Numbered) → none ≡ into narrowNumbered o → o ≡ none
-no-number none e = refl
-no-number (some x) e = absurd (Option·none-ne-some _ e)
 
 -- a line of a number
 line-says : (b : State lists) (v : List ℕ) (x : shapes.Numbered) (ls : List (List ℕ)) → numbered v ≡ some x
@@ -143,50 +138,39 @@ fits-put t r o l f = go (upTo 1 (t .count) r)
 
 module _ {s : List ℕ} {at line : ℕ} {numbers table : Numbers} {o n : ℕ} (p : SoFar s at line numbers table o n) where
   -- no more of them
-  pub all-read : NoLine {A = List ℕ} some s o (text numberKey)
-      → NumbersRead s at line numbers (record { bad = 0; at = o; line = n; numbers = table })
+  pub all-read : NoLine numberIn s o (text numberKey) → NumbersRead s at line numbers (record { at = o; line = n; numbers = table })
   all-read l =
       record {
-        read = λ e. record {
-          onward = p .onward;
-          scan = p .scan;
-          next = l;
-          of = λ a k. let q = p .of a k in record { told = q .told; held = q .held; says = q .says };
-        };
-        stops = λ h. absurd (omega arith);
+        onward = p .onward;
+        scan = p .scan;
+        next = l;
+        of = λ a k. let q = p .of a k in record { told = q .told; held = q .held; says = q .says };
       }
 
-  module _ (from to : ℕ) (v : ValueIs s o (text numberKey) from to) where
-    -- one that is no number
-    pub bad-number : numbered (slice from to s) ≡ none → (x : Numbered) → x .bad ≡ n → NumbersRead s at line numbers x
-    unfolding behindLine valueBehind behind
-    bad-number e x f =
+  -- one more
+  module _ {r w k next : ℕ} (l : LineIs numberIn s o (text numberKey) (numberedOf r w k) next) where
+    more : (x : shapes.Numbered) → numbered (l .value) ≡ some x
+        → SoFar s at line numbers (putNumber table (x .number) (byte (x .resource .owner)) (byte (x .resource .lock))) next (n + 1)
+    more x e =
         record {
-          read = λ z. absurd (omega (arith, f, p .onward .some));
-          stops = λ h. p .scan ∙ ap (firstBad numbering n) (v .cut)
-              ∙ scan-stop numbering (text numberKey ++ (61 ∷ slice from to s)) (drop (to + 1) s) n
-              (pass-shape (choice numberForm numbering) (choice endForm ended ∷ []) (slice from to s) (ap there e))
-              ∙ sym f;
-        }
-
-    -- one more
-    pub one-more : (x : shapes.Numbered) → numbered (slice from to s) ≡ some x → (table′ : Numbers)
-        → table′ ≡ putNumber table (x .number) (byte (x .resource .owner)) (byte (x .resource .lock))
-        → SoFar s at line numbers table′ (to + 1) (n + 1)
-    one-more x e table′ f =
-        subst (λ (t : Numbers). SoFar s at line numbers t (to + 1) (n + 1)) (sym f)
-        (record {
-          onward = record { within = omega (arith, v .high); some = omega arith; counted = omega (arith, v .beyond, p .onward .counted) };
+          onward = record { within = l .within; some = omega arith; counted = omega (arith, l .beyond, p .onward .counted) };
           fitting = fits-put table (x .number) (byte (x .resource .owner)) (byte (x .resource .lock)) (p .fitting);
-          scan = p .scan ∙ scan-on numbered s o numbering (choice numberForm numbering) _ refl (line-shaped numbered v e) refl n
-              ∙ ap (λ (y : ℕ). firstBad numbering y (ahead s (to + 1))) (let h : suc n ≡ n + 1 = omega arith in h);
+          scan = p .scan
+              ∙ scan-on numberIn s o numbering (choice numberForm numbering) _ refl l (sym (there-into narrowNumbered (numbered (l .value)))) n
+              ∙ ap (λ (y : ℕ). firstBad numbering y (ahead s next)) (let h : suc n ≡ n + 1 = omega arith in h);
           of = λ a k.
               let q = p .of a k in
               let b : State lists = onBook (withResources (q .told)) a in
               record {
                 told = newly table b (q .held) x;
                 held = number-keeps table b (q .held) x;
-                says = q .says ∙ ap (restSaid b) (v .cut) ∙ line-says b (slice from to s) x (ahead s (to + 1)) e
-                    ∙ ap (λ (y : State lists). restSaid y (ahead s (to + 1))) (number-says table b (q .held) x);
+                says = q .says ∙ ap (restSaid b) (l .cut) ∙ line-says b (l .value) x (ahead s next) e
+                    ∙ ap (λ (y : State lists). restSaid y (ahead s next)) (number-says table b (q .held) x);
               };
-        })
+        }
+
+    pub one-more : (table′ : Numbers) → table′ ≡ putNumber table r w k → SoFar s at line numbers table′ next (n + 1)
+    one-more table′ f =
+        let (x, e, h) = number-found (numbered (l .value)) r w k (sym (l .shaped)) in
+        subst (λ (t : Numbers). SoFar s at line numbers t next (n + 1))
+        (sym (f ∙ sym (ap (λ (y : shapes.Numbered). putNumber table (y .number) (y .resource .owner) (y .resource .lock)) h))) (more x e)

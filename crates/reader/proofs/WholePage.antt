@@ -31,7 +31,7 @@ use Rattle.reader.specs.Said.{onBook, started, said}
 use Rattle.reader.specs.Reading.{notRead, judged, reading}
 use Rattle.reader.specs.Inner.{byte, narrowRecord}
 use Rattle.reader.specs.Walks.{ahead, Onward, withPrograms, withChains, layThese, Holds, Keeps, HeldOf, NumbersOf, narrow}
-use Rattle.reader.specs.Walks.{HeadIs, HeadRead, RecordsAre, RecordsRead, ChainsAre, ChainsRead, HeldIs, HeldRead, NumbersAre, NumbersRead, EndRead}
+use Rattle.reader.specs.Walks.{HeadIs, HeadRead, RecordsAre, RecordsRead, ChainsAre, ChainsRead, HeldRead, NumbersRead, EndRead}
 use Rattle.reader.proofs.Narrowing.{narrow-judged}
 use Rattle.reader.proofs.Assembling.{links-these, fresh-holds, fresh-keeps, assembled}
 
@@ -89,14 +89,8 @@ module _ (s : List ℕ) (at : ℕ) where
       bad-chains c C k = H .scan ∙ R .scan ∙ C .stops k
 
       module _ (c : Chains) (C : ChainsAre s (r .at) (r .line) c) where
-        pub bad-held : (t : Tracks) (d : Held) → HeldRead s (c .at) (c .line) t d → 1 ≤ d .bad → bad ≡ d .bad
-        bad-held t d D k = H .scan ∙ R .scan ∙ C .scan ∙ D .stops k
-
-        module _ (t : Tracks) (d : Held) (D : HeldIs s (c .at) (c .line) t d) where
-          pub bad-numbers : (u : records.Numbers) (n : Numbered) → NumbersRead s (d .at) (d .line) u n → 1 ≤ n .bad → bad ≡ n .bad
-          bad-numbers u n N k = H .scan ∙ R .scan ∙ C .scan ∙ D .scan ∙ N .stops k
-
-          module _ (u : records.Numbers) (n : Numbered) (N : NumbersAre s (d .at) (d .line) u n) where
+        module _ (t : Tracks) (d : Held) (D : HeldRead s (c .at) (c .line) t d) where
+          module _ (u : records.Numbers) (n : Numbered) (N : NumbersRead s (d .at) (d .line) u n) where
             pub bad-end : (x : ℕ) → EndRead s (n .at) (n .line) x → bad ≡ x
             bad-end x E = H .scan ∙ R .scan ∙ C .scan ∙ D .scan ∙ N .scan ∙ E .scan
 

@@ -8,7 +8,7 @@ use mathlib.Core.Option.{Option, none, some}
 use lib.ListN.{length, drop}
 use lib.Seq.{slice}
 use lib.Dec.{ltb}
-use Rattle.lists.specs.Lists.{alike}
+use Rattle.lists.specs.Lists.{every, alike}
 use Rattle.text.specs.Text.{text, behind, parts}
 use Rattle.text.specs.declared.Place.{Place}
 use Rattle.text.specs.declared.Place.the-variants as place
@@ -103,6 +103,10 @@ pub record ChainRead (v : List ℕ) (links : List ℕ) (s : ℕ) (r : Chain) : T
   pub nay : r .ok ≡ false → listed v ≡ none
 
 -- UP TO A MARK
+-- a word within a line: each of its bytes is above 10
+abbrev pub unbroken : List ℕ → Bool
+unbroken w = every (ltb 10) w
+
 -- the bytes from a place up to a byte d are a value, of which the shape says a; behind that byte comes `next`
 pub record SaidIs {A : Type 0} (shape : List ℕ → Option A) (d : ℕ) (s : List ℕ) (from : ℕ) (a : A) (next : ℕ) : Type 0 where
   pub value : List ℕ

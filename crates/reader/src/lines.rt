@@ -1,9 +1,9 @@
 // The line at a place of a page: its key is compared, and its value read.
 ghost use Prim.Native.Nat.{_≤_};
 ghost use mathlib.Core.Path.{_≡_};
+ghost use mathlib.Core.Bool.{true};
 ghost use lib.ListN.{length};
-ghost use Rattle.lists.specs.Lists.{count};
-ghost use Rattle.reader.specs.Inner.{ValueAt, FigureAt, DashedAt, NameAt, ReasonAt, WordAt, RunAt, ResourceAt};
+ghost use Rattle.reader.specs.Inner.{unbroken, ValueAt, FigureAt, DashedAt, NameAt, ReasonAt, WordAt, RunAt, ResourceAt};
 use super::values;
 use super::values::Figure;
 use super::values::Reason;
@@ -48,7 +48,7 @@ pub(crate) fn value_at(s: &[u8], at: usize, key: &[u8]) -> Value
 
 pub(crate) fn figure_at(s: &[u8], at: usize, key: &[u8]) -> Figure
     requires { ⌜ at ≤ length (now s) ⌝ }
-    requires { ⌜ count 10 (now key) ≡ 0 ⌝ }
+    requires { ⌜ unbroken (now key) ≡ true ⌝ }
     ensures { λ r. ⌜ FigureAt (now (s .entry)) at (now (key .entry)) r ⌝ }
 {
     let Place::At(from) = values::word_to(s, at, key, b'=') else {
@@ -59,7 +59,7 @@ pub(crate) fn figure_at(s: &[u8], at: usize, key: &[u8]) -> Figure
 
 pub(crate) fn dashed_at(s: &[u8], at: usize, key: &[u8]) -> Figure
     requires { ⌜ at ≤ length (now s) ⌝ }
-    requires { ⌜ count 10 (now key) ≡ 0 ⌝ }
+    requires { ⌜ unbroken (now key) ≡ true ⌝ }
     ensures { λ r. ⌜ DashedAt (now (s .entry)) at (now (key .entry)) r ⌝ }
 {
     let Place::At(from) = values::word_to(s, at, key, b'=') else {
@@ -83,7 +83,7 @@ pub(crate) fn name_at(s: &[u8], at: usize, key: &[u8]) -> NameLine
 
 pub(crate) fn reason_at(s: &[u8], at: usize, key: &[u8]) -> Reason
     requires { ⌜ at ≤ length (now s) ⌝ }
-    requires { ⌜ count 10 (now key) ≡ 0 ⌝ }
+    requires { ⌜ unbroken (now key) ≡ true ⌝ }
     ensures { λ r. ⌜ ReasonAt (now (s .entry)) at (now (key .entry)) r ⌝ }
 {
     let Place::At(from) = values::word_to(s, at, key, b'=') else {
@@ -95,8 +95,8 @@ pub(crate) fn reason_at(s: &[u8], at: usize, key: &[u8]) -> Reason
 // A line with one word for its value.
 pub(crate) fn word_at(s: &[u8], at: usize, key: &[u8], word: &[u8]) -> Place
     requires { ⌜ at ≤ length (now s) ⌝ }
-    requires { ⌜ count 10 (now key) ≡ 0 ⌝ }
-    requires { ⌜ count 10 (now word) ≡ 0 ⌝ }
+    requires { ⌜ unbroken (now key) ≡ true ⌝ }
+    requires { ⌜ unbroken (now word) ≡ true ⌝ }
     ensures { λ r. ⌜ WordAt (now (s .entry)) at (now (key .entry)) (now (word .entry)) r ⌝ }
 {
     let Place::At(from) = values::word_to(s, at, key, b'=') else {

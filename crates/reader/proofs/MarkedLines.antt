@@ -1,0 +1,86 @@
+-- The line at a place, by its key up to `=` and its value up to byte 10.
+-- Assumes nothing.
+use Prim.Native.Nat.{ℕ, suc, _+_, _<_, _≤_}
+use native.Mathlib.Omega.{arith}
+use mathlib.Core.Path.{_≡_, refl, sym, ap, _∙_}
+use mathlib.Core.Bool.{Bool, true, false, cond}
+use mathlib.Core.List.{List, [], _∷_, _++_, append-assoc}
+use mathlib.Core.Option.{Option, none, some, Option·none-ne-some}
+use lib.Dec.{eqb, ltb}
+use lib.ListN.{length, drop}
+use lib.Seq.{drop-drop}
+use Rattle.lists.specs.Lists.{count, alike}
+use borrow.Author.Tests.{eqb-true, eqb-false}
+use Rattle.lists.proofs.Tests.{false-true, every-in, alike-refl}
+use Rattle.text.specs.Text.{behind, parts}
+use Rattle.text.proofs.Words.{behind-exact}
+use Rattle.reader.specs.Order.{valueBehind}
+use Rattle.reader.specs.Inner.{unbroken, LineIs, NoLine, unended, keyless, shapeless}
+use Rattle.reader.proofs.Text.{parts-at, parts-last, clean-line}
+use Rattle.reader.specs.Inner.{SaidIs, NotSaid, wordIs}
+use Rattle.reader.proofs.Marks.{Cut, cut, whole, cutAt, same-front, same-rest, Free, word-there}
+
+-- a line with that key is the key, `=` and its value
+pub value-exact : (key l v : List ℕ) → valueBehind key l ≡ some v → l ≡ key ++ (61 ∷ v)
+unfolding valueBehind
+value-exact key l v e = behind-exact (key ++ (61 ∷ [])) l v e ∙ append-assoc key (61 ∷ []) v
+
+-- a word within a line has no byte 10
+pub unbroken-clean : (w : List ℕ) → unbroken w ≡ true → count 10 w ≡ 0
+unbroken-clean w e = go (eqb (count 10 w) 0) refl
+  where
+    go : (b : Bool) → eqb (count 10 w) 0 ≡ b → count 10 w ≡ 0
+    go true t = eqb-true (count 10 w) 0 t
+    go false t = false-true (every-in (ltb 10) w e 10 (omega (arith, eqb-false (count 10 w) 0 t)))
+
+-- what stands behind a front
+drop-front : (p y : List ℕ) → drop (suc (length p)) (p ++ (10 ∷ y)) ≡ y
+drop-front [] y = refl
+drop-front (x ∷ p) y = drop-front p y
+
+module _ {A : Type 0} (shape : List ℕ → Option A) {s key : List ℕ} {at : ℕ} where
+  pub line-said : unbroken key ≡ true → Free shape 10 → {i : ℕ} → SaidIs (wordIs key) 61 s at true i
+      → {a : A} {next : ℕ} → SaidIs shape 10 s i a next → LineIs shape s at key a next
+  line-said h F {i} k {a} {next} v = record {
+    value = v .value;
+    cut = ap (parts 10) (word-there k ∙ ap (λ (x : List ℕ). key ++ (61 ∷ x)) (v .cut)
+        ∙ sym (append-assoc key (61 ∷ v .value) (10 ∷ drop next s)))
+        ∙ parts-at 10 (key ++ (61 ∷ v .value)) (drop next s) (clean-line key (v .value) (unbroken-clean key h) (F .without (v .value) a (v .shaped)));
+    beyond = omega (arith, k .beyond, v .beyond);
+    within = v .within;
+    shaped = v .shaped;
+  }
+
+  -- the line, whatever it is
+  module _ (told : (l v : List ℕ) (next : ℕ) → l ≡ key ++ (61 ∷ v) → drop at s ≡ l ++ (10 ∷ drop next s) → shape v ≡ none) where
+    line-none : Cut 10 (drop at s) → NoLine shape s at key
+    line-none (whole h) = unended (drop at s) (parts-last 10 (drop at s) h)
+    line-none (cutAt p y h r) = go (valueBehind key p) refl
+      where
+        next : ℕ
+        next = at + suc (length p)
+
+        behind-it : drop next s ≡ y
+        behind-it = sym (drop-drop (suc (length p)) at s) ∙ ap (drop (suc (length p))) r ∙ drop-front p y
+
+        lines : parts 10 (drop at s) ≡ p ∷ parts 10 (drop next s)
+        lines = ap (parts 10) r ∙ parts-at 10 p y h ∙ ap (λ (x : List ℕ). p ∷ parts 10 x) (sym behind-it)
+
+        go : (o : Option (List ℕ)) → valueBehind key p ≡ o → NoLine shape s at key
+        go none e = keyless p next lines e
+        go (some v) e =
+            let l : p ≡ key ++ (61 ∷ v) = value-exact key p v e in
+            shapeless v next (lines ∙ ap (λ (x : List ℕ). x ∷ parts 10 (drop next s)) l)
+            (told p v next l (r ∙ ap (λ (x : List ℕ). p ++ (10 ∷ x)) (sym behind-it)))
+
+  pub line-no-key : NotSaid (wordIs key) 61 s at → NoLine shape s at key
+  line-no-key n = line-none (λ l v next e q. absurd (Option·none-ne-some true
+      (sym (n .unshaped key (v ++ (10 ∷ drop next s)) (q ∙ ap (λ (x : List ℕ). x ++ (10 ∷ drop next s)) e
+      ∙ append-assoc key (61 ∷ v) (10 ∷ drop next s))) ∙ ap (λ (b : Bool). cond b (some true) none) (alike-refl key))))
+      (cut 10 (drop at s))
+
+  pub line-no-value : {i : ℕ} → SaidIs (wordIs key) 61 s at true i → NotSaid shape 10 s i → NoLine shape s at key
+  line-no-value {i} k n = line-none (λ l v next e q. n .unshaped v (drop next s)
+      (same-rest (same-front key (61 ∷ drop i s) (61 ∷ (v ++ (10 ∷ drop next s)))
+      (sym (word-there k) ∙ q ∙ ap (λ (x : List ℕ). x ++ (10 ∷ drop next s)) e ∙ append-assoc key (61 ∷ v) (10 ∷ drop next s)))))
+      (cut 10 (drop at s))
