@@ -55,12 +55,12 @@ here b none = record { low = omega arith; high = omega arith; few = omega arith;
 returns : tie.Need-returns Inv-loop μ-loop
 returns c =
     let b = c .before .before .before in
-    here b (λ _ _. upTo-under 48 57 (getD (b .before .before .args .s .now) (b .loop .i) 0) (c .if2 .taken))
+    here b (λ _ _. upTo-under 48 57 (getD (b .before .before .args .s .now) (b .loop .i) 0) (omega arith))
 
 returns-2 : tie.Need-returns-2 Inv-loop μ-loop
 returns-2 c =
     let b = c .before .before .before .before in
-    here b (λ _ _. upTo-over 48 57 (getD (b .before .before .args .s .now) (b .loop .i) 0) (c .if3 .taken))
+    here b (λ _ _. upTo-over 48 57 (getD (b .before .before .args .s .now) (b .loop .i) 0) (omega arith))
 
 mul-a : tie.Need-mul-a Inv-loop μ-loop
 mul-a c = omega (arith, small (c .before .before .before))
@@ -78,8 +78,7 @@ loop-again c =
       omega arith,
       omega arith,
       rw e (omega arith),
-      horner-more (g .s .now) (g .from) (b .loop .i) (b .loop .a) (omega arith) (b .loop .inv .5) (omega arith) (c .before .if2 .left)
-          (c .if3 .left),
+      horner-more (g .s .now) (g .from) (b .loop .i) (b .loop .a) (omega arith) (b .loop .inv .5) (omega arith) (omega arith) (omega arith),
     )
 
 returns-3 : tie.Need-returns-3 Inv-loop μ-loop
