@@ -30,7 +30,7 @@ impl Tracks {
 pub fn fill(places: &mut [u8; MOST_TRACKS], first: usize, last: usize, h: u8)
     requires { ⌜ first ≤ last ⌝ }
     requires { ⌜ last < mostTracks ⌝ }
-    ensures { ⌜ now (places .exit) ≡ filled first (suc last - first) h (now (places .entry)) ⌝ }
+    ensures { λ _. ⌜ now (places .exit) ≡ filled first (suc last - first) h (now (places .entry)) ⌝ }
 {
     places[first] = h;
     for i in first + 1..last + 1 {
