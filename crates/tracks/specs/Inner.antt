@@ -78,6 +78,7 @@ pub record Within (T i : ℕ) : Type 0 where
   pub most : T ≤ mostTracks
   pub below : i < T
 
+-- g is the run that begins at track i
 pub record RunFrom (hs : List ℕ) (i : ℕ) (g : Run) : Type 0 where
   pub low : i ≤ g .last
   pub high : g .last < length hs

@@ -16,10 +16,12 @@ pub fn run_in(places: &[u8; MOST_TRACKS], count: usize, first: usize) -> Run
     requires { ⌜ Within count first ⌝ }
     ensures { λ r. ⌜ RunFrom (take count (now (places .entry))) first r ⌝ }
 {
-    let holder = places[first];
+    // a slice, whose length is known: that of an array behind a reference is not
+    let all = &places[..];
+    let holder = all[first];
     let mut last = first;
     while last + 1 < count {
-        if places[last + 1] != holder {
+        if all[last + 1] != holder {
             return Run {
                 first: first,
                 last: last,

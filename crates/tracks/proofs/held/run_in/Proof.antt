@@ -1,65 +1,69 @@
--- `tracks::Tracks::run_from` meets its contract. The loop's invariant: the tracks from `first` to `last` are one
--- holder's. The measure is the tracks left.
+-- `tracks::run_in` meets its contract. The loop's invariant: the tracks from `first` to `last` are one holder's. The measure is the
+-- tracks left.
 -- Assumes nothing.
-use Prim.Native.Nat.{_+_, _-_, _≤_, _<_}
+use Prim.Native.Nat.{ℕ, _+_, _-_, _≤_, _<_}
 use native.Mathlib.Omega.{arith}
 use borrow.Author.Needs.{needs}
 use mathlib.Core.Path.{_≡_, _∙_}
-use lib.ListN.{length, getD}
+use mathlib.Core.List.{List}
+use lib.ListN.{length, getD, take}
 use lib.Seq.{getD-take, length-take-le}
-use Rattle.tracks.specs.Tracks.{nobody, holders}
+use Rattle.tracks.specs.Tracks.{nobody}
 use Rattle.tracks.proofs.RunLaws.{Running, run-start, run-on, run-stops, run-ends}
-use Rattle.tracks.proofs.Tracks.run_from.Statement.{statement}
-use Rattle.tracks.proofs.Tracks.run_from.Tie as tie
+use Rattle.tracks.proofs.held.run_in.Statement.{statement}
+use Rattle.tracks.proofs.held.run_in.Tie as tie
 
 abbrev Inv-loop : tie.InvT-loop
-Inv-loop first self end holder last₀ last =
-    (first ≤ last) × (last < end) × (length (holders self) ≡ end) × Running (holders self) first holder last
+Inv-loop places count first all holder last₀ last =
+    (first ≤ last) × (last < count) × (length (take count places) ≡ count) × Running (take count places) first holder last
 
 abbrev μ-loop : tie.MeasureT-loop
-μ-loop first self end holder last₀ last = end - last
+μ-loop places count first all holder last₀ last = count - last
+
+-- the tracks' holders
+abbrev held : tie.Start Inv-loop μ-loop → List ℕ
+held s = take (s .args .count) (s .args .places .now)
 
 loop-holds : tie.Need-loop-holds Inv-loop μ-loop
 loop-holds c =
-    let s = c .before in
-    let t = s .args .t1 in
-    let all : length (t .holders) ≡ 256 = search needs in
-    let long = length-take-le (t .count) (t .holders) (omega (arith, s .pre .most)) in (
+    let s = c .before .before in
+    let a = s .args in
+    let all : length (a .places .now) ≡ 256 = c .before .all .given .0 in
+    let long = length-take-le (a .count) (a .places .now) (omega (arith, s .pre .most)) in (
       omega arith,
-      omega (arith, s .pre .below),
+      s .pre .below,
       long,
-      run-start (holders t) (s .args .first) _ (omega (arith, s .pre .below))
-          (getD-take (t .count) (t .holders) (s .args .first) nobody (s .pre .below)),
+      run-start (held s) (a .first) _ (omega (arith, s .pre .below))
+          (getD-take (a .count) (a .places .now) (a .first) nobody (s .pre .below)),
     )
 
 -- what stands behind the last
-next : (l : tie.At-loop Inv-loop μ-loop) → l .loop .last + 1 < l .before .before .args .t1 .count
-    → let t = l .before .before .args .t1 in getD (holders t) (l .loop .last + 1) nobody ≡ getD (t .holders) (l .loop .last + 1) nobody
-next l h = let t = l .before .before .args .t1 in getD-take (t .count) (t .holders) (l .loop .last + 1) nobody (omega arith)
+next : (l : tie.At-loop Inv-loop μ-loop) → let s = l .before .before .before in
+    l .loop .last + 1 < s .args .count → getD (held s) (l .loop .last + 1) nobody ≡ getD (s .args .places .now) (l .loop .last + 1) nobody
+next l h = let a = l .before .before .before .args in getD-take (a .count) (a .places .now) (l .loop .last + 1) nobody h
 
 returns : tie.Need-returns Inv-loop μ-loop
 returns c =
     let l = c .before .before .before in
-    let s = l .before .before in
-    run-stops (holders (s .args .t1)) (s .args .first) _ (l .loop .last) (omega arith) (omega arith)
-    (λ e. omega (arith, next l (omega arith))) (l .loop .inv .3)
+    let s = l .before .before .before in
+    run-stops (held s) (s .args .first) _ (l .loop .last) (omega arith) (omega arith) (λ e. omega (arith, next l (omega arith)))
+    (l .loop .inv .3)
 
 loop-again : tie.Need-loop-again Inv-loop μ-loop
 loop-again c =
     let l = c .before .before .before in
-    let s = l .before .before in
-    let on = run-on (holders (s .args .t1)) (s .args .first) _ (l .loop .last) (omega arith) (next l (omega arith) ∙ c .if1 .left)
-    (l .loop .inv .3) in
+    let s = l .before .before .before in
+    let on = run-on (held s) (s .args .first) _ (l .loop .last) (omega arith) (next l (omega arith) ∙ c .if1 .left) (l .loop .inv .3) in
     (omega arith, omega arith, l .loop .inv .2, on)
 
 returns-2 : tie.Need-returns-2 Inv-loop μ-loop
 returns-2 c =
     let l = c .before in
-    let s = l .before .before in
-    run-ends (holders (s .args .t1)) (s .args .first) _ (l .loop .last) (omega arith) (omega arith) (omega arith) (l .loop .inv .3)
+    let s = l .before .before .before in
+    run-ends (held s) (s .args .first) _ (l .loop .last) (omega arith) (omega arith) (omega arith) (l .loop .inv .3)
 
-pub run-from-spec : {M : Type 1} → statement M
-run-from-spec =
+pub run-in-spec : {M : Type 1} → statement M
+run-in-spec =
     tie.close
-    (tie.spec Inv-loop μ-loop (λ c. search needs) (λ c. search needs) loop-holds (λ c. omega arith) (λ c. omega arith)
-    (λ c. omega arith) returns (λ c. omega arith) (λ c. omega arith) loop-again returns-2)
+    (tie.spec Inv-loop μ-loop (λ c. search needs) loop-holds (λ c. omega arith) (λ c. omega arith) (λ c. omega arith) returns
+    (λ c. omega arith) (λ c. omega arith) loop-again returns-2)
