@@ -66,10 +66,11 @@ pub(crate) fn put_runs(buf: &mut [u8], at: usize, tracks: Tracks) -> usize
     ensures { λ r. ⌜ Wrote (now (buf .entry)) at (bytes (heldLines (holders tracks))) (now (buf .exit)) r ⌝ }
 {
     let count = tracks.count as usize;
+    let places = tracks.places();
     let mut o = at;
     let mut first: usize = 0;
     while first < count {
-        let run = tracks.run_from(first);
+        let run = tracks::run_in(&places, count, first);
         o = lines::put_run(buf, o, run);
         first = run.last + 1;
     }

@@ -15,10 +15,10 @@ use borrow.Author.Tests.{eq-eqb, ne-eqb}
 use Rattle.lists.specs.Lists.{same, count}
 use Rattle.lists.proofs.Laws.{same-refl, same-ne}
 use Rattle.tracks.specs.declared.Tracks.{Tracks}
-use Rattle.tracks.specs.Tracks.{nobody, holders, run, lowest, filled, replaced}
+use Rattle.tracks.specs.Tracks.{nobody, places, tableAt, holders, tableOf, run, lowest, filled, replaced}
 use Rattle.tracks.specs.Inner.{Fit}
 use Rattle.tracks.proofs.Runs.{filled-long}
-use Rattle.tracks.proofs.Fits.{laid}
+use Rattle.tracks.proofs.Fits.{laid, made}
 
 -- what is left at a place within the list: what stands there, and what is left behind it
 left : (xs : List ℕ) (i : ℕ) → i < length xs → drop i xs ≡ getD xs i nobody ∷ drop (i + 1) xs
@@ -70,9 +70,18 @@ count-hit p i xs l e = omega (arith, count-turn p i xs l, ap (same p) e, same-re
 pub count-miss : (p i : ℕ) (xs : List ℕ) → i < length xs → (getD xs i nobody ≡ p → ⊥) → count p (drop i xs) ≡ count p (drop (i + 1) xs)
 count-miss p i xs l e = omega (arith, count-turn p i xs l, same-ne p (getD xs i nobody) (λ w. e (sym w)))
 
--- tracks given, zs being the array: the first k have been
-pub filled-turn : (i k h : ℕ) (xs zs : List ℕ) → zs ≡ filled i k h xs → set zs (i + k) h ≡ filled i (k + 1) h xs
-filled-turn i k h xs zs z = rw add-one (ap (λ (ys : List ℕ). set ys (i + k) h) z)
+-- tracks given, zs being the array: those from i to j - 1 have been
+pub filled-turn : (i j h : ℕ) (xs zs : List ℕ) → i ≤ j → zs ≡ filled i (j - i) h xs → set zs j h ≡ filled i (j + 1 - i) h xs
+filled-turn i j h xs zs l z =
+    let at : j ≡ i + (j - i) = omega arith in
+    let more : suc (j - i) ≡ j + 1 - i = omega arith in
+    ap₂ (λ (ys : List ℕ) (k : ℕ). set ys k h) z at ∙ ap (λ (n : ℕ). filled i n h xs) more
+
+-- the first of them, and then the others
+pub filled-first : (i n h : ℕ) (xs : List ℕ) → filled (i + 1) n h (set xs i h) ≡ filled i (suc n) h xs
+filled-first i zero h xs = let here : i ≡ i + 0 = omega arith in ap (λ (k : ℕ). set xs k h) here
+filled-first i (suc n) h xs =
+    let next : i + 1 + n ≡ i + suc n = omega arith in ap₂ (λ (ys : List ℕ) (k : ℕ). set ys k h) (filled-first i n h xs) next
 
 filled-append : (i n h : ℕ) (xs ys : List ℕ) → i + n ≤ length xs → filled i n h (xs ++ ys) ≡ filled i n h xs ++ ys
 filled-append i zero h xs ys l = refl
@@ -80,9 +89,18 @@ filled-append i (suc n) h xs ys l =
     ap (λ (zs : List ℕ). set zs (i + n) h) (filled-append i n h xs ys (omega arith))
     ∙ set-append-left (filled i n h xs) ys (i + n) h (omega (arith, filled-long i n h xs))
 
-pub filled-done : (t : Tracks) → Fit t → (i n h : ℕ) → i + n ≤ length (holders t)
-    → filled i n h (t .holders) ≡ filled i n h (holders t) ++ replicate (256 - t .count) nobody
-filled-done t f i n h l = ap (filled i n h) (laid f) ∙ filled-append i n h (holders t) (replicate (256 - t .count) nobody) l
+-- the table of the places with tracks given is the one of the holders with them given
+pub filled-table : (t : Tracks) → Fit t → (i n h : ℕ) → i + n ≤ t .count
+    → tableAt (t .count) (t .system) (filled i n h (places t)) ≡ tableOf (t .count) (t .system) (filled i n h (holders t))
+filled-table t f i n h l =
+    made (t .count) (t .system) (filled i n h (places t)) (filled i n h (holders t))
+    (ap (filled i n h) (laid f)
+    ∙ filled-append i n h (holders t) (replicate (256 - t .count) nobody) (omega (arith, f .long)))
+
+pub filled-places : (t : Tracks) → Fit t → (first last h : ℕ) → first ≤ last → last < t .count
+    → tableAt (t .count) (t .system) (filled first (suc last - first) h (places t))
+    ≡ tableOf (t .count) (t .system) (filled first (suc last - first) h (holders t))
+filled-places t f first last h l m = filled-table t f first (suc last - first) h (omega arith)
 
 -- tracks that change their holder, zs being the array: those before i have
 abbrev pub passed : ℕ → ℕ → ℕ → List ℕ → List ℕ

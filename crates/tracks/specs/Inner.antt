@@ -73,11 +73,12 @@ pub record Held (May : ℕ → Type 0) (t : Tracks) : Type 0 where
   pub others : OthersHold (t .system) (t .count) May (places t)
   pub blank : NoneHolds (t .count) (places t)
 
--- track i is there; and g is the run that begins at it
-pub record Within (t : Tracks) (i : ℕ) : Type 0 where
-  pub most : t .count ≤ mostTracks
-  pub below : i < t .count
+-- i is one of T tracks
+pub record Within (T i : ℕ) : Type 0 where
+  pub most : T ≤ mostTracks
+  pub below : i < T
 
+-- g is the run that begins at track i
 pub record RunFrom (hs : List ℕ) (i : ℕ) (g : Run) : Type 0 where
   pub low : i ≤ g .last
   pub high : g .last < length hs

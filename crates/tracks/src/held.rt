@@ -1,7 +1,7 @@
 // The tracks by the runs that one holder has.
-ghost use Rattle.tracks.specs.Tracks.{holders};
+ghost use lib.ListN.{take};
 ghost use Rattle.tracks.specs.Inner.{Within, RunFrom};
-use super::Tracks;
+use limits::MOST_TRACKS;
 
 // Tracks `first` to `last`, which one holder has.
 pub struct Run {
@@ -10,29 +10,29 @@ pub struct Run {
     pub holder: u8,
 }
 
-impl Tracks {
-    // The run that begins at `first`, as long as it goes.
-    pub fn run_from(self, first: usize) -> Run
-        requires { ⌜ Within self first ⌝ }
-        ensures { λ r. ⌜ RunFrom (holders self) first r ⌝ }
-    {
-        let end = self.count as usize;
-        let holder = self.holders[first];
-        let mut last = first;
-        while last + 1 < end {
-            if self.holders[last + 1] != holder {
-                return Run {
-                    first: first,
-                    last: last,
-                    holder: holder,
-                };
-            }
-            last += 1;
+// The run that begins at `first`, as long as it goes, of `count` tracks. The places come by reference: of tables by value the compiler
+// makes a copy for each run.
+pub fn run_in(places: &[u8; MOST_TRACKS], count: usize, first: usize) -> Run
+    requires { ⌜ Within count first ⌝ }
+    ensures { λ r. ⌜ RunFrom (take count (now (places .entry))) first r ⌝ }
+{
+    // a slice, whose length is known: that of an array behind a reference is not
+    let all = &places[..];
+    let holder = all[first];
+    let mut last = first;
+    while last + 1 < count {
+        if all[last + 1] != holder {
+            return Run {
+                first: first,
+                last: last,
+                holder: holder,
+            };
         }
-        Run {
-            first: first,
-            last: last,
-            holder: holder,
-        }
+        last += 1;
+    }
+    Run {
+        first: first,
+        last: last,
+        holder: holder,
     }
 }

@@ -4,7 +4,9 @@ mod places;
 mod sound;
 
 pub use held::Run;
+pub use held::run_in;
 use limits::MOST_TRACKS;
+pub use places::fill;
 ghost use Prim.Native.Nat.{_-_};
 ghost use mathlib.Core.Path.{_≡_};
 ghost use mathlib.Core.List.{_++_};
@@ -104,8 +106,8 @@ impl Tracks {
         ensures { λ r. ⌜ r ≡ tableOf (self .count) (self .system) (filled start n h (holders self)) ⌝ }
     {
         let mut holders = self.holders;
-        for k in 0..n {
-            holders[start + k] = h;
+        if 0 < n {
+            fill(&mut holders, start, start + n - 1, h);
         }
         Tracks {
             count: self.count,
