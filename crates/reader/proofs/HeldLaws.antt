@@ -13,7 +13,7 @@ use Rattle.lists.proofs.Tests.{and}
 use Rattle.text.specs.Text.{text, behind, parts}
 use Rattle.tracks.specs.declared.Tracks.{Tracks}
 use Rattle.tracks.specs.declared.held.Run.{Run}
-use Rattle.tracks.specs.Tracks.{holders, tableOf, filled}
+use Rattle.tracks.specs.Tracks.{places, tableAt, holders, tableOf, filled}
 use Rattle.tracks.specs.Inner.{Fit}
 use Rattle.tracks.proofs.Fits.{holders-of, fit}
 use Rattle.tracks.proofs.Runs.{filled-long}
@@ -207,3 +207,12 @@ module _ {s : List ℕ} {at line : ℕ} {tracks table : Tracks} {o n : ℕ} (p :
         let (g, e, k) = run-found (runIn (l .value)) i j h (sym (l .shaped)) in
         subst (λ (t : Tracks). SoFar s at line tracks t next (n + 1))
         (sym (f ∙ sym (ap (λ (x : Run). putRun table (x .first) (x .last) (x .holder)) k))) (more g e)
+
+-- the tables hold the places that were read
+pub all-held : {s : List ℕ} {at line : ℕ} (t : Tracks) {ps₀ ps : List ℕ} {o n : ℕ} → ps₀ ≡ places t
+    → SoFar s at line (tableAt (t .count) (t .system) ps₀) (tableAt (t .count) (t .system) ps) o n → NoLine heldIn s o (text heldKey)
+    → {x : Tracks} → x ≡ tableAt (t .count) (t .system) ps → HeldRead s at line t (record { at = o; line = n; tracks = x })
+all-held {s} {at} {line} t {ps₀} {ps} {o} {n} e p l {x} f =
+    subst (λ (y : Tracks). HeldRead s at line t (record { at = o; line = n; tracks = y })) (sym f)
+    (subst (λ (qs : List ℕ). HeldRead s at line (tableAt (t .count) (t .system) qs)
+    (record { at = o; line = n; tracks = tableAt (t .count) (t .system) ps })) e (all-read p l))

@@ -68,9 +68,9 @@ module _ (s key : List ℕ) (at e : ℕ) (p : PartEnd 10 s at e) (h : e < length
       (b .rest ∙ ap some (slice-next s i e (omega (arith, b .high)) (p .high))) (λ v f. n (ap (λ (x : List ℕ). getD x 0 0) f)))
 
 -- behind the last byte there is none
-pub past-end : (s key : List ℕ) (at : ℕ) → length s ≤ at → NoLine {A = List ℕ} some s at key
+pub past-end : {A : Type 0} (shape : List ℕ → Option A) (s key : List ℕ) (at : ℕ) → length s ≤ at → NoLine shape s at key
 unfolding parts
-past-end s key at h = unended [] (ap (parts 10) (drop-of-length-le s h))
+past-end shape s key at h = unended [] (ap (parts 10) (drop-of-length-le s h))
 
 -- a key that is another one
 pub value-as : {s key key′ : List ℕ} {at from to : ℕ} → key ≡ key′ → ValueIs s at key from to → ValueIs s at key′ from to

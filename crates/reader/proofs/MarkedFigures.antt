@@ -16,7 +16,7 @@ use Rattle.lists.proofs.Tests.{clash, upTo-is}
 use Rattle.lists.proofs.Laws.{count-append}
 use Rattle.limits.specs.Limits.{pageDigits}
 use Rattle.text.specs.declared.Digits.{Digits}
-use Rattle.text.specs.Inner.{DigitsFrom}
+use Rattle.text.specs.Inner.{DigitsFrom, BehindAt}
 use Rattle.text.specs.Text.{text, decimal, horner, numberOf, behind, parts}
 use Rattle.text.proofs.Laws.{ten, ten-mono, decimal-small, decimal-pos, decimal-length}
 use Rattle.text.proofs.Fields.{drop-take, slice-head}
@@ -31,9 +31,11 @@ use Rattle.page.specs.Page.{dash, globalWord, tracksWord, sonWord, lockWord, an
 use Rattle.reader.specs.Shapes.{Parts, next, over, into, orElse, word, figure, figureOrDash, partyOf, coded, reasonOf, Span, spanOf, runIn, Numbered, numbered}
 use Rattle.reader.specs.Inner.{byte, twoBytes, codedBy, narrowWhy, narrowRun, narrowNumbered, reasonIn, heldIn, numberIn, runOf, numberedOf}
 use Rattle.reader.proofs.Text.{decimal-only}
-use Rattle.reader.specs.Inner.{SaidIs, NotSaid, wordIs}
+use Rattle.reader.specs.declared.values.Figure.{Figure}
+use Rattle.reader.specs.declared.values.Figure.the-variants as figured
+use Rattle.reader.specs.Inner.{SaidIs, NotSaid, wordIs, FigureTo}
 use Rattle.reader.proofs.Marks.{Free, word-free, named, unnamed, either-free, either-first, either-second, neither, into-free, into-said, into-unsaid}
-use Rattle.reader.proofs.Marks.{first-free, first-unsaid, then-said, then-unsaid, last-free, last-said, last-unsaid, cut-once, same-front}
+use Rattle.reader.proofs.Marks.{first-free, first-unsaid, then-said, then-unsaid, last-free, last-said, last-unsaid, cut-once, same-front, found-behind, not-behind}
 
 -- NUMBERS
 -- every byte of a number is a digit
@@ -72,8 +74,8 @@ record Figured (v : List ℕ) (n : ℕ) : Type 0 where
   said : horner 0 v ≡ some n
   first : 1 < length v → getD v 0 0 ≡ 48 → ⊥
 
-figured : (v : List ℕ) (n : ℕ) → figure v ≡ some n → Figured v n
-figured v n e = subst (λ (x : List ℕ). Figured x n) (sym exact) own
+digited : (v : List ℕ) (n : ℕ) → figure v ≡ some n → Figured v n
+digited v n e = subst (λ (x : List ℕ). Figured x n) (sym exact) own
   where
     exact : v ≡ decimal n
     exact = numberOf-exact 13 v n (omega arith) e .0
@@ -97,12 +99,9 @@ figured v n e = subst (λ (x : List ℕ). Figured x n) (sym exact) own
     }
 
 -- digits up to one that is none, and a mark that is none
-module _ {s : List ℕ} {from : ℕ} {r : Digits} (D : DigitsFrom s from 13 r) {d : ℕ} (mark : upTo 48 57 d ≡ false) where
-  abbrev end : ℕ
-  end = r .end
-
-  inside : (i : ℕ) → from + i < end → getD (slice from end s) i 0 ≡ getD s (from + i) 0
-  inside i h = getD-drop from (take end s) i 0 ∙ getD-take end s (from + i) 0 h
+module _ {s : List ℕ} {from : ℕ} {r : Digits} (D : DigitsFrom s from 13 r) (d : ℕ) (mark : upTo 48 57 d ≡ false) where
+  inside : (i : ℕ) → from + i < r .end → getD (slice from (r .end) s) i 0 ≡ getD s (from + i) 0
+  inside i h = getD-drop from (take (r .end) s) i 0 ∙ getD-take (r .end) s (from + i) 0 h
 
   -- a number that ends with the mark ends where the digits do
   module _ (v rest : List ℕ) (e : drop from s ≡ v ++ (d ∷ rest)) where
@@ -115,59 +114,59 @@ module _ {s : List ℕ} {from : ℕ} {r : Digits} (D : DigitsFrom s from 13 r) {
     before-mark : (i : ℕ) → i < length v → getD s (from + i) 0 ≡ getD v i 0
     before-mark i h = sym (getD-drop from s i 0) ∙ ap (λ (x : List ℕ). getD x i 0) e ∙ List·getD-append v (d ∷ rest) 0 i h
 
-    pub ends : (m : ℕ) → figure v ≡ some m → end ≡ from + length v
-    ends m f = go (ltb end (from + length v)) refl (ltb (from + length v) end) refl
+    pub ends : (m : ℕ) → figure v ≡ some m → r .end ≡ from + length v
+    ends m f = go (ltb (r .end) (from + length v)) refl (ltb (from + length v) (r .end)) refl
       where
         g : Figured v m
-        g = figured v m f
+        g = digited v m f
 
-        go : (a : Bool) → ltb end (from + length v) ≡ a → (b : Bool) → ltb (from + length v) end ≡ b → end ≡ from + length v
+        go : (a : Bool) → ltb (r .end) (from + length v) ≡ a → (b : Bool) → ltb (from + length v) (r .end) ≡ b → r .end ≡ from + length v
         go true p b q =
-            let l : end < from + length v = ltb-true end (from + length v) p in
-            let k : from + (end - from) ≡ end = omega arith in
-            let digit : upTo 48 57 (getD s end 0) ≡ true =
+            let l : r .end < from + length v = ltb-true (r .end) (from + length v) p in
+            let k : from + (r .end - from) ≡ r .end = omega arith in
+            let digit : upTo 48 57 (getD s (r .end) 0) ≡ true =
             ap (λ (i : ℕ). upTo 48 57 (getD s i 0)) (sym k)
-            ∙ ap (upTo 48 57) (before-mark (end - from) (omega arith))
-            ∙ digit-at v 0 m (end - from) (g .said) (omega arith) in
+            ∙ ap (upTo 48 57) (before-mark (r .end - from) (omega arith))
+            ∙ digit-at v 0 m (r .end - from) (g .said) (omega arith) in
             clash digit (D .stops (omega (arith, long)) (omega (arith, g .few)))
         go false p true q =
-            let l : from + length v < end = ltb-true (from + length v) end q in
+            let l : from + length v < r .end = ltb-true (from + length v) (r .end) q in
             clash (ap (upTo 48 57) (sym (inside (length v) l ∙ at-mark))
-            ∙ digit-at (slice from end s) 0 (r .value) (length v) (D .value) (omega (arith, length-slice from end s (D .high)))) mark
-        go false p false q = omega (arith, ltb-false end (from + length v) p, ltb-false (from + length v) end q)
+            ∙ digit-at (slice from (r .end) s) 0 (r .value) (length v) (D .value) (omega (arith, length-slice from (r .end) s (D .high)))) mark
+        go false p false q = omega (arith, ltb-false (r .end) (from + length v) p, ltb-false (from + length v) (r .end) q)
 
-  unsaid : ((v rest : List ℕ) (m : ℕ) → drop from s ≡ v ++ (d ∷ rest) → end ≡ from + length v → Figured v m → ⊥) → NotSaid figure d s from
+  unsaid : ((v rest : List ℕ) (m : ℕ) → drop from s ≡ v ++ (d ∷ rest) → r .end ≡ from + length v → Figured v m → ⊥) → NotSaid figure d s from
   unsaid k = record { unshaped = λ v rest e. go v rest e (figure v) refl }
     where
       go : (v rest : List ℕ) → drop from s ≡ v ++ (d ∷ rest) → (o : Option ℕ) → figure v ≡ o → figure v ≡ none
       go v rest e none f = f
-      go v rest e (some m) f = absurd (k v rest m e (ends v rest e m f) (figured v m f))
+      go v rest e (some m) f = absurd (k v rest m e (ends v rest e m f) (digited v m f))
 
   -- no digit; no byte behind the digits; another one than the mark; a zero in front of others
-  pub no-digit : end ≡ from → NotSaid figure d s from
+  pub no-digit : r .end ≡ from → NotSaid figure d s from
   no-digit q = unsaid (λ v rest m e h g. omega (arith, g .least))
 
-  pub no-mark : end ≡ length s → NotSaid figure d s from
+  pub no-mark : r .end ≡ length s → NotSaid figure d s from
   no-mark q = unsaid (λ v rest m e h g. omega (arith, long v rest e))
 
-  pub other-mark : getD s end 0 ≢ d → NotSaid figure d s from
+  pub other-mark : getD s (r .end) 0 ≢ d → NotSaid figure d s from
   other-mark n = unsaid (λ v rest m e h g. n (ap (λ (i : ℕ). getD s i 0) h ∙ at-mark v rest e))
 
-  pub zero-first : from + 1 < end → getD s from 0 ≡ 48 → NotSaid figure d s from
+  pub zero-first : from + 1 < r .end → getD s from 0 ≡ 48 → NotSaid figure d s from
   zero-first l z = unsaid (λ v rest m e h g.
       let k : from + 0 ≡ from = omega arith in
       g .first (omega arith) (sym (before-mark v rest e 0 (omega arith)) ∙ ap (λ (i : ℕ). getD s i 0) k ∙ z))
 
   -- a number
-  pub figure-said : from < end → end < length s → getD s end 0 ≡ d → (from + 1 < end → getD s from 0 ≡ 48 → ⊥)
-      → SaidIs figure d s from (r .value) (end + 1)
+  pub figure-said : from < r .end → r .end < length s → getD s (r .end) 0 ≡ d → (from + 1 < r .end → getD s from 0 ≡ 48 → ⊥)
+      → SaidIs figure d s from (r .value) (r .end + 1)
   figure-said l h q z = record {
-    value = slice from end s;
-    cut = slice-cut s from end (D .low) h ∙ ap (λ (x : ℕ). slice from end s ++ (x ∷ drop (end + 1) s)) q;
+    value = slice from (r .end) s;
+    cut = slice-cut s from (r .end) (D .low) h ∙ ap (λ (x : ℕ). slice from (r .end) s ++ (x ∷ drop (r .end + 1) s)) q;
     beyond = omega arith;
     within = omega arith;
-    shaped = numberOf-plain 13 (slice from end s) (omega (arith, length-slice from end s (D .high))) (omega (arith, length-slice from end s (D .high)))
-        (λ k y. z (omega (arith, length-slice from end s (D .high))) (sym (slice-head s from end l (D .high)) ∙ y)) ∙ D .value;
+    shaped = numberOf-plain 13 (slice from (r .end) s) (omega (arith, length-slice from (r .end) s (D .high))) (omega (arith, length-slice from (r .end) s (D .high)))
+        (λ k y. z (omega (arith, length-slice from (r .end) s (D .high))) (sym (slice-head s from (r .end) l (D .high)) ∙ y)) ∙ D .value;
   }
 
 -- WHAT STANDS IN NONE OF THEM
@@ -176,6 +175,10 @@ figure-free e h = record { without = λ v n q. ap (count e) (numberOf-exact 13 v
 
 pub party-free : (e : ℕ) → (48 ≤ e → 57 < e) → count e (text globalWord) ≡ 0 → Free partyOf e
 party-free e h k = either-free (word globalWord globally) figure (word-free globally (text globalWord) e k) (figure-free e h)
+
+pub no-dash : count 10 (text dash) ≡ 0
+unfolding same
+no-dash = refl
 
 pub dashed-free : (e : ℕ) → (48 ≤ e → 57 < e) → count e (text dash) ≡ 0 → Free figureOrDash e
 dashed-free e h k = either-free (word dash 0) figure (word-free 0 (text dash) e k) (figure-free e h)
@@ -193,39 +196,51 @@ module _ (w : List ℕ) where
       go v n (some r) t q =
           ap (count e) (behind-exact w v r t) ∙ omega (arith, count-append e w r, k, figure-free e h .without r n q)
 
-  module _ {d : ℕ} {s : List ℕ} {from : ℕ} where
-    pub uncoded : behind w (drop from s) ≡ none → NotSaid (codedBy w) d s from
+  module _ (d : ℕ) {s : List ℕ} {from : ℕ} where
+    pub uncoded : behind w (slice from (length s) s) ≡ none → NotSaid (codedBy w) d s from
     uncoded n = record { unshaped = λ v rest e. go v rest e (behind w v) refl }
       where
         go : (v rest : List ℕ) → drop from s ≡ v ++ (d ∷ rest) → (o : Option (List ℕ)) → behind w v ≡ o → codedBy w v ≡ none
         go v rest e none t = ap codedIn t
         go v rest e (some r) t =
-            absurd (Option·none-ne-some (r ++ (d ∷ rest)) (sym n ∙ ap (behind w) (e ∙ ap (λ (x : List ℕ). x ++ (d ∷ rest)) (behind-exact w v r t)
+            absurd (Option·none-ne-some (r ++ (d ∷ rest)) (sym (not-behind w s from n) ∙ ap (behind w) (e ∙ ap (λ (x : List ℕ). x ++ (d ∷ rest)) (behind-exact w v r t)
             ∙ append-assoc w r (d ∷ rest)) ∙ behind-append w (r ++ (d ∷ rest))))
 
-    module _ {i : ℕ} (b : drop from s ≡ w ++ drop i s) where
-      pub coded-unsaid : NotSaid figure d s i → NotSaid (codedBy w) d s from
+    module _ {i : ℕ} (b : BehindAt w s from (length s) i) where
+      coded-unsaid : NotSaid figure d s i → NotSaid (codedBy w) d s from
       coded-unsaid n = record { unshaped = λ v rest e. go v rest e (behind w v) refl }
         where
           go : (v rest : List ℕ) → drop from s ≡ v ++ (d ∷ rest) → (o : Option (List ℕ)) → behind w v ≡ o → codedBy w v ≡ none
           go v rest e none t = ap codedIn t
           go v rest e (some r) t =
               ap codedIn t ∙ n .unshaped r rest (same-front w (drop i s) (r ++ (d ∷ rest))
-              (sym b ∙ e ∙ ap (λ (x : List ℕ). x ++ (d ∷ rest)) (behind-exact w v r t) ∙ append-assoc w r (d ∷ rest)))
+              (sym (found-behind b) ∙ e ∙ ap (λ (x : List ℕ). x ++ (d ∷ rest)) (behind-exact w v r t) ∙ append-assoc w r (d ∷ rest)))
 
-      pub coded-said : from ≤ i → {n next : ℕ} → SaidIs figure d s i n next → SaidIs (codedBy w) d s from n next
-      coded-said l {n} {next} x = record {
+      coded-said : {n next : ℕ} → SaidIs figure d s i n next → SaidIs (codedBy w) d s from n next
+      coded-said {n} {next} x = record {
         value = w ++ x .value;
-        cut = b ∙ ap (λ (z : List ℕ). w ++ z) (x .cut) ∙ sym (append-assoc w (x .value) (d ∷ drop next s));
-        beyond = omega (arith, x .beyond);
+        cut = found-behind b ∙ ap (λ (z : List ℕ). w ++ z) (x .cut) ∙ sym (append-assoc w (x .value) (d ∷ drop next s));
+        beyond = omega (arith, x .beyond, b .place);
         within = x .within;
         shaped = ap codedIn (behind-append w (x .value)) ∙ x .shaped;
       }
+
+      pub coded-figure : (r : Figure) → FigureTo figure d s i r → FigureTo (codedBy w) d s from r
+      coded-figure (figured.Is n next) x = coded-said x
+      coded-figure figured.Not x = coded-unsaid x
 
 -- A NUMBER OR A WORD
 module _ {d : ℕ} {s : List ℕ} {from : ℕ} where
   pub dash-said : {next : ℕ} → SaidIs (wordIs (text dash)) d s from true next → SaidIs figureOrDash d s from 0 next
   dash-said x = either-first (word dash 0) figure (named 0 x)
 
+  pub dash-or-figure : NotSaid (wordIs (text dash)) d s from → (r : Figure) → FigureTo figure d s from r → FigureTo figureOrDash d s from r
+  dash-or-figure n (figured.Is m next) x = either-second (word dash 0) figure (unnamed 0 n) x
+  dash-or-figure n figured.Not x = neither (word dash 0) figure (unnamed 0 n) x
+
   pub global-said : {next : ℕ} → SaidIs (wordIs (text globalWord)) d s from true next → SaidIs partyOf d s from globally next
   global-said x = either-first (word globalWord globally) figure (named globally x)
+
+  pub global-or-figure : NotSaid (wordIs (text globalWord)) d s from → (r : Figure) → FigureTo figure d s from r → FigureTo partyOf d s from r
+  global-or-figure n (figured.Is m next) x = either-second (word globalWord globally) figure (unnamed globally n) x
+  global-or-figure n figured.Not x = neither (word globalWord globally) figure (unnamed globally n) x

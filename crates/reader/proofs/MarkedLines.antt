@@ -12,13 +12,26 @@ use lib.Seq.{drop-drop}
 use Rattle.lists.specs.Lists.{count, alike}
 use borrow.Author.Tests.{eqb-true, eqb-false}
 use Rattle.lists.proofs.Tests.{false-true, every-in, alike-refl}
-use Rattle.text.specs.Text.{behind, parts}
+use Rattle.text.specs.Text.{text, behind, parts}
 use Rattle.text.proofs.Words.{behind-exact}
 use Rattle.reader.specs.Order.{valueBehind}
 use Rattle.reader.specs.Inner.{unbroken, LineIs, NoLine, unended, keyless, shapeless}
 use Rattle.reader.proofs.Text.{parts-at, parts-last, clean-line}
-use Rattle.reader.specs.Inner.{SaidIs, NotSaid, wordIs}
-use Rattle.reader.proofs.Marks.{Cut, cut, whole, cutAt, same-front, same-rest, Free, word-there}
+use Rattle.text.specs.declared.Place.{Place}
+use Rattle.text.specs.declared.Place.the-variants as place
+use Rattle.page.specs.Page.{heldKey, numberKey}
+use Rattle.reader.specs.declared.values.Figure.{Figure}
+use Rattle.reader.specs.declared.values.Figure.the-variants as figured
+use Rattle.reader.specs.declared.values.Reason.{Reason}
+use Rattle.reader.specs.declared.values.Reason.the-variants as reason
+use Rattle.reader.specs.declared.values.Run.{Run}
+use Rattle.reader.specs.declared.values.Run.the-variants as run
+use Rattle.reader.specs.declared.values.Resource.{Resource}
+use Rattle.reader.specs.declared.values.Resource.the-variants as resource
+use Rattle.reader.specs.Inner.{SaidIs, NotSaid, wordIs, reasonIn, heldIn, numberIn, FigureTo, WordTo, ReasonTo, RunTo, ResourceTo}
+use Rattle.reader.specs.Inner.{FigureAt, WordAt, ReasonAt, RunAt, ResourceAt}
+use Rattle.reader.proofs.Marks.{Cut, cut, whole, cutAt, same-front, same-rest, Free, word-there, word-free}
+use Rattle.reader.proofs.MarkedValues.{reason-free, held-free, number-free}
 
 -- a line with that key is the key, `=` and its value
 pub value-exact : (key l v : List ℕ) → valueBehind key l ≡ some v → l ≡ key ++ (61 ∷ v)
@@ -84,3 +97,26 @@ module _ {A : Type 0} (shape : List ℕ → Option A) {s key : List ℕ} {at : �
       (same-rest (same-front key (61 ∷ drop i s) (61 ∷ (v ++ (10 ∷ drop next s)))
       (sym (word-there k) ∙ q ∙ ap (λ (x : List ℕ). x ++ (10 ∷ drop next s)) e ∙ append-assoc key (61 ∷ v) (10 ∷ drop next s)))))
       (cut 10 (drop at s))
+
+-- what a value up to byte 10 makes of the line, whose key was found
+module _ {s key : List ℕ} {at i : ℕ} (k : SaidIs (wordIs key) 61 s at true i) (u : unbroken key ≡ true) where
+  pub figure-line : (shape : List ℕ → Option ℕ) → Free shape 10 → (r : Figure) → FigureTo shape 10 s i r → FigureAt shape s at key r
+  figure-line shape F (figured.Is n next) x = line-said shape u F k x
+  figure-line shape F figured.Not x = line-no-value shape k x
+
+  pub word-line : (w : List ℕ) → unbroken w ≡ true → (r : Place) → WordTo w 10 s i r → WordAt s at key w r
+  word-line w h (place.At next) x = line-said (wordIs w) u (word-free true w 10 (unbroken-clean w h)) k x
+  word-line w h place.Not x = line-no-value (wordIs w) k x
+
+  pub reason-line : (r : Reason) → ReasonTo s i r → ReasonAt s at key r
+  reason-line (reason.Is w next) x = line-said reasonIn u reason-free k x
+  reason-line reason.Not x = line-no-value reasonIn k x
+
+pub run-line : {s : List ℕ} {at i : ℕ} → SaidIs (wordIs (text heldKey)) 61 s at true i → (r : Run) → RunTo s i r → RunAt s at r
+run-line k (run.Is a b h next) x = line-said heldIn refl held-free k x
+run-line k run.Not x = line-no-value heldIn k x
+
+pub resource-line : {s : List ℕ} {at i : ℕ} → SaidIs (wordIs (text numberKey)) 61 s at true i → (r : Resource) → ResourceTo s i r
+    → ResourceAt s at r
+resource-line k (resource.Is r o l next) x = line-said numberIn refl number-free k x
+resource-line k resource.Not x = line-no-value numberIn k x

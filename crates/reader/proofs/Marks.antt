@@ -8,13 +8,16 @@ use mathlib.Core.Bool.{Bool, true, false, cond}
 use mathlib.Core.List.{List, [], _∷_, _++_, append-assoc}
 use mathlib.Core.Option.{Option, none, some, Option·none-ne-some, Option·some-injective}
 use lib.Dec.{eqb}
-use lib.ListN.{length, drop}
+use lib.ListN.{length, getD, drop, drop-of-length-le}
+use lib.Seq.{slice, take-length}
 use borrow.Author.Tests.{eqb-true, eqb-false}
 use Rattle.lists.specs.Lists.{same, count, alike}
 use Rattle.lists.proofs.Laws.{same-refl, same-ne, count-append}
 use Rattle.lists.proofs.Tests.{alike-true, alike-refl}
-use Rattle.text.specs.Text.{parts}
-use Rattle.text.proofs.Fields.{parts-cut}
+use Rattle.text.specs.Text.{behind, parts}
+use Rattle.text.specs.Inner.{BehindAt}
+use Rattle.text.proofs.Fields.{drop-next, parts-cut}
+use Rattle.text.proofs.Words.{behind-append, behind-exact}
 use Rattle.reader.specs.Shapes.{Parts, next, over, into, orElse}
 use Rattle.reader.proofs.Text.{not-first, parts-at, parts-last}
 use Rattle.reader.specs.Inner.{SaidIs, NotSaid, wordIs}
@@ -62,6 +65,18 @@ unfolding tail
 same-front [] x y q = q
 same-front (a ∷ w) x y q = same-front w x y (ap tail q)
 
+-- the rest of a text, and what stands behind a word that it begins with
+whole-rest : (s : List ℕ) (from : ℕ) → slice from (length s) s ≡ drop from s
+whole-rest s from = ap (drop from) (take-length s)
+
+pub found-behind : {w s : List ℕ} {from i : ℕ} → BehindAt w s from (length s) i → drop from s ≡ w ++ drop i s
+found-behind {w} {s} {from} {i} b =
+    sym (whole-rest s from) ∙ behind-exact w (slice from (length s) s) (slice i (length s) s) (b .rest)
+    ∙ ap (λ (x : List ℕ). w ++ x) (whole-rest s i)
+
+pub not-behind : (w s : List ℕ) (from : ℕ) → behind w (slice from (length s) s) ≡ none → behind w (drop from s) ≡ none
+not-behind w s from n = sym (ap (behind w) (whole-rest s from)) ∙ n
+
 -- A shape whose values have no byte e
 pub record Free {A : Type 0} (shape : List ℕ → Option A) (e : ℕ) : Type 0 where
   pub without : (v : List ℕ) (a : A) → shape v ≡ some a → count e v ≡ 0
@@ -98,6 +113,26 @@ module _ {w : List ℕ} {d : ℕ} {s : List ℕ} {from : ℕ} where
       go : (v rest : List ℕ) → drop from s ≡ v ++ (d ∷ rest) → (b : Bool) → alike v w ≡ b → _≡_ {A = Option Bool} (wordIs w v) none
       go v rest e true t = absurd (n rest (e ∙ ap (λ (x : List ℕ). x ++ (d ∷ rest)) (alike-true v w t)))
       go v rest e false t = ap (λ (b : Bool). cond b (some true) none) t
+
+  -- a search for the word from there on: it is not there; it is there, and the text ends with it, or goes on otherwise, or with the mark
+  pub word-absent : behind w (slice from (length s) s) ≡ none → NotSaid (wordIs w) d s from
+  word-absent n = word-unsaid (λ rest e. Option·none-ne-some (d ∷ rest)
+      (sym n ∙ ap (behind w) (whole-rest s from ∙ e) ∙ behind-append w (d ∷ rest)))
+
+  module _ {i : ℕ} (b : BehindAt w s from (length s) i) where
+    pub word-short : i ≡ length s → NotSaid (wordIs w) d s from
+    word-short h = word-unsaid (λ rest e.
+        let q : [] ≡ d ∷ rest = sym (drop-of-length-le s {i = i} (omega arith)) ∙ same-front w (drop i s) (d ∷ rest) (sym (found-behind b) ∙ e) in
+        omega (arith, ap length q))
+
+    pub word-other : i < length s → getD s i 0 ≢ d → NotSaid (wordIs w) d s from
+    word-other h n = word-unsaid (λ rest e.
+        n (ap (λ (x : List ℕ). getD x 0 0)
+        (sym (drop-next s i h) ∙ same-front w (drop i s) (d ∷ rest) (sym (found-behind b) ∙ e))))
+
+    pub word-found : i < length s → getD s i 0 ≡ d → SaidIs (wordIs w) d s from true (i + 1)
+    word-found h e = word-said (i + 1) (omega (arith, b .place)) (omega arith)
+        (found-behind b ∙ ap (λ (x : List ℕ). w ++ x) (drop-next s i h ∙ ap (λ (c : ℕ). c ∷ drop (i + 1) s) e))
 
   -- a word that stands for something
   pub named : {A : Type 0} (a : A) {next : ℕ} → SaidIs (wordIs w) d s from true next → SaidIs (λ v. cond (alike v w) (some a) none) d s from a next

@@ -18,12 +18,12 @@ use Rattle.reader.specs.declared.parts.Record.{Record}
 use Rattle.reader.specs.Shapes.{there, otherwise, into, figure, figureOrDash, reasonOf}
 use Rattle.reader.specs.Order.{Place, recording, recordAhead, recordForms, recordsAhead, valueBehind, firstBad}
 use Rattle.reader.specs.Said.{valueOf, withRecord, recordsSaid}
-use Rattle.reader.specs.Inner.{LineIs, NoLine, byte, twoBytes, narrowWhy, narrowRecord, narrowReason}
+use Rattle.reader.specs.Inner.{LineIs, NoLine, byte, twoBytes, narrowWhy, narrowRecord, reasonIn}
 use Rattle.reader.specs.Walks.{ahead, RecordIs, RecordRead}
 use Rattle.reader.proofs.LineLaws.{scan-on, scan-off}
 
 -- a reason in the tables' bytes is there where a reason is; and which it is
-reason-there : (v : List ℕ) → there (reasonOf v) ≡ there (narrowReason v)
+reason-there : (v : List ℕ) → there (reasonOf v) ≡ there (reasonIn v)
 reason-there v = go (reasonOf v)
   where
     go : (o : Option Why) → there o ≡ there (into narrowWhy o)
@@ -115,17 +115,17 @@ module _ (s : List ℕ) (at : ℕ) where
               ≡ firstBad (behindLines 4 n) (suc (suc (suc (suc line)))) (ahead s d)
           scan-4 n line = scan-3 n line ∙ scan-on figure s c (behindLines 3 n) _ [] refl l4 refl (suc (suc (suc line)))
 
-          bad-5 : NoLine narrowReason s d (text whyKey) → (n line : ℕ) → firstBad (behindLines 0 n) line (ahead s at) ≡ line + 4
-          bad-5 l n line = scan-4 n line ∙ scan-off narrowReason s d (behindLines 4 n) _ refl (λ m x. refl) reason-there l
+          bad-5 : NoLine reasonIn s d (text whyKey) → (n line : ℕ) → firstBad (behindLines 0 n) line (ahead s at) ≡ line + 4
+          bad-5 l n line = scan-4 n line ∙ scan-off reasonIn s d (behindLines 4 n) _ refl (λ m x. refl) reason-there l
               (suc (suc (suc (suc line)))) ∙ (let e : suc (suc (suc (suc line))) ≡ line + 4 = omega arith in e)
 
-          pub stop-5 : NoLine narrowReason s d (text whyKey) → (r : Record) → r .good ≡ 4 → RecordRead s at r
+          pub stop-5 : NoLine reasonIn s d (text whyKey) → (r : Record) → r .good ≡ 4 → RecordRead s at r
           stop-5 l = stopped-at s at 4 (omega arith) (bad-5 l)
 
-          module _ {why : Why} {e : ℕ} (l5 : LineIs narrowReason s d (text whyKey) why e) where
+          module _ {why : Why} {e : ℕ} (l5 : LineIs reasonIn s d (text whyKey) why e) where
             scan-5 : (n line : ℕ) → firstBad (behindLines 0 n) line (ahead s at)
                 ≡ firstBad (behindLines 5 n) (suc (suc (suc (suc (suc line))))) (ahead s e)
-            scan-5 n line = scan-4 n line ∙ scan-on narrowReason s d (behindLines 4 n) _ [] refl l5 (reason-there (l5 .value))
+            scan-5 n line = scan-4 n line ∙ scan-on reasonIn s d (behindLines 4 n) _ [] refl l5 (reason-there (l5 .value))
                 (suc (suc (suc (suc line))))
 
             bad-6 : NoLine figureOrDash s e (text dueKey) → (n line : ℕ) → firstBad (behindLines 0 n) line (ahead s at) ≡ line + 5

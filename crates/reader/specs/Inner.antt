@@ -34,7 +34,7 @@ use Rattle.reader.specs.declared.values.Figure.the-variants as figured
 use Rattle.reader.specs.declared.lines.NameLine.{NameLine}
 use Rattle.reader.specs.declared.lines.NameLine.the-variants as name
 use Rattle.reader.specs.Shapes as shapes
-use Rattle.reader.specs.Shapes.{into, figure, figureOrDash, reasonOf, listed, runIn, numbered}
+use Rattle.reader.specs.Shapes.{into, figure, reasonOf, listed, runIn, numbered}
 use Rattle.reader.specs.Order.{valueBehind}
 
 -- A NUMBER IN THE TABLES' BYTES: one, or two; the largest that these hold where it is larger, which sound tables have nowhere
@@ -171,13 +171,9 @@ abbrev pub ValueAt : List ℕ → ℕ → List ℕ → Value → Type 0
 ValueAt s at key (value.Is from to) = ValueIs s at key from to
 ValueAt s at key value.Not = NoLine {A = List ℕ} some s at key
 
-abbrev pub FigureAt : List ℕ → ℕ → List ℕ → Figure → Type 0
-FigureAt s at key (figured.Is n next) = LineIs figure s at key n next
-FigureAt s at key figured.Not = NoLine figure s at key
-
-abbrev pub DashedAt : List ℕ → ℕ → List ℕ → Figure → Type 0
-DashedAt s at key (figured.Is n next) = LineIs figureOrDash s at key n next
-DashedAt s at key figured.Not = NoLine figureOrDash s at key
+abbrev pub FigureAt : (List ℕ → Option ℕ) → List ℕ → ℕ → List ℕ → Figure → Type 0
+FigureAt shape s at key (figured.Is n next) = LineIs shape s at key n next
+FigureAt shape s at key figured.Not = NoLine shape s at key
 
 abbrev pub NameAt : List ℕ → ℕ → List ℕ → NameLine → Type 0
 NameAt s at key (name.Is a b c d e next) = LineIs nameOf s at key (a ∷ b ∷ c ∷ d ∷ e ∷ []) next

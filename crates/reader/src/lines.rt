@@ -3,7 +3,8 @@ ghost use Prim.Native.Nat.{_≤_};
 ghost use mathlib.Core.Path.{_≡_};
 ghost use mathlib.Core.Bool.{true};
 ghost use lib.ListN.{length};
-ghost use Rattle.reader.specs.Inner.{unbroken, ValueAt, FigureAt, DashedAt, NameAt, ReasonAt, WordAt, RunAt, ResourceAt};
+ghost use Rattle.reader.specs.Shapes.{figure, figureOrDash};
+ghost use Rattle.reader.specs.Inner.{unbroken, ValueAt, FigureAt, NameAt, ReasonAt, WordAt, RunAt, ResourceAt};
 use super::values;
 use super::values::Figure;
 use super::values::Reason;
@@ -49,7 +50,7 @@ pub(crate) fn value_at(s: &[u8], at: usize, key: &[u8]) -> Value
 pub(crate) fn figure_at(s: &[u8], at: usize, key: &[u8]) -> Figure
     requires { ⌜ at ≤ length (now s) ⌝ }
     requires { ⌜ unbroken (now key) ≡ true ⌝ }
-    ensures { λ r. ⌜ FigureAt (now (s .entry)) at (now (key .entry)) r ⌝ }
+    ensures { λ r. ⌜ FigureAt figure (now (s .entry)) at (now (key .entry)) r ⌝ }
 {
     let Place::At(from) = values::word_to(s, at, key, b'=') else {
         return Figure::Not;
@@ -60,7 +61,7 @@ pub(crate) fn figure_at(s: &[u8], at: usize, key: &[u8]) -> Figure
 pub(crate) fn dashed_at(s: &[u8], at: usize, key: &[u8]) -> Figure
     requires { ⌜ at ≤ length (now s) ⌝ }
     requires { ⌜ unbroken (now key) ≡ true ⌝ }
-    ensures { λ r. ⌜ DashedAt (now (s .entry)) at (now (key .entry)) r ⌝ }
+    ensures { λ r. ⌜ FigureAt figureOrDash (now (s .entry)) at (now (key .entry)) r ⌝ }
 {
     let Place::At(from) = values::word_to(s, at, key, b'=') else {
         return Figure::Not;

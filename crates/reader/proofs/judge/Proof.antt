@@ -27,7 +27,7 @@ use Rattle.reader.proofs.judge.Lts as lts
 use Rattle.page.proofs.put_page.Reads as put-page-reads
 use Rattle.reader.proofs.not_read.Reads as not-read-reads
 use Rattle.tables.proofs.Tables.is_sound.Reads as is-sound-reads
-use Rattle.text.proofs.is_word.Reads as is-word-reads
+use Rattle.text.proofs.rest_is.Reads as rest-is-reads
 
 arrays : (s : tie.Start) → Arrays (s .args .tables)
 arrays s = record {
@@ -55,15 +55,12 @@ begins : (c : tie.After-put-page) → take (c .put-page .result) (c .put-page .l
 begins c = wrote-take (c .put-page .ensures) (fits (c .before) .room)
 
 -- what was compared
-compared : (c : tie.After-is-word)
-    → alike (drop (c .before .before .before .before .before .before .before .before .args .at)
-    (c .before .before .before .before .before .before .before .before .args .s .now))
-    (page (plain (c .before .before .before .before .before .before .before .before .args .tables))) ≡ c .is-word .result
+compared : (c : tie.After-rest-is)
+    → let a = c .before .before .before .before .before .before .before .before .args in
+    alike (drop (a .at) (a .s .now)) (page (plain (a .tables))) ≡ c .rest-is .result
 compared c =
-    ap₂ alike (ap (drop (c .before .before .before .before .before .before .before .before .args .at))
-    (sym (take-length (c .before .before .before .before .before .before .before .before .args .s .now))))
-    (sym (begins (c .before .before .before)))
-    ∙ sym (c .is-word .ensures)
+    let a = c .before .before .before .before .before .before .before .before .args in
+    ap (alike (drop (a .at) (a .s .now))) (sym (begins (c .before .before .before))) ∙ sym (c .rest-is .ensures)
 
 -- src/lib.rt:41:9
 is-sound-requires : tie.Need-is-sound-requires
@@ -94,13 +91,13 @@ array-share-prefix-space c =
     within (c .before)
 
 -- src/lib.rt:46:39
-slice-aggregate-is-word : tie.Need-slice-aggregate-is-word
-slice-aggregate-is-word c =
+slice-aggregate-rest-is : tie.Need-slice-aggregate-rest-is
+slice-aggregate-rest-is c =
     sym (length-take-le _ _ (within (c .before .before)))
 
 -- src/lib.rt:46:9
-is-word-requires : tie.Need-is-word-requires
-is-word-requires c κs = search needs
+rest-is-requires : tie.Need-rest-is-requires
+rest-is-requires c κs = search needs
 
 -- src/lib.rt:47:9
 not-read-requires-2 : tie.Need-not-read-requires-2
@@ -110,13 +107,13 @@ not-read-requires-2 c κs = search needs
 returns-2 : tie.Need-returns-2
 returns-2 c =
     other-bytes _ _ (approved (c .before .before .before .before .before .before .before))
-    (compared (c .before .before) ∙ not-true (c .before .before .is-word .result) (c .before .if2 .taken)) (c .not-read2 .ensures)
+    (compared (c .before .before) ∙ not-true (c .before .before .rest-is .result) (c .before .if2 .taken)) (c .not-read2 .ensures)
 
 -- src/lib.rt:37:1
 returns-3 : tie.Need-returns-3
 returns-3 c =
     these-bytes _ _ (approved (c .before .before .before .before .before .before))
-    (compared (c .before) ∙ not-false (c .before .is-word .result) (c .if2 .left))
+    (compared (c .before) ∙ not-false (c .before .rest-is .result) (c .if2 .left))
 
 pub judge-spec : {M : Type 1} → statement M
 judge-spec =
@@ -128,8 +125,8 @@ judge-spec =
     slice-aggregate-put-page
     put-page-requires
     array-share-prefix-space
-    slice-aggregate-is-word
-    is-word-requires
+    slice-aggregate-rest-is
+    rest-is-requires
     not-read-requires-2
     returns-2
     returns-3)

@@ -6,7 +6,7 @@ use borrow.Author.Needs.{needs}
 use Rattle.tables.specs.Calls.{Result}
 use Rattle.records.specs.Inner as numbers
 use Rattle.tracks.specs.Inner.{Fit}
-use Rattle.reader.specs.Walks.{HeadIs, RecordsAre, ChainsAre, HeldIs, NumbersAre, EndRead}
+use Rattle.reader.specs.Walks.{HeadIs, RecordsAre, ChainsAre, EndRead}
 use Rattle.reader.proofs.Assembling.{fresh-tracks-fit, fresh-numbers-fit}
 use Rattle.reader.proofs.WholePage as laws
 use Rattle.reader.proofs.read_from.Statement.{statement}
@@ -34,12 +34,6 @@ start-3 e = start-2 (e .before .before .before)
 abbrev start-4 : tie.Else4 → tie.Start
 start-4 e = start-3 (e .before .before .before)
 
-abbrev start-5 : tie.Else5 → tie.Start
-start-5 e = start-4 (e .before .before .before .before .before .before)
-
-abbrev start-6 : tie.Else6 → tie.Start
-start-6 e = start-5 (e .before .before .before)
-
 head : (e : tie.Else2) → HeadIs (start-2 e .args .s .now) (start-2 e .args .at) (e .before .before .read-head .result)
 head e = e .before .before .read-head .ensures .read (omega arith)
 
@@ -53,19 +47,9 @@ chains : (e : tie.Else4)
     (e .before .before .before .before .before .read-records .result .line) (e .before .before .read-chains .result)
 chains e = e .before .before .read-chains .ensures .read (omega arith)
 
-held : (e : tie.Else5)
-    → HeldIs (start-5 e .args .s .now) (e .before .before .before .before .before .before .before .before .read-chains .result .at)
-    (e .before .before .before .before .before .before .before .before .read-chains .result .line)
-    (e .before .before .before .before .before .fresh .result .tables .ledger .tracks)
-    (e .before .before .read-held .result)
-held e = e .before .before .read-held .ensures .read (omega arith)
-
-numbered : (e : tie.Else6)
-    → NumbersAre (start-6 e .args .s .now) (e .before .before .before .before .before .read-held .result .at)
-    (e .before .before .before .before .before .read-held .result .line)
-    (e .before .before .before .before .before .before .before .before .fresh .result .tables .ledger .numbers)
-    (e .before .before .read-numbers .result)
-numbered e = e .before .before .read-numbers .ensures .read (omega arith)
+-- what was read before the last line
+abbrev chained : tie.After-read-end → tie.Else4
+chained c = c .before .before .before .before .before .before
 
 -- src/lib.rt:60:9
 not-read-requires : tie.Need-not-read-requires
@@ -138,87 +122,58 @@ read-held-requires c κs = (
       (ap (λ (r : Result). r .tables .ledger .tracks) (c .before .before .fresh .ensures))) (fresh-tracks-fit 0 _ _ _),
 )
 
+-- src/lib.rt:78:9
+read-numbers-requires : tie.Need-read-numbers-requires
+read-numbers-requires c κs = (
+  c .read-held .ensures .onward,
+  subst numbers.Fit (sym (ap (λ (r : Result). r .tables .ledger .numbers)
+      (c .before .before .before .fresh .ensures))) (fresh-numbers-fit 0 _ _ _),
+)
+
 -- src/lib.rt:79:9
+read-end-requires : tie.Need-read-end-requires
+read-end-requires c κs =
+    (c .read-numbers .ensures .onward, c .read-numbers .ensures .next)
+
+-- src/lib.rt:81:9
 not-read-requires-5 : tie.Need-not-read-requires-5
 not-read-requires-5 c κs = search needs
 
--- src/lib.rt:79:9
+-- src/lib.rt:81:9
 returns-5 : tie.Need-returns-5
 returns-5 c =
-    let k = c .before .before .before .before .before .before .before in
+    let e = c .before .before in
+    let n = e .before in
+    let k = chained e in
     let s = start-4 k in
     laws.bad-page (s .args .s .now) (s .args .at) _ (omega arith)
-    (laws.bad-held _ _ _ (head (k .before .before .before .before .before .before)) _ (records (k .before .before .before)) _
-    (chains k) _ _ (c .before .before .before .read-held .ensures) (omega arith)) (c .not-read5 .ensures)
-
--- src/lib.rt:81:9
-read-numbers-requires : tie.Need-read-numbers-requires
-read-numbers-requires c κs = (
-  held c .onward,
-  subst numbers.Fit (sym (ap (λ (r : Result). r .tables .ledger .numbers)
-      (c .before .before .before .before .before .fresh .ensures))) (fresh-numbers-fit 0 _ _ _),
-)
-
--- src/lib.rt:83:9
-not-read-requires-6 : tie.Need-not-read-requires-6
-not-read-requires-6 c κs = search needs
-
--- src/lib.rt:83:9
-returns-6 : tie.Need-returns-6
-returns-6 c =
-    let d = c .before .before .before .before in
-    let k = d .before .before .before .before .before .before in
-    let s = start-5 d in
-    laws.bad-page (s .args .s .now) (s .args .at) _ (omega arith)
-    (laws.bad-numbers _ _ _ (head (k .before .before .before .before .before .before)) _ (records (k .before .before .before)) _
-    (chains k) _ _ (held d) _ _ (c .before .before .before .read-numbers .ensures) (omega arith))
-    (c .not-read6 .ensures)
-
--- src/lib.rt:85:9
-read-end-requires : tie.Need-read-end-requires
-read-end-requires c κs =
-    (numbered c .onward, numbered c .next)
-
--- src/lib.rt:87:9
-not-read-requires-7 : tie.Need-not-read-requires-7
-not-read-requires-7 c κs = search needs
-
--- src/lib.rt:87:9
-returns-7 : tie.Need-returns-7
-returns-7 c =
-    let n = c .before .before .before in
-    let d = n .before .before .before in
-    let k = d .before .before .before .before .before .before in
-    let s = start-6 n in
-    laws.bad-page (s .args .s .now) (s .args .at) _ (omega arith)
     (laws.bad-end _ _ _ (head (k .before .before .before .before .before .before)) _ (records (k .before .before .before)) _
-    (chains k) _ _ (held d) _ _ (numbered n) _ (c .before .before .read-end .ensures)) (c .not-read7 .ensures)
+    (chains k) _ _ (n .before .read-held .ensures) _ _ (n .read-numbers .ensures) _ (e .read-end .ensures)) (c .not-read5 .ensures)
 
 -- src/lib.rt:95:16
 from-ticks-requires : tie.Need-from-ticks-requires
 from-ticks-requires c κs = search needs
 
--- src/lib.rt:99:5
+-- src/lib.rt:93:5
 judge-requires : tie.Need-judge-requires
 judge-requires c κs =
-    let h = head (c .before .before .before .before .before .before .before .before .before .before .before .before .before .before .before .before .before .before .before .before .before .before) in
+    let h = head (chained (c .before .before .before .before .before .before) .before .before .before .before .before .before) in
     omega (arith, h .beyond, h .within)
 
 -- src/lib.rt:56:1
-returns-8 : tie.Need-returns-8
-returns-8 c =
-    let n = c .before .before .before .before .before .before .before .before in
-    let d = n .before .before .before in
-    let k = d .before .before .before .before .before .before in
-    let s = start-6 n in
-    let f = d .before .before .before .before .before .fresh .ensures in
+returns-6 : tie.Need-returns-6
+returns-6 c =
+    let l = c .before .before .before .before .before .before in
+    let e = l .before in
+    let n = e .before in
+    let k = chained e in
+    let s = start-4 k in
+    let f = n .before .before .before .before .fresh .ensures in
     laws.whole-page (s .args .s .now) (s .args .at) _ (head (k .before .before .before .before .before .before)) _
-    (records (k .before .before .before)) _ (chains k) _ _ (held d) _ _ (numbered n)
+    (records (k .before .before .before)) _ (chains k) _ _ (n .before .read-held .ensures) _ _ (n .read-numbers .ensures)
     (ap (λ (r : Result). r .tables .ledger .tracks) f) (ap (λ (r : Result). r .tables .ledger .numbers) f)
-    (subst (EndRead (s .args .s .now) (n .before .before .read-numbers .result .at) (n .before .before .read-numbers .result .line))
-    (let e : c .before .before .before .before .before .before .before .read-end .result
-    ≡ 0 = omega (arith, c .before .before .before .before .before .before .if7 .left) in e)
-    (c .before .before .before .before .before .before .before .read-end .ensures)) _ refl
+    (subst (EndRead (s .args .s .now) (n .read-numbers .result .at) (n .read-numbers .result .line))
+    (let z : e .read-end .result ≡ 0 = omega (arith, l .if5 .left) in z) (e .read-end .ensures)) _ refl
     (c .before .from-ticks .ensures) refl refl refl
     (c .judge .ensures)
 
@@ -239,14 +194,10 @@ read-from-spec =
     returns-4
     fresh-requires
     read-held-requires
+    read-numbers-requires
+    read-end-requires
     not-read-requires-5
     returns-5
-    read-numbers-requires
-    not-read-requires-6
-    returns-6
-    read-end-requires
-    not-read-requires-7
-    returns-7
     from-ticks-requires
     judge-requires
-    returns-8)
+    returns-6)

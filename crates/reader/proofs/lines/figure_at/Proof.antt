@@ -1,82 +1,50 @@
--- `figure_at` reads the line at a place.
+-- `lines::figure_at` reads a line with a number.
 -- Assumes nothing.
 use native.Mathlib.Omega.{arith}
-use mathlib.Core.Path.{sym, ap, _∙_, subst}
-use Rattle.reader.specs.Shapes.{figure}
-use Rattle.text.specs.Inner.{read}
-use Rattle.reader.specs.Inner.{ValueAt}
-use Rattle.reader.proofs.LineLaws.{line-shaped, line-unshaped, line-unkeyed}
+use mathlib.Core.Path.{refl, subst}
+use Rattle.reader.specs.Shapes.{figure, figureOrDash}
+use Rattle.reader.specs.Inner.{WordTo, reasonIn}
+use Rattle.reader.proofs.MarkedFigures.{figure-free, dashed-free, no-dash}
+use Rattle.reader.proofs.MarkedLines.{line-no-key, figure-line}
 use borrow.Author.Needs.{needs}
 use Rattle.reader.proofs.lines.figure_at.Statement.{statement}
 use Rattle.reader.proofs.lines.figure_at.Tie as tie
 use Rattle.reader.proofs.lines.figure_at.Reads as reads
 use Rattle.reader.proofs.lines.figure_at.Lts as lts
-use Rattle.reader.proofs.lines.value_at.Reads as value-at-reads
-use Rattle.reader.proofs.values.read_figure.Reads as read-figure-reads
+use Rattle.reader.proofs.values.figure_to.Reads as figure-to-reads
+use Rattle.reader.proofs.values.word_to.Reads as word-to-reads
 
--- src/lines.rt:59:31
-value-at-requires : tie.Need-value-at-requires
-value-at-requires c κs = search needs
+-- src/lines.rt:54:27
+word-to-requires : tie.Need-word-to-requires
+word-to-requires c κs = search needs
 
--- src/lines.rt:59:19
+-- src/lines.rt:54:19
 enum-known-from : tie.Need-enum-known-from
 enum-known-from c = search needs
 
--- src/lines.rt:60:9
+-- src/lines.rt:55:9
 enum-told : tie.Need-enum-told
 enum-told c = search needs
 
--- src/lines.rt:60:9
+-- src/lines.rt:55:9
 returns : tie.Need-returns
 returns c =
-    line-unkeyed figure (subst (ValueAt _ _ _) (c .enum-told .given .1) (c .before .before .value-at .ensures))
+    line-no-key figure (subst (WordTo _ _ _ _) (c .enum-told .given .1) (c .before .before .word-to .ensures))
 
--- src/lines.rt:62:25
-read-figure-requires : tie.Need-read-figure-requires
-read-figure-requires c κs =
-    let v = subst (ValueAt _ _ _) (c .before .from .given .1) (c .before .before .before .value-at .ensures) in
-    (v .low, omega (arith, v .high))
+-- src/lines.rt:57:5
+figure-to-requires : tie.Need-figure-to-requires
+figure-to-requires c κs =
+    let k = subst (WordTo _ _ _ _) (c .before .from .given .1) (c .before .before .before .word-to .ensures) in
+    (k .within, refl)
 
--- src/lines.rt:62:20
-enum-known-n : tie.Need-enum-known-n
-enum-known-n c = search needs
-
--- src/lines.rt:63:9
-enum-told-2 : tie.Need-enum-told-2
-enum-told-2 c = search needs
-
--- src/lines.rt:63:9
+-- src/lines.rt:49:1
 returns-2 : tie.Need-returns-2
 returns-2 c =
-    let v = subst (ValueAt _ _ _) (c .before .before .before .before .from .given .1)
-    (c .before .before .before .before .before .before .value-at .ensures) in
-    line-unshaped figure v (sym (c .before .before .read-figure .ensures) ∙ ap read (c .enum-told2 .given .1))
-
--- src/lines.rt:65:19
-add-t9 : tie.Need-add-t9
-add-t9 c =
-    let v = subst (ValueAt _ _ _) (c .before .before .before .before .before .from .given .1)
-    (c .before .before .before .before .before .before .before .value-at .ensures) in
-    omega (arith, v .high)
-
--- src/lines.rt:55:1
-returns-3 : tie.Need-returns-3
-returns-3 c =
-    let v = subst (ValueAt _ _ _) (c .before .before .before .before .before .from .given .1)
-    (c .before .before .before .before .before .before .before .value-at .ensures) in
-    line-shaped figure v (sym (c .before .before .before .read-figure .ensures) ∙ ap read (c .before .n .given .1))
+    let h = c .before .before in
+    figure-line (subst (WordTo _ _ _ _) (h .from .given .1) (h .before .before .word-to .ensures))
+    (h .before .before .before .before .before .pre .1) figure (figure-free 10 (λ h. omega arith)) _ (c .figure-to .ensures)
 
 pub figure-at-spec : {M : Type 1} → statement M
 figure-at-spec =
     tie.close
-    (tie.spec
-    value-at-requires
-    enum-known-from
-    enum-told
-    returns
-    read-figure-requires
-    enum-known-n
-    enum-told-2
-    returns-2
-    add-t9
-    returns-3)
+    (tie.spec word-to-requires enum-known-from enum-told returns figure-to-requires returns-2)

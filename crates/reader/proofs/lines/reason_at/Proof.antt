@@ -1,80 +1,50 @@
--- `reason_at` reads the line at a place.
+-- `lines::reason_at` reads a line with a why.
 -- Assumes nothing.
 use native.Mathlib.Omega.{arith}
-use mathlib.Core.Path.{sym, ap, _∙_, subst}
-use Rattle.reader.specs.Inner.{ValueAt, narrowReason, reasonRead}
-use Rattle.reader.proofs.LineLaws.{line-shaped, line-unshaped, line-unkeyed}
+use mathlib.Core.Path.{refl, subst}
+use Rattle.reader.specs.Shapes.{figure, figureOrDash}
+use Rattle.reader.specs.Inner.{WordTo, reasonIn}
+use Rattle.reader.proofs.MarkedFigures.{figure-free, dashed-free, no-dash}
+use Rattle.reader.proofs.MarkedLines.{line-no-key, reason-line}
 use borrow.Author.Needs.{needs}
 use Rattle.reader.proofs.lines.reason_at.Statement.{statement}
 use Rattle.reader.proofs.lines.reason_at.Tie as tie
 use Rattle.reader.proofs.lines.reason_at.Reads as reads
 use Rattle.reader.proofs.lines.reason_at.Lts as lts
-use Rattle.reader.proofs.lines.value_at.Reads as value-at-reads
-use Rattle.reader.proofs.values.read_reason.Reads as read-reason-reads
+use Rattle.reader.proofs.values.reason_to.Reads as reason-to-reads
+use Rattle.reader.proofs.values.word_to.Reads as word-to-reads
 
--- src/lines.rt:98:31
-value-at-requires : tie.Need-value-at-requires
-value-at-requires c κs = search needs
+-- src/lines.rt:89:27
+word-to-requires : tie.Need-word-to-requires
+word-to-requires c κs = search needs
 
--- src/lines.rt:98:19
+-- src/lines.rt:89:19
 enum-known-from : tie.Need-enum-known-from
 enum-known-from c = search needs
 
--- src/lines.rt:99:9
+-- src/lines.rt:90:9
 enum-told : tie.Need-enum-told
 enum-told c = search needs
 
--- src/lines.rt:99:9
+-- src/lines.rt:90:9
 returns : tie.Need-returns
 returns c =
-    line-unkeyed narrowReason (subst (ValueAt _ _ _) (c .enum-told .given .1) (c .before .before .value-at .ensures))
+    line-no-key reasonIn (subst (WordTo _ _ _ _) (c .enum-told .given .1) (c .before .before .word-to .ensures))
 
--- src/lines.rt:101:27
-read-reason-requires : tie.Need-read-reason-requires
-read-reason-requires c κs =
-    let v = subst (ValueAt _ _ _) (c .before .from .given .1) (c .before .before .before .value-at .ensures) in
-    (v .low, omega (arith, v .high))
+-- src/lines.rt:92:5
+reason-to-requires : tie.Need-reason-to-requires
+reason-to-requires c κs =
+    let k = subst (WordTo _ _ _ _) (c .before .from .given .1) (c .before .before .before .word-to .ensures) in
+    k .within
 
--- src/lines.rt:101:20
-enum-known-why : tie.Need-enum-known-why
-enum-known-why c = search needs
-
--- src/lines.rt:102:9
-enum-told-2 : tie.Need-enum-told-2
-enum-told-2 c = search needs
-
--- src/lines.rt:102:9
+-- src/lines.rt:84:1
 returns-2 : tie.Need-returns-2
 returns-2 c =
-    let v = subst (ValueAt _ _ _) (c .before .before .before .before .from .given .1)
-    (c .before .before .before .before .before .before .value-at .ensures) in
-    line-unshaped narrowReason v (sym (c .before .before .read-reason .ensures) ∙ ap reasonRead (c .enum-told2 .given .1))
-
--- src/lines.rt:104:25
-add-t9 : tie.Need-add-t9
-add-t9 c =
-    let v = subst (ValueAt _ _ _) (c .before .before .before .before .before .from .given .1)
-    (c .before .before .before .before .before .before .before .value-at .ensures) in
-    omega (arith, v .high)
-
--- src/lines.rt:94:1
-returns-3 : tie.Need-returns-3
-returns-3 c =
-    let v = subst (ValueAt _ _ _) (c .before .before .before .before .before .from .given .1)
-    (c .before .before .before .before .before .before .before .value-at .ensures) in
-    line-shaped narrowReason v (sym (c .before .before .before .read-reason .ensures) ∙ ap reasonRead (c .before .why .given .1))
+    let h = c .before .before in
+    reason-line (subst (WordTo _ _ _ _) (h .from .given .1) (h .before .before .word-to .ensures))
+    (h .before .before .before .before .before .pre .1)  _ (c .reason-to .ensures)
 
 pub reason-at-spec : {M : Type 1} → statement M
 reason-at-spec =
     tie.close
-    (tie.spec
-    value-at-requires
-    enum-known-from
-    enum-told
-    returns
-    read-reason-requires
-    enum-known-why
-    enum-told-2
-    returns-2
-    add-t9
-    returns-3)
+    (tie.spec word-to-requires enum-known-from enum-told returns reason-to-requires returns-2)

@@ -1,71 +1,46 @@
--- `word_at` reads the line at a place.
+-- `lines::word_at` reads a line whose value is a word.
 -- Assumes nothing.
-use native.Mathlib.Omega.{arith}
-use mathlib.Core.Path.{sym, ap, _∙_, subst}
-use borrow.Author.Tests.{not-true, not-false}
-use Rattle.reader.specs.Inner.{ValueAt, wordIs}
-use Rattle.reader.proofs.LineLaws.{line-shaped, line-unshaped, line-unkeyed, wordIf}
+use mathlib.Core.Path.{subst}
+use Rattle.reader.specs.Inner.{WordTo, wordIs}
+use Rattle.reader.proofs.MarkedLines.{line-no-key, word-line}
 use borrow.Author.Needs.{needs}
 use Rattle.reader.proofs.lines.word_at.Statement.{statement}
 use Rattle.reader.proofs.lines.word_at.Tie as tie
 use Rattle.reader.proofs.lines.word_at.Reads as reads
 use Rattle.reader.proofs.lines.word_at.Lts as lts
-use Rattle.reader.proofs.lines.value_at.Reads as value-at-reads
-use Rattle.text.proofs.is_word.Reads as is-word-reads
+use Rattle.reader.proofs.values.word_to.Reads as word-to-reads
 
--- src/lines.rt:112:31
-value-at-requires : tie.Need-value-at-requires
-value-at-requires c κs = search needs
+-- src/lines.rt:102:27
+word-to-requires : tie.Need-word-to-requires
+word-to-requires c κs = search needs
 
--- src/lines.rt:112:19
+-- src/lines.rt:102:19
 enum-known-from : tie.Need-enum-known-from
 enum-known-from c = search needs
 
--- src/lines.rt:113:9
+-- src/lines.rt:103:9
 enum-told : tie.Need-enum-told
 enum-told c = search needs
 
--- src/lines.rt:113:9
+-- src/lines.rt:103:9
 returns : tie.Need-returns
 returns c =
-    line-unkeyed (wordIs _) (subst (ValueAt _ _ _) (c .enum-told .given .1) (c .before .before .value-at .ensures))
+    line-no-key (wordIs _) (subst (WordTo _ _ _ _) (c .enum-told .given .1) (c .before .before .word-to .ensures))
 
--- src/lines.rt:115:9
-is-word-requires : tie.Need-is-word-requires
-is-word-requires c κs =
-    let v = subst (ValueAt _ _ _) (c .before .from .given .1) (c .before .before .before .value-at .ensures) in
-    (v .low, omega (arith, v .high))
+-- src/lines.rt:105:5
+word-to-requires-2 : tie.Need-word-to-requires-2
+word-to-requires-2 c κs =
+    subst (WordTo _ _ _ _) (c .before .from .given .1) (c .before .before .before .word-to .ensures) .within
 
--- src/lines.rt:116:9
+-- src/lines.rt:96:1
 returns-2 : tie.Need-returns-2
 returns-2 c =
-    let v = subst (ValueAt _ _ _) (c .before .before .before .from .given .1)
-    (c .before .before .before .before .before .value-at .ensures) in
-    line-unshaped (wordIs _) v (ap wordIf (sym (c .before .is-word .ensures) ∙ not-true (c .before .is-word .result) (c .if1 .taken)))
-
--- src/lines.rt:118:15
-add-t10 : tie.Need-add-t10
-add-t10 c =
-    let v = subst (ValueAt _ _ _) (c .before .before .before .from .given .1)
-    (c .before .before .before .before .before .value-at .ensures) in
-    omega (arith, v .high)
-
--- src/lines.rt:108:1
-returns-3 : tie.Need-returns-3
-returns-3 c =
-    let v = subst (ValueAt _ _ _) (c .before .before .before .from .given .1)
-    (c .before .before .before .before .before .value-at .ensures) in
-    line-shaped (wordIs _) v (ap wordIf (sym (c .before .is-word .ensures) ∙ not-false (c .before .is-word .result) (c .if1 .left)))
+    let h = c .before .before in
+    let s = h .before .before .before .before .before .before in
+    word-line (subst (WordTo _ _ _ _) (h .from .given .1) (h .before .before .word-to .ensures)) (s .pre .1 .0) _ (s .pre .1 .1) _
+    (c .word-to2 .ensures)
 
 pub word-at-spec : {M : Type 1} → statement M
 word-at-spec =
     tie.close
-    (tie.spec
-    value-at-requires
-    enum-known-from
-    enum-told
-    returns
-    is-word-requires
-    returns-2
-    add-t10
-    returns-3)
+    (tie.spec word-to-requires enum-known-from enum-told returns word-to-requires-2 returns-2)

@@ -37,26 +37,26 @@ line-1 c = subst (WordAt _ _ _ _) (c .a .given .1) (c .before .before .word-at .
 
 line-2 : (c : tie.After-clock) → LineIs figure (start-2 c .args .s .now) (c .before .before .before .before .before .a .given .0 .0)
     (text clockKey) (c .clock .given .0 .0) (c .clock .given .0 .1 .0)
-line-2 c = subst (FigureAt _ _ _) (c .clock .given .1) (c .before .before .figure-at .ensures)
+line-2 c = subst (FigureAt figure _ _ _) (c .clock .given .1) (c .before .before .figure-at .ensures)
 
 line-3 : (c : tie.After-tracks) → LineIs figure (start-3 c .args .s .now)
     (c .before .before .before .before .before .clock .given .0 .1 .0) (text tracksKey) (c .tracks .given .0 .0) (c .tracks .given .0 .1 .0)
-line-3 c = subst (FigureAt _ _ _) (c .tracks .given .1) (c .before .before .figure-at2 .ensures)
+line-3 c = subst (FigureAt figure _ _ _) (c .tracks .given .1) (c .before .before .figure-at2 .ensures)
 
 line-4 : (c : tie.After-system) → LineIs figure (start-4 c .args .s .now)
     (c .before .before .before .before .before .tracks .given .0 .1 .0) (text systemKey) (c .system .given .0 .0)
     (c .system .given .0 .1 .0)
-line-4 c = subst (FigureAt _ _ _) (c .system .given .1) (c .before .before .figure-at3 .ensures)
+line-4 c = subst (FigureAt figure _ _ _) (c .system .given .1) (c .before .before .figure-at3 .ensures)
 
 line-5 : (c : tie.After-numbers) → LineIs figure (start-5 c .args .s .now)
     (c .before .before .before .before .before .system .given .0 .1 .0) (text numbersKey) (c .numbers .given .0 .0)
     (c .numbers .given .0 .1 .0)
-line-5 c = subst (FigureAt _ _ _) (c .numbers .given .1) (c .before .before .figure-at4 .ensures)
+line-5 c = subst (FigureAt figure _ _ _) (c .numbers .given .1) (c .before .before .figure-at4 .ensures)
 
 line-6 : (c : tie.After-programs) → LineIs figure (start-6 c .args .s .now)
     (c .before .before .before .before .before .numbers .given .0 .1 .0) (text programsKey) (c .programs .given .0 .0)
     (c .programs .given .0 .1 .0)
-line-6 c = subst (FigureAt _ _ _) (c .programs .given .1) (c .before .before .figure-at5 .ensures)
+line-6 c = subst (FigureAt figure _ _ _) (c .programs .given .1) (c .before .before .figure-at5 .ensures)
 
 returns : tie.Need-returns
 returns c =
@@ -69,14 +69,14 @@ returns-2 c =
     let l = c .before .before .before .before .before .before in
     laws.head-stops _ _ 2 (omega arith)
     (laws.stop-2 _ _ (line-1 (l))
-    (subst (FigureAt _ _ _) (c .before .enum-told2 .given .1) (c .before .before .before .figure-at .ensures))) _ (c .no-head2 .ensures)
+    (subst (FigureAt figure _ _ _) (c .before .enum-told2 .given .1) (c .before .before .before .figure-at .ensures))) _ (c .no-head2 .ensures)
 
 returns-3 : tie.Need-returns-3
 returns-3 c =
     let l = c .before .before .before .before .before .before in
     laws.head-stops _ _ 3 (omega arith)
     (laws.stop-3 _ _ (line-1 (l .before .before .before .before .before)) (line-2 (l))
-    (subst (FigureAt _ _ _) (c .before .enum-told3 .given .1) (c .before .before .before .figure-at2 .ensures))) _ (c .no-head3 .ensures)
+    (subst (FigureAt figure _ _ _) (c .before .enum-told3 .given .1) (c .before .before .before .figure-at2 .ensures))) _ (c .no-head3 .ensures)
 
 returns-4 : tie.Need-returns-4
 returns-4 c =
@@ -84,7 +84,7 @@ returns-4 c =
     laws.head-stops _ _ 4 (omega arith)
     (laws.stop-4 _ _ (line-1 (l .before .before .before .before .before .before .before .before .before .before))
     (line-2 (l .before .before .before .before .before)) (line-3 (l))
-    (subst (FigureAt _ _ _) (c .before .enum-told4 .given .1) (c .before .before .before .figure-at3 .ensures))) _ (c .no-head4 .ensures)
+    (subst (FigureAt figure _ _ _) (c .before .enum-told4 .given .1) (c .before .before .before .figure-at3 .ensures))) _ (c .no-head4 .ensures)
 
 returns-5 : tie.Need-returns-5
 returns-5 c =
@@ -94,7 +94,7 @@ returns-5 c =
     (l .before .before .before .before .before .before .before .before .before .before .before .before .before .before .before))
     (line-2 (l .before .before .before .before .before .before .before .before .before .before))
     (line-3 (l .before .before .before .before .before)) (line-4 (l))
-    (subst (FigureAt _ _ _) (c .before .enum-told5 .given .1) (c .before .before .before .figure-at4 .ensures))) _ (c .no-head5 .ensures)
+    (subst (FigureAt figure _ _ _) (c .before .enum-told5 .given .1) (c .before .before .before .figure-at4 .ensures))) _ (c .no-head5 .ensures)
 
 returns-6 : tie.Need-returns-6
 returns-6 c =
@@ -102,7 +102,7 @@ returns-6 c =
     laws.head-stops _ _ 6 (omega arith)
     (laws.stop-6 _ _ (line-1
     (l .before .before .before .before .before .before .before .before .before .before .before .before .before .before .before .before .before .before .before .before)) (line-2 (l .before .before .before .before .before .before .before .before .before .before .before .before .before .before .before)) (line-3 (l .before .before .before .before .before .before .before .before .before .before)) (line-4 (l .before .before .before .before .before)) (line-5 (l))
-    (subst (FigureAt _ _ _) (c .before .enum-told6 .given .1) (c .before .before .before .figure-at5 .ensures))) _ (c .no-head6 .ensures)
+    (subst (FigureAt figure _ _ _) (c .before .enum-told6 .given .1) (c .before .before .before .figure-at5 .ensures))) _ (c .no-head6 .ensures)
 
 returns-7 : tie.Need-returns-7
 returns-7 c =

@@ -8,7 +8,7 @@ use Rattle.text.specs.Text.{text}
 use Rattle.records.specs.Names.{nameOf}
 use Rattle.page.specs.Page.{idKey, nameKey, priorityKey, stateKey, whyKey, dueKey, intervalKey}
 use Rattle.reader.specs.Shapes.{figure, figureOrDash}
-use Rattle.reader.specs.Inner.{LineIs, FigureAt, DashedAt, NameAt, ReasonAt, narrowReason}
+use Rattle.reader.specs.Inner.{LineIs, FigureAt, NameAt, ReasonAt, reasonIn}
 use Rattle.reader.proofs.RecordLaws as laws
 use Rattle.reader.proofs.parts.read_record.Statement.{statement}
 use Rattle.reader.proofs.parts.read_record.Tie as tie
@@ -36,7 +36,7 @@ start-7 c = start-6 (c .before .before .before .before .before)
 
 line-1 : (c : tie.After-id)
     → LineIs figure (start-1 c .args .s .now) (start-1 c .args .at) (text idKey) (c .id .given .0 .0) (c .id .given .0 .1 .0)
-line-1 c = subst (FigureAt _ _ _) (c .id .given .1) (c .before .before .figure-at .ensures)
+line-1 c = subst (FigureAt figure _ _ _) (c .id .given .1) (c .before .before .figure-at .ensures)
 
 line-2 : (c : tie.After-n0)
     → LineIs nameOf (start-2 c .args .s .now) (c .before .before .before .before .before .id .given .0 .1 .0) (text nameKey)
@@ -46,31 +46,31 @@ line-2 c = subst (NameAt _ _ _) (c .n0 .given .1) (c .before .before .name-at .e
 line-3 : (c : tie.After-priority)
     → LineIs figure (start-3 c .args .s .now) (c .before .before .before .before .before .n0 .given .0 .1 .1 .1 .1 .1 .0)
     (text priorityKey) (c .priority .given .0 .0) (c .priority .given .0 .1 .0)
-line-3 c = subst (FigureAt _ _ _) (c .priority .given .1) (c .before .before .figure-at2 .ensures)
+line-3 c = subst (FigureAt figure _ _ _) (c .priority .given .1) (c .before .before .figure-at2 .ensures)
 
 line-4 : (c : tie.After-state)
     → LineIs figure (start-4 c .args .s .now) (c .before .before .before .before .before .priority .given .0 .1 .0) (text stateKey)
     (c .state .given .0 .0) (c .state .given .0 .1 .0)
-line-4 c = subst (FigureAt _ _ _) (c .state .given .1) (c .before .before .figure-at3 .ensures)
+line-4 c = subst (FigureAt figure _ _ _) (c .state .given .1) (c .before .before .figure-at3 .ensures)
 
 line-5 : (c : tie.After-why)
-    → LineIs narrowReason (start-5 c .args .s .now) (c .before .before .before .before .before .state .given .0 .1 .0) (text whyKey)
+    → LineIs reasonIn (start-5 c .args .s .now) (c .before .before .before .before .before .state .given .0 .1 .0) (text whyKey)
     (c .why .given .0 .0) (c .why .given .0 .1 .0)
 line-5 c = subst (ReasonAt _ _ _) (c .why .given .1) (c .before .before .reason-at .ensures)
 
 line-6 : (c : tie.After-due)
     → LineIs figureOrDash (start-6 c .args .s .now) (c .before .before .before .before .before .why .given .0 .1 .0) (text dueKey)
     (c .due .given .0 .0) (c .due .given .0 .1 .0)
-line-6 c = subst (DashedAt _ _ _) (c .due .given .1) (c .before .before .dashed-at .ensures)
+line-6 c = subst (FigureAt figureOrDash _ _ _) (c .due .given .1) (c .before .before .dashed-at .ensures)
 
 line-7 : (c : tie.After-interval)
     → LineIs figureOrDash (start-7 c .args .s .now) (c .before .before .before .before .before .due .given .0 .1 .0) (text intervalKey)
     (c .interval .given .0 .0) (c .interval .given .0 .1 .0)
-line-7 c = subst (DashedAt _ _ _) (c .interval .given .1) (c .before .before .dashed-at2 .ensures)
+line-7 c = subst (FigureAt figureOrDash _ _ _) (c .interval .given .1) (c .before .before .dashed-at2 .ensures)
 
 returns : tie.Need-returns
 returns c =
-    laws.stop-1 _ _ (subst (FigureAt _ _ _) (c .before .enum-told .given .1) (c .before .before .before .figure-at .ensures)) _
+    laws.stop-1 _ _ (subst (FigureAt figure _ _ _) (c .before .enum-told .given .1) (c .before .before .before .figure-at .ensures)) _
     (c .stopped .ensures)
 
 returns-2 : tie.Need-returns-2
@@ -83,7 +83,7 @@ returns-3 : tie.Need-returns-3
 returns-3 c =
     let l = c .before .before .before .before .before .before in
     laws.stop-3 _ _ (line-1 (l .before .before .before .before .before)) (line-2 l)
-    (subst (FigureAt _ _ _) (c .before .enum-told3 .given .1) (c .before .before .before .figure-at2 .ensures)) _
+    (subst (FigureAt figure _ _ _) (c .before .enum-told3 .given .1) (c .before .before .before .figure-at2 .ensures)) _
     (c .stopped3 .ensures)
 
 returns-4 : tie.Need-returns-4
@@ -91,7 +91,7 @@ returns-4 c =
     let l = c .before .before .before .before .before .before in
     laws.stop-4 _ _ (line-1 (l .before .before .before .before .before .before .before .before .before .before))
     (line-2 (l .before .before .before .before .before)) (line-3 l)
-    (subst (FigureAt _ _ _) (c .before .enum-told4 .given .1) (c .before .before .before .figure-at3 .ensures)) _
+    (subst (FigureAt figure _ _ _) (c .before .enum-told4 .given .1) (c .before .before .before .figure-at3 .ensures)) _
     (c .stopped4 .ensures)
 
 returns-5 : tie.Need-returns-5
@@ -108,14 +108,14 @@ returns-6 : tie.Need-returns-6
 returns-6 c =
     let l = c .before .before .before .before .before .before in
     laws.stop-6 _ _ (line-1
-    (l .before .before .before .before .before .before .before .before .before .before .before .before .before .before .before .before .before .before .before .before)) (line-2 (l .before .before .before .before .before .before .before .before .before .before .before .before .before .before .before)) (line-3 (l .before .before .before .before .before .before .before .before .before .before)) (line-4 (l .before .before .before .before .before)) (line-5 l) (subst (DashedAt _ _ _) (c .before .enum-told6 .given .1) (c .before .before .before .dashed-at .ensures)) _
+    (l .before .before .before .before .before .before .before .before .before .before .before .before .before .before .before .before .before .before .before .before)) (line-2 (l .before .before .before .before .before .before .before .before .before .before .before .before .before .before .before)) (line-3 (l .before .before .before .before .before .before .before .before .before .before)) (line-4 (l .before .before .before .before .before)) (line-5 l) (subst (FigureAt figureOrDash _ _ _) (c .before .enum-told6 .given .1) (c .before .before .before .dashed-at .ensures)) _
     (c .stopped6 .ensures)
 
 returns-7 : tie.Need-returns-7
 returns-7 c =
     let l = c .before .before .before .before .before .before in
     laws.stop-7 _ _ (line-1
-    (l .before .before .before .before .before .before .before .before .before .before .before .before .before .before .before .before .before .before .before .before .before .before .before .before .before)) (line-2 (l .before .before .before .before .before .before .before .before .before .before .before .before .before .before .before .before .before .before .before .before)) (line-3 (l .before .before .before .before .before .before .before .before .before .before .before .before .before .before .before)) (line-4 (l .before .before .before .before .before .before .before .before .before .before)) (line-5 (l .before .before .before .before .before)) (line-6 l) (subst (DashedAt _ _ _) (c .before .enum-told7 .given .1) (c .before .before .before .dashed-at2 .ensures)) _
+    (l .before .before .before .before .before .before .before .before .before .before .before .before .before .before .before .before .before .before .before .before .before .before .before .before .before)) (line-2 (l .before .before .before .before .before .before .before .before .before .before .before .before .before .before .before .before .before .before .before .before)) (line-3 (l .before .before .before .before .before .before .before .before .before .before .before .before .before .before .before)) (line-4 (l .before .before .before .before .before .before .before .before .before .before)) (line-5 (l .before .before .before .before .before)) (line-6 l) (subst (FigureAt figureOrDash _ _ _) (c .before .enum-told7 .given .1) (c .before .before .before .dashed-at2 .ensures)) _
     (c .stopped7 .ensures)
 
 returns-8 : tie.Need-returns-8
