@@ -42,7 +42,7 @@ returns-2 : tie.Need-returns-2
 returns-2 c =
     let h = c .before .before in
     figure-line (subst (WordTo _ _ _ _) (h .from .given .1) (h .before .before .word-to .ensures))
-    (h .before .before .before .before .before .pre .1) figure (figure-free 10 (λ h. omega arith)) _ (c .figure-to .ensures)
+    (h .before .before .before .before .before .pre .1) figure (figure-free 10 (λ h. omega arith)) (c .figure-to .result) (c .figure-to .ensures)
 
 pub figure-at-spec : {M : Type 1} → statement M
 figure-at-spec =

@@ -41,7 +41,7 @@ run-to-requires c κs =
 returns-2 : tie.Need-returns-2
 returns-2 c =
     let h = c .before .before in
-    run-line (subst (WordTo _ _ _ _) (h .from .given .1) (h .before .before .word-to .ensures)) _ (c .run-to .ensures)
+    run-line (subst (WordTo _ _ _ _) (h .from .given .1) (h .before .before .word-to .ensures)) (c .run-to .result) (c .run-to .ensures)
 
 pub held-at-spec : {M : Type 1} → statement M
 held-at-spec =

@@ -41,7 +41,7 @@ resource-to-requires c κs =
 returns-2 : tie.Need-returns-2
 returns-2 c =
     let h = c .before .before in
-    resource-line (subst (WordTo _ _ _ _) (h .from .given .1) (h .before .before .word-to .ensures)) _ (c .resource-to .ensures)
+    resource-line (subst (WordTo _ _ _ _) (h .from .given .1) (h .before .before .word-to .ensures)) (c .resource-to .result) (c .resource-to .ensures)
 
 pub number-at-spec : {M : Type 1} → statement M
 number-at-spec =

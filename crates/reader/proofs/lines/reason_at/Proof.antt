@@ -42,7 +42,7 @@ returns-2 : tie.Need-returns-2
 returns-2 c =
     let h = c .before .before in
     reason-line (subst (WordTo _ _ _ _) (h .from .given .1) (h .before .before .word-to .ensures))
-    (h .before .before .before .before .before .pre .1)  _ (c .reason-to .ensures)
+    (h .before .before .before .before .before .pre .1)  (c .reason-to .result) (c .reason-to .ensures)
 
 pub reason-at-spec : {M : Type 1} → statement M
 reason-at-spec =

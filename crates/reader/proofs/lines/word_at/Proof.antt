@@ -37,8 +37,8 @@ returns-2 : tie.Need-returns-2
 returns-2 c =
     let h = c .before .before in
     let s = h .before .before .before .before .before .before in
-    word-line (subst (WordTo _ _ _ _) (h .from .given .1) (h .before .before .word-to .ensures)) (s .pre .1 .0) _ (s .pre .1 .1) _
-    (c .word-to2 .ensures)
+    word-line (subst (WordTo _ _ _ _) (h .from .given .1) (h .before .before .word-to .ensures)) (s .pre .1 .0) (s .args .word .now)
+    (s .pre .1 .1) (c .word-to2 .result) (c .word-to2 .ensures)
 
 pub word-at-spec : {M : Type 1} → statement M
 word-at-spec =

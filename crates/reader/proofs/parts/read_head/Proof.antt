@@ -1,7 +1,7 @@
 -- `read_head` reads the six lines of the head.
 -- Assumes nothing.
 use native.Mathlib.Omega.{arith}
-use mathlib.Core.Path.{_≡_, subst, sym}
+use mathlib.Core.Path.{_≡_, refl, subst, sym}
 use mathlib.Core.Bool.{true}
 use borrow.Author.Needs.{needs}
 use Rattle.text.specs.Text.{text}
@@ -122,31 +122,31 @@ read-head-spec =
     (λ c κs. search needs)
     returns
     (λ c. search needs)
-    (λ c κs. line-1 (c .before .before) .within)
+    (λ c κs. (line-1 (c .before .before) .within, refl))
     (λ c. search needs)
     (λ c. search needs)
     (λ c κs. search needs)
     returns-2
     (λ c. search needs)
-    (λ c κs. line-2 (c .before .before) .within)
+    (λ c κs. (line-2 (c .before .before) .within, refl))
     (λ c. search needs)
     (λ c. search needs)
     (λ c κs. search needs)
     returns-3
     (λ c. search needs)
-    (λ c κs. line-3 (c .before .before) .within)
+    (λ c κs. (line-3 (c .before .before) .within, refl))
     (λ c. search needs)
     (λ c. search needs)
     (λ c κs. search needs)
     returns-4
     (λ c. search needs)
-    (λ c κs. line-4 (c .before .before) .within)
+    (λ c κs. (line-4 (c .before .before) .within, refl))
     (λ c. search needs)
     (λ c. search needs)
     (λ c κs. search needs)
     returns-5
     (λ c. search needs)
-    (λ c κs. line-5 (c .before .before) .within)
+    (λ c κs. (line-5 (c .before .before) .within, refl))
     (λ c. search needs)
     (λ c. search needs)
     (λ c κs. search needs)

@@ -37,7 +37,7 @@ figure-to-requires c κs =
 returns-2 : tie.Need-returns-2
 returns-2 c =
     let h = c .before .before in
-    coded-figure _ _ (h .before .before .behind .ensures .at _ (h .i .given .1)) _ (c .figure-to .ensures)
+    coded-figure _ (h .before .before .before .before .before .args .mark) (h .before .before .behind .ensures .at _ (h .i .given .1)) (c .figure-to .result) (c .figure-to .ensures)
 
 pub coded-to-spec : {M : Type 1} → statement M
 coded-to-spec =

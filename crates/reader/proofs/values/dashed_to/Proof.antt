@@ -40,7 +40,7 @@ figure-to-requires c κs = search needs
 returns-2 : tie.Need-returns-2
 returns-2 c =
     let h = c .before in
-    dash-or-figure (subst (WordTo _ _ _ _) (h .enum-told .given .1) (h .before .before .word-to .ensures)) _ (c .figure-to .ensures)
+    dash-or-figure (subst (WordTo _ _ _ _) (h .enum-told .given .1) (h .before .before .word-to .ensures)) (c .figure-to .result) (c .figure-to .ensures)
 
 pub dashed-to-spec : {M : Type 1} → statement M
 dashed-to-spec =

@@ -44,7 +44,7 @@ figure-to-requires c κs = search needs
 returns-2 : tie.Need-returns-2
 returns-2 c =
     let h = c .before in
-    global-or-figure (subst (WordTo _ _ _ _) (h .enum-told .given .1) (h .before .before .word-to .ensures)) _ (c .figure-to .ensures)
+    global-or-figure (subst (WordTo _ _ _ _) (h .enum-told .given .1) (h .before .before .word-to .ensures)) (c .figure-to .result) (c .figure-to .ensures)
 
 pub party-to-spec : {M : Type 1} → statement M
 party-to-spec =
