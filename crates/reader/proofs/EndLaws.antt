@@ -6,13 +6,12 @@ use mathlib.Core.Path.{_≡_, refl, sym, ap, _∙_, subst}
 use mathlib.Core.Bool.{Bool, true, false, cond}
 use lib.Dec.{eqb}
 use mathlib.Core.List.{List, [], _∷_, _++_}
-use mathlib.Core.Option.{Option, none, some, Option·none-ne-some}
+use mathlib.Core.Option.{none}
 use lib.ListN.{length, drop, length-drop, drop-of-length-le}
 use Rattle.text.specs.Text.{text, behind, onFirst, parts}
-use Rattle.rules.specs.Keeper.{lists, State}
 use Rattle.page.specs.Page.{numberKey, endKey, lastWord}
 use Rattle.reader.specs.Shapes.{there, numbered}
-use Rattle.reader.specs.Order.{Place, numbering, ended, numberForm, endForm, Choice, choice, mayCome, valueBehind, afterOne, behindLine, behindAll, firstBad}
+use Rattle.reader.specs.Order.{numbering, ended, numberForm, endForm, choice, valueBehind, afterOne, behindLine, firstBad}
 use Rattle.reader.specs.Said.{withLine, restSaid}
 use Rattle.reader.specs.Inner.{narrowNumbered, numberIn, LineIs, NoLine, unended, keyless, shapeless, wordIs}
 use Rattle.reader.specs.Walks.{ahead, EndRead}

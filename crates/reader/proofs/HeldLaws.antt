@@ -2,15 +2,15 @@
 -- Assumes nothing.
 use Prim.Native.Nat.{ℕ, zero, suc, _+_, _-_, _≤_, _<_}
 use native.Mathlib.Omega.{arith}
-use mathlib.Core.Path.{_≡_, refl, sym, ap, ap₂, _∙_, subst}
+use mathlib.Core.Path.{_≡_, refl, sym, ap, _∙_, subst}
 use mathlib.Core.Bool.{Bool, true, false, cond, _&&_}
 use mathlib.Core.List.{List, [], _∷_, _++_, map}
 use mathlib.Core.Option.{Option, none, some, Option·none-ne-some, Option·some-injective}
-use lib.ListN.{length, set, drop, length-map, drop-of-length-le}
+use lib.ListN.{set, drop, length-map}
 use lib.Dec.{leb, ltb}
 use borrow.Author.Tests.{le-leb, lt-leb, lt-ltb, le-ltb}
 use Rattle.lists.proofs.Tests.{and}
-use Rattle.text.specs.Text.{text, behind, parts}
+use Rattle.text.specs.Text.{text}
 use Rattle.tracks.specs.declared.Tracks.{Tracks}
 use Rattle.tracks.specs.declared.held.Run.{Run}
 use Rattle.tracks.specs.Tracks.{places, tableAt, holders, tableOf, filled}
@@ -21,11 +21,11 @@ use Rattle.rules.specs.Book.{withHolders}
 use Rattle.rules.specs.Keeper.{lists, State}
 use Rattle.page.specs.Page.{heldKey, numberKey}
 use Rattle.reader.specs.Shapes.{there, into, runIn}
-use Rattle.reader.specs.Order.{Place, holding, numbering, ended, heldForm, numberForm, endForm, Choice, choice, valueBehind, afterOne}
+use Rattle.reader.specs.Order.{holding, numbering, ended, heldForm, numberForm, endForm, choice, valueBehind}
 use Rattle.reader.specs.Order.{behindLine, firstBad}
 use Rattle.reader.specs.Said.{onBook, withRun, withHeld, withNumbered, withLine, restSaid}
 use Rattle.reader.specs.Inner.{byte, narrowRun, heldIn, runOf, LineIs, NoLine, unended, keyless, shapeless}
-use Rattle.reader.specs.Walks.{ahead, Onward, Holds, HeldOf, HeldRead}
+use Rattle.reader.specs.Walks.{ahead, Onward, Holds, HeldRead}
 use Rattle.reader.proofs.Mapping.{map-set}
 use Rattle.reader.proofs.ScanLaws.{value-behind}
 use Rattle.reader.proofs.LineLaws.{there-into, scan-alike, pass-key, pass-shape, scan-on}
@@ -183,7 +183,8 @@ module _ {s : List ℕ} {at line : ℕ} {tracks table : Tracks} {o n : ℕ} (p :
 
   -- one more
   module _ {i j h next : ℕ} (l : LineIs heldIn s o (text heldKey) (runOf i j h) next) where
-    more : (g : Run) → runIn (l .value) ≡ some g → SoFar s at line tracks (putRun table (g .first) (g .last) (byte (g .holder))) next (n + 1)
+    more : (g : Run) → runIn (l .value) ≡ some g
+        → SoFar s at line tracks (putRun table (g .first) (g .last) (byte (g .holder))) next (n + 1)
     more g e =
         record {
           onward = record { within = l .within; some = omega arith; counted = omega (arith, l .beyond, p .onward .counted) };

@@ -1,6 +1,6 @@
 -- Laws of the line at a place: its key, its value, and the scan over it.
 -- Assumes nothing.
-use Prim.Native.Nat.{ℕ, zero, suc, _+_, _<_, _≤_}
+use Prim.Native.Nat.{ℕ, suc, _+_, _<_, _≤_}
 use native.Mathlib.Omega.{arith}
 use mathlib.Core.Path.{_≡_, refl, sym, ap, _∙_, subst}
 use mathlib.Core.Logic.{_≢_}
@@ -14,7 +14,7 @@ use Rattle.text.specs.Inner.{PartEnd, BehindAt}
 use Rattle.text.proofs.Fields.{slice-next, slice-none, parts-cut}
 use Rattle.text.proofs.Words.{behind-append, behind-exact}
 use Rattle.reader.specs.Shapes.{there, into}
-use Rattle.reader.specs.Order.{Form, Place, Choice, valueBehind, mayCome, afterKind, afterOne, behindLine, behindAll, firstBad}
+use Rattle.reader.specs.Order.{Place, Choice, valueBehind, mayCome, afterKind, afterOne, behindLine, behindAll, firstBad}
 use Rattle.reader.specs.Inner.{LineIs, NoLine, unended, keyless, shapeless, ValueIs}
 use Rattle.reader.proofs.ScanLaws.{value-behind, pass}
 

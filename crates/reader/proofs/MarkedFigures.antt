@@ -12,30 +12,26 @@ use lib.ListN.{length, getD, drop, take, length-drop, length-append, List·getD-
 use lib.Seq.{slice, split-at, getD-drop, getD-take, getD-append-seam, drop-drop, length-slice}
 use borrow.Author.Tests.{ltb-true, ltb-false}
 use Rattle.lists.specs.Lists.{same, upTo, count}
-use Rattle.lists.proofs.Tests.{clash, upTo-is}
+use Rattle.lists.proofs.Tests.{clash}
 use Rattle.lists.proofs.Laws.{count-append}
-use Rattle.limits.specs.Limits.{pageDigits}
 use Rattle.text.specs.declared.Digits.{Digits}
 use Rattle.text.specs.Inner.{DigitsFrom, BehindAt}
-use Rattle.text.specs.Text.{text, decimal, horner, numberOf, behind, parts}
+use Rattle.text.specs.Text.{text, decimal, horner, behind}
 use Rattle.text.proofs.Laws.{ten, ten-mono, decimal-small, decimal-pos, decimal-length}
 use Rattle.text.proofs.Fields.{drop-take, slice-head}
 use Rattle.text.proofs.Words.{behind-append, behind-exact}
 use Rattle.text.proofs.Read.{horner-decimal, decimal-head, numberOf-plain}
 use Rattle.text.proofs.Exact.{numberOf-exact}
-use Rattle.records.specs.declared.Why.{Why}
-use Rattle.records.specs.declared.Why.the-variants.{Nothing, Tracks, Son, Lock, Number}
 use Rattle.records.specs.Numbers.{globally}
-use Rattle.tracks.specs.declared.held.Run.{Run}
-use Rattle.page.specs.Page.{dash, globalWord, tracksWord, sonWord, lockWord, anyNumber}
-use Rattle.reader.specs.Shapes.{Parts, next, over, into, orElse, word, figure, figureOrDash, partyOf, coded, reasonOf, Span, spanOf, runIn, Numbered, numbered}
-use Rattle.reader.specs.Inner.{byte, twoBytes, codedBy, narrowWhy, narrowRun, narrowNumbered, reasonIn, heldIn, numberIn, runOf, numberedOf}
+use Rattle.page.specs.Page.{dash, globalWord}
+use Rattle.reader.specs.Shapes.{next, word, figure, figureOrDash, partyOf}
+use Rattle.reader.specs.Inner.{codedBy}
 use Rattle.reader.proofs.Text.{decimal-only}
 use Rattle.reader.specs.declared.values.Figure.{Figure}
 use Rattle.reader.specs.declared.values.Figure.the-variants as figured
 use Rattle.reader.specs.Inner.{SaidIs, NotSaid, wordIs, FigureTo}
-use Rattle.reader.proofs.Marks.{Free, word-free, named, unnamed, either-free, either-first, either-second, neither, into-free, into-said, into-unsaid}
-use Rattle.reader.proofs.Marks.{first-free, first-unsaid, then-said, then-unsaid, last-free, last-said, last-unsaid, cut-once, same-front, found-behind, not-behind}
+use Rattle.reader.proofs.Marks.{Free, word-free, named, unnamed, either-free, either-first, either-second, neither}
+use Rattle.reader.proofs.Marks.{same-front, found-behind, not-behind}
 
 -- NUMBERS
 -- every byte of a number is a digit
@@ -132,10 +128,12 @@ module _ {s : List ℕ} {from : ℕ} {r : Digits} (D : DigitsFrom s from 13 r) (
         go false p true q =
             let l : from + length v < r .end = ltb-true (from + length v) (r .end) q in
             clash (ap (upTo 48 57) (sym (inside (length v) l ∙ at-mark))
-            ∙ digit-at (slice from (r .end) s) 0 (r .value) (length v) (D .value) (omega (arith, length-slice from (r .end) s (D .high)))) mark
+            ∙ digit-at (slice from (r .end) s) 0 (r .value) (length v) (D .value)
+            (omega (arith, length-slice from (r .end) s (D .high)))) mark
         go false p false q = omega (arith, ltb-false (r .end) (from + length v) p, ltb-false (from + length v) (r .end) q)
 
-  unsaid : ((v rest : List ℕ) (m : ℕ) → drop from s ≡ v ++ (d ∷ rest) → r .end ≡ from + length v → Figured v m → ⊥) → NotSaid figure d s from
+  unsaid : ((v rest : List ℕ) (m : ℕ) → drop from s ≡ v ++ (d ∷ rest) → r .end ≡ from + length v → Figured v m → ⊥)
+      → NotSaid figure d s from
   unsaid k = record { unshaped = λ v rest e. go v rest e (figure v) refl }
     where
       go : (v rest : List ℕ) → drop from s ≡ v ++ (d ∷ rest) → (o : Option ℕ) → figure v ≡ o → figure v ≡ none
@@ -165,7 +163,8 @@ module _ {s : List ℕ} {from : ℕ} {r : Digits} (D : DigitsFrom s from 13 r) (
     cut = slice-cut s from (r .end) (D .low) h ∙ ap (λ (x : ℕ). slice from (r .end) s ++ (x ∷ drop (r .end + 1) s)) q;
     beyond = omega arith;
     within = omega arith;
-    shaped = numberOf-plain 13 (slice from (r .end) s) (omega (arith, length-slice from (r .end) s (D .high))) (omega (arith, length-slice from (r .end) s (D .high)))
+    shaped = numberOf-plain 13 (slice from (r .end) s) (omega (arith, length-slice from (r .end) s (D .high)))
+        (omega (arith, length-slice from (r .end) s (D .high)))
         (λ k y. z (omega (arith, length-slice from (r .end) s (D .high))) (sym (slice-head s from (r .end) l (D .high)) ∙ y)) ∙ D .value;
   }
 
@@ -203,7 +202,8 @@ module _ (w : List ℕ) where
         go : (v rest : List ℕ) → drop from s ≡ v ++ (d ∷ rest) → (o : Option (List ℕ)) → behind w v ≡ o → codedBy w v ≡ none
         go v rest e none t = ap codedIn t
         go v rest e (some r) t =
-            absurd (Option·none-ne-some (r ++ (d ∷ rest)) (sym (not-behind w s from n) ∙ ap (behind w) (e ∙ ap (λ (x : List ℕ). x ++ (d ∷ rest)) (behind-exact w v r t)
+            absurd (Option·none-ne-some (r ++ (d ∷ rest)) (sym (not-behind w s from n)
+            ∙ ap (behind w) (e ∙ ap (λ (x : List ℕ). x ++ (d ∷ rest)) (behind-exact w v r t)
             ∙ append-assoc w r (d ∷ rest)) ∙ behind-append w (r ++ (d ∷ rest))))
 
     module _ {i : ℕ} (b : BehindAt w s from (length s) i) where
@@ -234,13 +234,15 @@ module _ {d : ℕ} {s : List ℕ} {from : ℕ} where
   pub dash-said : {next : ℕ} → SaidIs (wordIs (text dash)) d s from true next → SaidIs figureOrDash d s from 0 next
   dash-said x = either-first (word dash 0) figure (named 0 x)
 
-  pub dash-or-figure : NotSaid (wordIs (text dash)) d s from → (r : Figure) → FigureTo figure d s from r → FigureTo figureOrDash d s from r
+  pub dash-or-figure : NotSaid (wordIs (text dash)) d s from
+      → (r : Figure) → FigureTo figure d s from r → FigureTo figureOrDash d s from r
   dash-or-figure n (figured.Is m next) x = either-second (word dash 0) figure (unnamed 0 n) x
   dash-or-figure n figured.Not x = neither (word dash 0) figure (unnamed 0 n) x
 
   pub global-said : {next : ℕ} → SaidIs (wordIs (text globalWord)) d s from true next → SaidIs partyOf d s from globally next
   global-said x = either-first (word globalWord globally) figure (named globally x)
 
-  pub global-or-figure : NotSaid (wordIs (text globalWord)) d s from → (r : Figure) → FigureTo figure d s from r → FigureTo partyOf d s from r
+  pub global-or-figure : NotSaid (wordIs (text globalWord)) d s from
+      → (r : Figure) → FigureTo figure d s from r → FigureTo partyOf d s from r
   global-or-figure n (figured.Is m next) x = either-second (word globalWord globally) figure (unnamed globally n) x
   global-or-figure n figured.Not x = neither (word globalWord globally) figure (unnamed globally n) x

@@ -1,6 +1,6 @@
 -- The line at a place, by its key up to `=` and its value up to byte 10.
 -- Assumes nothing.
-use Prim.Native.Nat.{ℕ, suc, _+_, _<_, _≤_}
+use Prim.Native.Nat.{ℕ, suc, _+_}
 use native.Mathlib.Omega.{arith}
 use mathlib.Core.Path.{_≡_, refl, sym, ap, _∙_}
 use mathlib.Core.Bool.{Bool, true, false, cond}
@@ -9,10 +9,10 @@ use mathlib.Core.Option.{Option, none, some, Option·none-ne-some}
 use lib.Dec.{eqb, ltb}
 use lib.ListN.{length, drop}
 use lib.Seq.{drop-drop}
-use Rattle.lists.specs.Lists.{count, alike}
+use Rattle.lists.specs.Lists.{count}
 use borrow.Author.Tests.{eqb-true, eqb-false}
 use Rattle.lists.proofs.Tests.{false-true, every-in, alike-refl}
-use Rattle.text.specs.Text.{text, behind, parts}
+use Rattle.text.specs.Text.{text, parts}
 use Rattle.text.proofs.Words.{behind-exact}
 use Rattle.reader.specs.Order.{valueBehind}
 use Rattle.reader.specs.Inner.{unbroken, LineIs, NoLine, unended, keyless, shapeless}
@@ -58,7 +58,8 @@ module _ {A : Type 0} (shape : List ℕ → Option A) {s key : List ℕ} {at : �
     value = v .value;
     cut = ap (parts 10) (word-there k ∙ ap (λ (x : List ℕ). key ++ (61 ∷ x)) (v .cut)
         ∙ sym (append-assoc key (61 ∷ v .value) (10 ∷ drop next s)))
-        ∙ parts-at 10 (key ++ (61 ∷ v .value)) (drop next s) (clean-line key (v .value) (unbroken-clean key h) (F .without (v .value) a (v .shaped)));
+        ∙ parts-at 10 (key ++ (61 ∷ v .value)) (drop next s)
+        (clean-line key (v .value) (unbroken-clean key h) (F .without (v .value) a (v .shaped)));
     beyond = omega (arith, k .beyond, v .beyond);
     within = v .within;
     shaped = v .shaped;

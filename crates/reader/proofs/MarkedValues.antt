@@ -1,36 +1,26 @@
 -- The values of a page up to their marks: a run, a resource number, a why.
 -- Assumes nothing.
-use Prim.Native.Nat.{ℕ, zero, suc, _+_, _*_, _-_, _<_, _≤_}
+use Prim.Native.Nat.{ℕ, _-_, _<_, _≤_}
 use native.Mathlib.Omega.{arith}
-use mathlib.Core.Path.{_≡_, refl, sym, ap, ap₂, _∙_, subst}
+use mathlib.Core.Path.{_≡_, refl, sym, subst}
 use mathlib.Core.Logic.{_≢_}
-use mathlib.Core.Bool.{Bool, true, false}
-use mathlib.Core.List.{List, [], _∷_, _++_, append-assoc}
-use mathlib.Core.Option.{Option, none, some, Option·none-ne-some}
-use lib.Dec.{ltb}
-use lib.ListN.{length, getD, drop, take, length-drop, length-append, List·getD-append}
-use lib.Seq.{slice, split-at, getD-drop, getD-take, getD-append-seam, drop-drop, length-slice}
-use borrow.Author.Tests.{ltb-true, ltb-false}
-use Rattle.lists.specs.Lists.{same, upTo, count}
-use Rattle.lists.proofs.Tests.{clash, upTo-is}
-use Rattle.lists.proofs.Laws.{count-append}
-use Rattle.text.specs.Text.{text, decimal, horner, numberOf, behind, parts}
-use Rattle.text.proofs.Laws.{ten, ten-mono, decimal-small, decimal-pos, decimal-length}
-use Rattle.text.proofs.Fields.{drop-take, slice-head}
-use Rattle.text.proofs.Words.{behind-append, behind-exact}
-use Rattle.text.proofs.Read.{horner-decimal, decimal-head, numberOf-plain}
-use Rattle.text.proofs.Exact.{numberOf-exact}
+use mathlib.Core.Bool.{true}
+use mathlib.Core.List.{List}
+use mathlib.Core.Option.{Option}
+use Rattle.lists.specs.Lists.{same, count}
+use Rattle.text.specs.Text.{text, parts}
 use Rattle.records.specs.declared.Why.{Why}
 use Rattle.records.specs.declared.Why.the-variants.{Nothing, Tracks, Son, Lock, Number}
-use Rattle.records.specs.Numbers.{globally}
 use Rattle.tracks.specs.declared.held.Run.{Run}
-use Rattle.page.specs.Page.{dash, globalWord, tracksWord, sonWord, lockWord, anyNumber}
-use Rattle.reader.specs.Shapes.{Parts, next, over, into, orElse, word, figure, figureOrDash, partyOf, coded, reasonOf, Span, spanOf, runIn, Numbered, numbered}
-use Rattle.reader.specs.Inner.{byte, twoBytes, codedBy, narrowWhy, narrowRun, narrowNumbered, reasonIn, heldIn, numberIn, runOf, numberedOf}
-use Rattle.reader.proofs.Text.{decimal-only}
+use Rattle.page.specs.Page.{dash, tracksWord, sonWord, lockWord, anyNumber}
+use Rattle.reader.specs.Shapes.{Parts, next, over, into, orElse, word, figure, figureOrDash, partyOf, coded, reasonOf}
+use Rattle.reader.specs.Shapes.{Span, spanOf, runIn, Numbered, numbered}
+use Rattle.reader.specs.Inner.{byte, twoBytes, codedBy, narrowWhy, narrowRun, narrowNumbered}
+use Rattle.reader.specs.Inner.{reasonIn, heldIn, numberIn, runOf, numberedOf}
 use Rattle.reader.specs.Inner.{SaidIs, NotSaid, wordIs}
-use Rattle.reader.proofs.Marks.{Free, word-free, named, unnamed, either-free, either-first, either-second, neither, into-free, into-said, into-unsaid}
-use Rattle.reader.proofs.Marks.{first-free, first-unsaid, then-said, then-unsaid, last-free, last-said, last-unsaid, cut-once, same-front}
+use Rattle.reader.proofs.Marks.{Free, word-free, named, unnamed, either-free, either-first, either-second, neither}
+use Rattle.reader.proofs.Marks.{into-free, into-said, into-unsaid}
+use Rattle.reader.proofs.Marks.{first-free, first-unsaid, then-said, then-unsaid, last-free, last-said, last-unsaid}
 use Rattle.reader.proofs.MarkedFigures.{figure-free, party-free, dashed-free, coded-free}
 
 -- A RUN
@@ -169,7 +159,8 @@ module _ {s : List ℕ} {from : ℕ} where
     not-nothing : {w : Why} {next : ℕ} → SaidIs orTracks 10 s from w next → SaidIs reasonIn 10 s from (narrowWhy w) next
     not-nothing x = into-said narrowWhy reasonOf (either-second (word dash Nothing) orTracks (unnamed Nothing d) x)
 
-    pub why-tracks : {n m next : ℕ} → SaidIs (coded tracksWord) 10 s from n next → m ≡ twoBytes n → SaidIs reasonIn 10 s from (Tracks m) next
+    pub why-tracks : {n m next : ℕ} → SaidIs (coded tracksWord) 10 s from n next → m ≡ twoBytes n
+        → SaidIs reasonIn 10 s from (Tracks m) next
     why-tracks {next = next} x e =
         subst (λ (k : ℕ). SaidIs reasonIn 10 s from (Tracks k) next) (sym e)
         (not-nothing (either-first (λ v. into Tracks (coded tracksWord v)) orSon (into-said Tracks (coded tracksWord) x)))
@@ -203,4 +194,3 @@ module _ {s : List ℕ} {from : ℕ} where
               (neither (λ v. into Tracks (coded tracksWord v)) orSon (into-unsaid Tracks (coded tracksWord) t)
               (neither (λ v. into Son (coded sonWord v)) orLock (into-unsaid Son (coded sonWord) u)
               (neither (λ v. into Lock (coded lockWord v)) orNumber (into-unsaid Lock (coded lockWord) l) (unnamed Number n)))))
-

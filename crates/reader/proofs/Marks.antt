@@ -1,18 +1,18 @@
 -- Values up to a mark: one shape or another, something made of what a shape says, and parts one behind another.
 -- Assumes nothing.
-use Prim.Native.Nat.{ℕ, suc, _+_, _<_, _≤_}
+use Prim.Native.Nat.{ℕ, _+_, _<_, _≤_}
 use native.Mathlib.Omega.{arith}
-use mathlib.Core.Path.{_≡_, refl, sym, ap, ap₂, _∙_, subst}
+use mathlib.Core.Path.{_≡_, refl, sym, ap, ap₂, _∙_}
 use mathlib.Core.Logic.{_≢_}
 use mathlib.Core.Bool.{Bool, true, false, cond}
 use mathlib.Core.List.{List, [], _∷_, _++_, append-assoc}
-use mathlib.Core.Option.{Option, none, some, Option·none-ne-some, Option·some-injective}
+use mathlib.Core.Option.{Option, none, some, Option·none-ne-some}
 use lib.Dec.{eqb}
 use lib.ListN.{length, getD, drop, drop-of-length-le}
 use lib.Seq.{slice, take-length}
 use borrow.Author.Tests.{eqb-true, eqb-false}
-use Rattle.lists.specs.Lists.{same, count, alike}
-use Rattle.lists.proofs.Laws.{same-refl, same-ne, count-append}
+use Rattle.lists.specs.Lists.{count, alike}
+use Rattle.lists.proofs.Laws.{same-ne, count-append}
 use Rattle.lists.proofs.Tests.{alike-true, alike-refl}
 use Rattle.text.specs.Text.{behind, parts}
 use Rattle.text.specs.Inner.{BehindAt}
@@ -86,7 +86,8 @@ word-true : {A : Type 0} (a : A) (b : Bool) → cond b (some true) none ≡ some
 word-true a true e = refl
 word-true a false e = absurd (Option·none-ne-some true e)
 
-word-false : {A : Type 0} (a : A) (b : Bool) → _≡_ {A = Option Bool} (cond b (some true) none) none → _≡_ {A = Option A} (cond b (some a) none) none
+word-false : {A : Type 0} (a : A) (b : Bool) → _≡_ {A = Option Bool} (cond b (some true) none) none
+    → _≡_ {A = Option A} (cond b (some a) none) none
 word-false a true e = absurd (Option·none-ne-some true (sym e))
 word-false a false e = refl
 
@@ -122,7 +123,8 @@ module _ {w : List ℕ} {d : ℕ} {s : List ℕ} {from : ℕ} where
   module _ {i : ℕ} (b : BehindAt w s from (length s) i) where
     pub word-short : i ≡ length s → NotSaid (wordIs w) d s from
     word-short h = word-unsaid (λ rest e.
-        let q : [] ≡ d ∷ rest = sym (drop-of-length-le s {i = i} (omega arith)) ∙ same-front w (drop i s) (d ∷ rest) (sym (found-behind b) ∙ e) in
+        let q : [] ≡ d ∷ rest = sym (drop-of-length-le s {i = i} (omega arith))
+        ∙ same-front w (drop i s) (d ∷ rest) (sym (found-behind b) ∙ e) in
         omega (arith, ap length q))
 
     pub word-other : i < length s → getD s i 0 ≢ d → NotSaid (wordIs w) d s from
@@ -135,7 +137,8 @@ module _ {w : List ℕ} {d : ℕ} {s : List ℕ} {from : ℕ} where
         (found-behind b ∙ ap (λ (x : List ℕ). w ++ x) (drop-next s i h ∙ ap (λ (c : ℕ). c ∷ drop (i + 1) s) e))
 
   -- a word that stands for something
-  pub named : {A : Type 0} (a : A) {next : ℕ} → SaidIs (wordIs w) d s from true next → SaidIs (λ v. cond (alike v w) (some a) none) d s from a next
+  pub named : {A : Type 0} (a : A) {next : ℕ} → SaidIs (wordIs w) d s from true next
+      → SaidIs (λ v. cond (alike v w) (some a) none) d s from a next
   named a x = record {
     value = x .value;
     cut = x .cut;
@@ -175,7 +178,8 @@ module _ {A : Type 0} (f g : List ℕ → Option A) where
       shaped = ap (λ (o : Option A). orElse o (g (x .value))) (x .shaped);
     }
 
-    pub either-second : {a : A} {next : ℕ} → NotSaid f d s from → SaidIs g d s from a next → SaidIs (λ v. orElse (f v) (g v)) d s from a next
+    pub either-second : {a : A} {next : ℕ} → NotSaid f d s from → SaidIs g d s from a next
+        → SaidIs (λ v. orElse (f v) (g v)) d s from a next
     either-second {a} {next} n x = record {
       value = x .value;
       cut = x .cut;

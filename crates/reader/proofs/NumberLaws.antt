@@ -1,17 +1,15 @@
 -- The numbers that are allocated, line by line: what is read so far.
 -- Assumes nothing.
-use Prim.Native.Nat.{ℕ, zero, suc, _+_, _-_, _≤_, _<_}
+use Prim.Native.Nat.{ℕ, suc, _+_, _-_, _≤_, _<_}
 use native.Mathlib.Omega.{arith}
 use mathlib.Core.Path.{_≡_, refl, sym, ap, _∙_, subst}
 use mathlib.Core.Bool.{Bool, true, false, cond}
-use mathlib.Core.List.{List, [], _∷_, _++_, map}
+use mathlib.Core.List.{List, _∷_, _++_, map}
 use mathlib.Core.Option.{Option, none, some, Option·none-ne-some, Option·some-injective}
-use lib.ListN.{length, set, drop, length-map, length-set}
-use lib.Seq.{slice}
-use borrow.Author.Tests.{le-leb}
+use lib.ListN.{length-map, length-set}
 use Rattle.lists.specs.Lists.{upTo}
 use Rattle.lists.proofs.Tests.{upTo-is}
-use Rattle.text.specs.Text.{text, behind, parts}
+use Rattle.text.specs.Text.{text, behind}
 use Rattle.text.proofs.Read.{upTo-under, upTo-over}
 use Rattle.records.specs.declared.Numbers.{Numbers}
 use Rattle.records.specs.declared.Resource.{Resource}
@@ -20,17 +18,15 @@ use Rattle.records.specs.Inner.{Fit}
 use Rattle.records.proofs.Table.{resources-made, fit-with}
 use Rattle.rules.specs.Book.{withResources}
 use Rattle.rules.specs.Keeper.{lists, State}
-use Rattle.page.specs.Page.{heldKey, numberKey}
-use Rattle.reader.specs.declared.parts.Numbered.{Numbered}
+use Rattle.page.specs.Page.{numberKey}
 use Rattle.reader.specs.Shapes as shapes
-use Rattle.reader.specs.Shapes.{there, into, numbered}
-use Rattle.reader.specs.Order.{Place, numbering, ended, numberForm, endForm, choice, valueBehind, afterOne}
-use Rattle.reader.specs.Order.{behindLine, firstBad}
-use Rattle.reader.specs.Said.{onBook, withResource, withHeld, withNumbered, withLine, restSaid}
+use Rattle.reader.specs.Shapes.{into, numbered}
+use Rattle.reader.specs.Order.{numbering, numberForm, choice, valueBehind}
+use Rattle.reader.specs.Order.{firstBad}
+use Rattle.reader.specs.Said.{onBook, withResource, withLine, restSaid}
 use Rattle.reader.specs.Inner.{byte, narrowResource, narrowNumbered, numberIn, numberedOf, LineIs, NoLine}
-use Rattle.reader.specs.Walks.{ahead, Onward, Keeps, NumbersOf, NumbersRead}
+use Rattle.reader.specs.Walks.{ahead, Onward, Keeps, NumbersRead}
 use Rattle.reader.proofs.Mapping.{map-set}
-use Rattle.reader.proofs.ScanLaws.{value-behind}
 use Rattle.reader.proofs.LineLaws.{there-into, scan-on}
 
 -- what is allocated so far in a state
@@ -156,7 +152,8 @@ module _ {s : List ℕ} {at line : ℕ} {numbers table : Numbers} {o n : ℕ} (p
           onward = record { within = l .within; some = omega arith; counted = omega (arith, l .beyond, p .onward .counted) };
           fitting = fits-put table (x .number) (byte (x .resource .owner)) (byte (x .resource .lock)) (p .fitting);
           scan = p .scan
-              ∙ scan-on numberIn s o numbering (choice numberForm numbering) _ refl l (sym (there-into narrowNumbered (numbered (l .value)))) n
+              ∙ scan-on numberIn s o numbering (choice numberForm numbering) _ refl l
+              (sym (there-into narrowNumbered (numbered (l .value)))) n
               ∙ ap (λ (y : ℕ). firstBad numbering y (ahead s next)) (let h : suc n ≡ n + 1 = omega arith in h);
           of = λ a k.
               let q = p .of a k in

@@ -3,11 +3,11 @@
 use Prim.Native.Nat.{ℕ, suc, _+_, _<_}
 use native.Mathlib.Omega.{arith}
 use mathlib.Core.Path.{_≡_, refl, sym, ap, ap₂, _∙_}
-use mathlib.Core.Bool.{Bool, true, false}
+use mathlib.Core.Bool.{true}
 use mathlib.Core.List.{List, [], _∷_, _++_}
 use mathlib.Core.Option.{Option, none, some, Option·none-ne-some, Option·some-injective}
-use lib.ListN.{length, drop}
-use Rattle.text.specs.Text.{text, behind, parts}
+use lib.ListN.{drop}
+use Rattle.text.specs.Text.{text, behind}
 use Rattle.records.specs.declared.Program.{Program}
 use Rattle.records.specs.declared.Why.{Why}
 use Rattle.records.specs.declared.Why.the-variants.{Nothing}
@@ -16,10 +16,10 @@ use Rattle.rules.specs.Keeper.{lists, State}
 use Rattle.page.specs.Page.{idKey, nameKey, priorityKey, stateKey, whyKey, dueKey, intervalKey}
 use Rattle.reader.specs.declared.parts.Record.{Record}
 use Rattle.reader.specs.Shapes.{there, otherwise, into, figure, figureOrDash, reasonOf}
-use Rattle.reader.specs.Order.{Place, recording, recordAhead, recordForms, recordsAhead, valueBehind, firstBad}
+use Rattle.reader.specs.Order.{Place, recordAhead, recordForms, recordsAhead, valueBehind, firstBad}
 use Rattle.reader.specs.Said.{valueOf, withRecord, recordsSaid}
-use Rattle.reader.specs.Inner.{LineIs, NoLine, byte, twoBytes, narrowWhy, narrowRecord, reasonIn}
-use Rattle.reader.specs.Walks.{ahead, RecordIs, RecordRead}
+use Rattle.reader.specs.Inner.{LineIs, NoLine, byte, twoBytes, narrowWhy, reasonIn}
+use Rattle.reader.specs.Walks.{ahead, RecordRead}
 use Rattle.reader.proofs.LineLaws.{scan-on, scan-off}
 
 -- a reason in the tables' bytes is there where a reason is; and which it is
@@ -181,14 +181,30 @@ module _ (s : List ℕ) (at : ℕ) where
 
                 -- the record that the code makes of them
                 pub record-read : (r : Record) → r .good ≡ 7 → r .at ≡ g → r .id ≡ id
-                    → r .program ≡ record { used = true; name = nm; priority = twoBytes priority; state = byte state; why = why; due = due; interval = interval }
+                    → r .program ≡ record {
+                      used = true;
+                      name = nm;
+                      priority = twoBytes priority;
+                      state = byte state;
+                      why = why;
+                      due = due;
+                      interval = interval;
+                    }
                     → RecordRead s at r
                 unfolding told
                 record-read r e₁ e₂ e₃ e₄ =
                     record {
                       whole = λ h. record {
                         told = told;
-                        held = e₄ ∙ ap (λ (w : Why). record { used = true; name = nm; priority = twoBytes priority; state = byte state; why = w; due = due; interval = interval })
+                        held = e₄ ∙ ap (λ (w : Why). record {
+                          used = true;
+                          name = nm;
+                          priority = twoBytes priority;
+                          state = byte state;
+                          why = w;
+                          due = due;
+                          interval = interval;
+                        })
                             (reason-is (reasonOf (l5 .value)) why (l5 .shaped));
                         beyond = omega (arith, l1 .beyond, l2 .beyond, l3 .beyond, l4 .beyond, l5 .beyond, l6 .beyond, l7 .beyond, e₂);
                         within = omega (arith, l7 .within, e₂);

@@ -1,19 +1,17 @@
 -- The parts of a page put together: what is read of the whole.
 -- Assumes nothing.
-use Prim.Native.Nat.{ℕ, zero, suc, _+_, _≤_}
+use Prim.Native.Nat.{ℕ, zero, suc, _≤_}
 use native.Mathlib.Omega.{arith}
-use mathlib.Core.Path.{_≡_, refl, sym, ap, ap₂, _∙_, subst}
+use mathlib.Core.Path.{_≡_, refl, sym, ap, _∙_, subst}
 use mathlib.Core.Bool.{Bool, true, false, cond}
 use mathlib.Core.List.{List, [], _∷_, map}
 use lib.ListN.{length, drop, replicate, drop-of-length-le}
 use Rattle.limits.specs.Limits.{mostPrograms}
 use Rattle.text.specs.Text.{parts}
-use Rattle.records.specs.declared.Program.{Program}
 use Rattle.records.specs.declared.Numbers as records
 use Rattle.records.specs.Records.{unused}
 use Rattle.tracks.specs.declared.Tracks.{Tracks}
 use Rattle.tracks.specs.Tracks as tracks
-use Rattle.chains.specs.Links.{slots, linksOf}
 use Rattle.rules.specs.Book.{Book, withClock, withHolders, withResources, freshBook}
 use Rattle.rules.specs.Rules.{sizes}
 use Rattle.rules.specs.Keeper.{lists, State}
@@ -30,8 +28,8 @@ use Rattle.reader.specs.Order.{heading, headForms, firstBad}
 use Rattle.reader.specs.Said.{onBook, started, said}
 use Rattle.reader.specs.Reading.{notRead, judged, reading}
 use Rattle.reader.specs.Inner.{byte, narrowRecord}
-use Rattle.reader.specs.Walks.{ahead, Onward, withPrograms, withChains, layThese, Holds, Keeps, HeldOf, NumbersOf, narrow}
-use Rattle.reader.specs.Walks.{HeadIs, HeadRead, RecordsAre, RecordsRead, ChainsAre, ChainsRead, HeldRead, NumbersRead, EndRead}
+use Rattle.reader.specs.Walks.{ahead, Onward, withPrograms, withChains, Holds, Keeps, narrow}
+use Rattle.reader.specs.Walks.{HeadIs, RecordsAre, RecordsRead, ChainsAre, ChainsRead, HeldRead, NumbersRead, EndRead}
 use Rattle.reader.proofs.Narrowing.{narrow-judged}
 use Rattle.reader.proofs.Assembling.{links-these, fresh-holds, fresh-keeps, assembled}
 

@@ -2,11 +2,10 @@
 -- Assumes nothing.
 use Prim.Native.Nat.{ℕ, _≤_}
 use native.Mathlib.Omega.{arith}
-use mathlib.Core.Path.{_≡_, refl, sym, ap, ap₂, _∙_}
-use mathlib.Core.Bool.{Bool, true, false}
-use mathlib.Core.List.{List}
+use mathlib.Core.Path.{_≡_, sym, ap, _∙_}
+use mathlib.Core.Bool.{true}
 use lib.ListN.{length, take, drop, replicate, length-map, length-replicate}
-use lib.Seq.{length-take-le, take-length}
+use lib.Seq.{length-take-le}
 use borrow.Author.Tests.{not-true, not-false}
 use Rattle.limits.specs.Limits.{pageRoom}
 use Rattle.lists.specs.Lists.{alike}
@@ -22,12 +21,6 @@ use Rattle.reader.proofs.JudgeLaws.{unsound, other-bytes, these-bytes}
 use borrow.Author.Needs.{needs}
 use Rattle.reader.proofs.judge.Statement.{statement}
 use Rattle.reader.proofs.judge.Tie as tie
-use Rattle.reader.proofs.judge.Reads as reads
-use Rattle.reader.proofs.judge.Lts as lts
-use Rattle.page.proofs.put_page.Reads as put-page-reads
-use Rattle.reader.proofs.not_read.Reads as not-read-reads
-use Rattle.tables.proofs.Tables.is_sound.Reads as is-sound-reads
-use Rattle.text.proofs.rest_is.Reads as rest-is-reads
 
 arrays : (s : tie.Start) → Arrays (s .args .tables)
 arrays s = record {

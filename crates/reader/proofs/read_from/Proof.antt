@@ -11,18 +11,6 @@ use Rattle.reader.proofs.Assembling.{fresh-tracks-fit, fresh-numbers-fi
 use Rattle.reader.proofs.WholePage as laws
 use Rattle.reader.proofs.read_from.Statement.{statement}
 use Rattle.reader.proofs.read_from.Tie as tie
-use Rattle.reader.proofs.read_from.Reads as reads
-use Rattle.reader.proofs.read_from.Lts as lts
-use Rattle.clock.proofs.Clock.from_ticks.Reads as from-ticks-reads
-use Rattle.reader.proofs.judge.Reads as judge-reads
-use Rattle.reader.proofs.not_read.Reads as not-read-reads
-use Rattle.reader.proofs.parts.read_chains.Reads as read-chains-reads
-use Rattle.reader.proofs.parts.read_end.Reads as read-end-reads
-use Rattle.reader.proofs.parts.read_head.Reads as read-head-reads
-use Rattle.reader.proofs.parts.read_held.Reads as read-held-reads
-use Rattle.reader.proofs.parts.read_numbers.Reads as read-numbers-reads
-use Rattle.reader.proofs.parts.read_records.Reads as read-records-reads
-use Rattle.tables.proofs.Tables.fresh.Reads as fresh-reads
 
 -- the parts that were read, and where the reading began
 abbrev start-2 : tie.Else2 → tie.Start

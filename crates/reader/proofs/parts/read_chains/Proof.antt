@@ -111,7 +111,12 @@ add-o c =
 add-n : tie.Need-add-n Inv-loop μ-loop
 add-n c =
     let v = found (c .before .before .before .before .before) in
-    omega (arith, v .high, v .beyond, c .before .before .before .before .before .before .before .before .before .before .before .loop .inv .0 .onward .counted)
+    omega (
+      arith,
+      v .high,
+      v .beyond,
+      c .before .before .before .before .before .before .before .before .before .before .before .loop .inv .0 .onward .counted,
+    )
 
 -- src/parts.rt:235:9
 add-i : tie.Need-add-i Inv-loop μ-loop

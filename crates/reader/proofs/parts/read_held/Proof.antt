@@ -1,6 +1,6 @@
 -- `read_held` reads the tracks that are held, as many as there are. What is read so far stands in the places of a table.
 -- Assumes nothing.
-use Prim.Native.Nat.{ℕ, suc, _+_, _-_}
+use Prim.Native.Nat.{ℕ, suc, _-_}
 use native.Mathlib.Omega.{arith}
 use mathlib.Core.Path.{_≡_, refl, sym, ap, _∙_, subst}
 use mathlib.Core.Logic.{inl, inr}
@@ -78,7 +78,8 @@ loop-again c = one-more (turn (c .before) .loop .inv) (found (c .before)) _ (put
 returns-2 : tie.Need-returns-2 Inv-loop μ-loop
 returns-2 c =
     let l = c .before .before in
-    all-held (start l .args .tracks) (l .before .places .ensures) (l .loop .inv) (past-end heldIn _ _ _ (omega arith)) (c .from-places2 .ensures)
+    all-held (start l .args .tracks) (l .before .places .ensures) (l .loop .inv) (past-end heldIn _ _ _ (omega arith))
+    (c .from-places2 .ensures)
 
 pub read-held-spec : {M : Type 1} → statement M
 read-held-spec =

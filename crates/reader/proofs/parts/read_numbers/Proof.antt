@@ -1,6 +1,6 @@
 -- `read_numbers` reads the numbers that are allocated, as many as there are.
 -- Assumes nothing.
-use Prim.Native.Nat.{ℕ, _-_}
+use Prim.Native.Nat.{_-_}
 use native.Mathlib.Omega.{arith}
 use mathlib.Core.Path.{_≡_, _∙_, subst}
 use mathlib.Core.Logic.{inl, inr}
@@ -27,7 +27,8 @@ turn c = c .before .before .before .before .before
 
 found : (c : tie.After-known-told Inv-loop μ-loop)
     → let g = c .before .r .given .0 in let l = turn c in
-    LineIs numberIn (l .before .before .args .s .now) (l .loop .o) (text numberKey) (numberedOf (g .0) (g .1 .0) (g .1 .1 .0)) (g .1 .1 .1 .0)
+    LineIs numberIn (l .before .before .args .s .now) (l .loop .o) (text numberKey)
+    (numberedOf (g .0) (g .1 .0) (g .1 .1 .0)) (g .1 .1 .1 .0)
 found c = subst (ResourceAt _ _) (c .before .r .given .1) (c .before .before .before .number-at .ensures)
 
 -- the table with the number that was read

@@ -1,8 +1,9 @@
 -- `read_record` reads the seven lines of a record.
 -- Assumes nothing.
-use mathlib.Core.Path.{_≡_, refl, subst, ap₂}
+use Prim.Native.Nat.{ℕ}
+use mathlib.Core.Path.{refl, subst}
 use mathlib.Core.Bool.{true}
-use mathlib.Core.List.{[], _∷_}
+use mathlib.Core.List.{List, [], _∷_}
 use borrow.Author.Needs.{needs}
 use Rattle.text.specs.Text.{text}
 use Rattle.records.specs.Names.{nameOf}
@@ -13,58 +14,83 @@ use Rattle.reader.proofs.RecordLaws as laws
 use Rattle.reader.proofs.parts.read_record.Statement.{statement}
 use Rattle.reader.proofs.parts.read_record.Tie as tie
 
+-- the line before one, and where the reading began
+abbrev up-2 : tie.After-n0 → tie.After-id
+up-2 c = c .before .before .before .before .before
+
+abbrev up-3 : tie.After-priority → tie.After-n0
+up-3 c = c .before .before .before .before .before
+
+abbrev up-4 : tie.After-state → tie.After-priority
+up-4 c = c .before .before .before .before .before
+
+abbrev up-5 : tie.After-why → tie.After-state
+up-5 c = c .before .before .before .before .before
+
+abbrev up-6 : tie.After-due → tie.After-why
+up-6 c = c .before .before .before .before .before
+
+abbrev up-7 : tie.After-interval → tie.After-due
+up-7 c = c .before .before .before .before .before
+
 abbrev start-1 : tie.After-id → tie.Start
 start-1 c = c .before .before .before .before .before
 
 abbrev start-2 : tie.After-n0 → tie.Start
-start-2 c = start-1 (c .before .before .before .before .before)
+start-2 c = start-1 (up-2 c)
 
 abbrev start-3 : tie.After-priority → tie.Start
-start-3 c = start-2 (c .before .before .before .before .before)
+start-3 c = start-2 (up-3 c)
 
 abbrev start-4 : tie.After-state → tie.Start
-start-4 c = start-3 (c .before .before .before .before .before)
+start-4 c = start-3 (up-4 c)
 
 abbrev start-5 : tie.After-why → tie.Start
-start-5 c = start-4 (c .before .before .before .before .before)
+start-5 c = start-4 (up-5 c)
 
 abbrev start-6 : tie.After-due → tie.Start
-start-6 c = start-5 (c .before .before .before .before .before)
+start-6 c = start-5 (up-6 c)
 
 abbrev start-7 : tie.After-interval → tie.Start
-start-7 c = start-6 (c .before .before .before .before .before)
+start-7 c = start-6 (up-7 c)
+
+-- the bytes of the name
+abbrev letters : tie.After-n0 → List ℕ
+letters c =
+    let n = c .n0 .given .0 in
+    n .0 ∷ n .1 .0 ∷ n .1 .1 .0 ∷ n .1 .1 .1 .0 ∷ n .1 .1 .1 .1 .0 ∷ []
 
 line-1 : (c : tie.After-id)
     → LineIs figure (start-1 c .args .s .now) (start-1 c .args .at) (text idKey) (c .id .given .0 .0) (c .id .given .0 .1 .0)
 line-1 c = subst (FigureAt figure _ _ _) (c .id .given .1) (c .before .before .figure-at .ensures)
 
 line-2 : (c : tie.After-n0)
-    → LineIs nameOf (start-2 c .args .s .now) (c .before .before .before .before .before .id .given .0 .1 .0) (text nameKey)
-    (c .n0 .given .0 .0 ∷ c .n0 .given .0 .1 .0 ∷ c .n0 .given .0 .1 .1 .0 ∷ c .n0 .given .0 .1 .1 .1 .0 ∷ c .n0 .given .0 .1 .1 .1 .1 .0 ∷ []) (c .n0 .given .0 .1 .1 .1 .1 .1 .0)
+    → LineIs nameOf (start-2 c .args .s .now) (up-2 c .id .given .0 .1 .0) (text nameKey)
+    (letters c) (c .n0 .given .0 .1 .1 .1 .1 .1 .0)
 line-2 c = subst (NameAt _ _ _) (c .n0 .given .1) (c .before .before .name-at .ensures)
 
 line-3 : (c : tie.After-priority)
-    → LineIs figure (start-3 c .args .s .now) (c .before .before .before .before .before .n0 .given .0 .1 .1 .1 .1 .1 .0)
+    → LineIs figure (start-3 c .args .s .now) (up-3 c .n0 .given .0 .1 .1 .1 .1 .1 .0)
     (text priorityKey) (c .priority .given .0 .0) (c .priority .given .0 .1 .0)
 line-3 c = subst (FigureAt figure _ _ _) (c .priority .given .1) (c .before .before .figure-at2 .ensures)
 
 line-4 : (c : tie.After-state)
-    → LineIs figure (start-4 c .args .s .now) (c .before .before .before .before .before .priority .given .0 .1 .0) (text stateKey)
+    → LineIs figure (start-4 c .args .s .now) (up-4 c .priority .given .0 .1 .0) (text stateKey)
     (c .state .given .0 .0) (c .state .given .0 .1 .0)
 line-4 c = subst (FigureAt figure _ _ _) (c .state .given .1) (c .before .before .figure-at3 .ensures)
 
 line-5 : (c : tie.After-why)
-    → LineIs reasonIn (start-5 c .args .s .now) (c .before .before .before .before .before .state .given .0 .1 .0) (text whyKey)
+    → LineIs reasonIn (start-5 c .args .s .now) (up-5 c .state .given .0 .1 .0) (text whyKey)
     (c .why .given .0 .0) (c .why .given .0 .1 .0)
 line-5 c = subst (ReasonAt _ _ _) (c .why .given .1) (c .before .before .reason-at .ensures)
 
 line-6 : (c : tie.After-due)
-    → LineIs figureOrDash (start-6 c .args .s .now) (c .before .before .before .before .before .why .given .0 .1 .0) (text dueKey)
+    → LineIs figureOrDash (start-6 c .args .s .now) (up-6 c .why .given .0 .1 .0) (text dueKey)
     (c .due .given .0 .0) (c .due .given .0 .1 .0)
 line-6 c = subst (FigureAt figureOrDash _ _ _) (c .due .given .1) (c .before .before .dashed-at .ensures)
 
 line-7 : (c : tie.After-interval)
-    → LineIs figureOrDash (start-7 c .args .s .now) (c .before .before .before .before .before .due .given .0 .1 .0) (text intervalKey)
+    → LineIs figureOrDash (start-7 c .args .s .now) (up-7 c .due .given .0 .1 .0) (text intervalKey)
     (c .interval .given .0 .0) (c .interval .given .0 .1 .0)
 line-7 c = subst (FigureAt figureOrDash _ _ _) (c .interval .given .1) (c .before .before .dashed-at2 .ensures)
 
@@ -81,56 +107,72 @@ returns-2 c =
 
 returns-3 : tie.Need-returns-3
 returns-3 c =
-    let l = c .before .before .before .before .before .before in
-    laws.stop-3 _ _ (line-1 (l .before .before .before .before .before)) (line-2 l)
+    let c2 = c .before .before .before .before .before .before in
+    let c1 = up-2 c2 in
+    laws.stop-3 _ _ (line-1 c1) (line-2 c2)
     (subst (FigureAt figure _ _ _) (c .before .enum-told3 .given .1) (c .before .before .before .figure-at2 .ensures)) _
     (c .stopped3 .ensures)
 
 returns-4 : tie.Need-returns-4
 returns-4 c =
-    let l = c .before .before .before .before .before .before in
-    laws.stop-4 _ _ (line-1 (l .before .before .before .before .before .before .before .before .before .before))
-    (line-2 (l .before .before .before .before .before)) (line-3 l)
+    let c3 = c .before .before .before .before .before .before in
+    let c2 = up-3 c3 in
+    let c1 = up-2 c2 in
+    laws.stop-4 _ _ (line-1 c1) (line-2 c2) (line-3 c3)
     (subst (FigureAt figure _ _ _) (c .before .enum-told4 .given .1) (c .before .before .before .figure-at3 .ensures)) _
     (c .stopped4 .ensures)
 
 returns-5 : tie.Need-returns-5
 returns-5 c =
-    let l = c .before .before .before .before .before .before in
-    laws.stop-5 _ _ (line-1
-    (l .before .before .before .before .before .before .before .before .before .before .before .before .before .before .before))
-    (line-2 (l .before .before .before .before .before .before .before .before .before .before))
-    (line-3 (l .before .before .before .before .before)) (line-4 l)
+    let c4 = c .before .before .before .before .before .before in
+    let c3 = up-4 c4 in
+    let c2 = up-3 c3 in
+    let c1 = up-2 c2 in
+    laws.stop-5 _ _ (line-1 c1) (line-2 c2) (line-3 c3) (line-4 c4)
     (subst (ReasonAt _ _ _) (c .before .enum-told5 .given .1) (c .before .before .before .reason-at .ensures)) _
     (c .stopped5 .ensures)
 
 returns-6 : tie.Need-returns-6
 returns-6 c =
-    let l = c .before .before .before .before .before .before in
-    laws.stop-6 _ _ (line-1
-    (l .before .before .before .before .before .before .before .before .before .before .before .before .before .before .before .before .before .before .before .before)) (line-2 (l .before .before .before .before .before .before .before .before .before .before .before .before .before .before .before)) (line-3 (l .before .before .before .before .before .before .before .before .before .before)) (line-4 (l .before .before .before .before .before)) (line-5 l) (subst (FigureAt figureOrDash _ _ _) (c .before .enum-told6 .given .1) (c .before .before .before .dashed-at .ensures)) _
+    let c5 = c .before .before .before .before .before .before in
+    let c4 = up-5 c5 in
+    let c3 = up-4 c4 in
+    let c2 = up-3 c3 in
+    let c1 = up-2 c2 in
+    laws.stop-6 _ _ (line-1 c1) (line-2 c2) (line-3 c3) (line-4 c4) (line-5 c5)
+    (subst (FigureAt figureOrDash _ _ _) (c .before .enum-told6 .given .1) (c .before .before .before .dashed-at .ensures)) _
     (c .stopped6 .ensures)
 
 returns-7 : tie.Need-returns-7
 returns-7 c =
-    let l = c .before .before .before .before .before .before in
-    laws.stop-7 _ _ (line-1
-    (l .before .before .before .before .before .before .before .before .before .before .before .before .before .before .before .before .before .before .before .before .before .before .before .before .before)) (line-2 (l .before .before .before .before .before .before .before .before .before .before .before .before .before .before .before .before .before .before .before .before)) (line-3 (l .before .before .before .before .before .before .before .before .before .before .before .before .before .before .before)) (line-4 (l .before .before .before .before .before .before .before .before .before .before)) (line-5 (l .before .before .before .before .before)) (line-6 l) (subst (FigureAt figureOrDash _ _ _) (c .before .enum-told7 .given .1) (c .before .before .before .dashed-at2 .ensures)) _
+    let c6 = c .before .before .before .before .before .before in
+    let c5 = up-6 c6 in
+    let c4 = up-5 c5 in
+    let c3 = up-4 c4 in
+    let c2 = up-3 c3 in
+    let c1 = up-2 c2 in
+    laws.stop-7 _ _ (line-1 c1) (line-2 c2) (line-3 c3) (line-4 c4) (line-5 c5) (line-6 c6)
+    (subst (FigureAt figureOrDash _ _ _) (c .before .enum-told7 .given .1) (c .before .before .before .dashed-at2 .ensures)) _
     (c .stopped7 .ensures)
 
 returns-8 : tie.Need-returns-8
 returns-8 c =
-    let l = c .before .before .before in
-    laws.record-read _ _
-    (line-1 (l .before .before .before .before .before .before .before .before .before .before .before .before .before .before .before .before .before .before .before .before .before .before .before .before .before .before .before .before .before .before)) (line-2 (l .before .before .before .before .before .before .before .before .before .before .before .before .before .before .before .before .before .before .before .before .before .before .before .before .before)) (line-3 (l .before .before .before .before .before .before .before .before .before .before .before .before .before .before .before .before .before .before .before .before)) (line-4 (l .before .before .before .before .before .before .before .before .before .before .before .before .before .before .before)) (line-5 (l .before .before .before .before .before .before .before .before .before .before)) (line-6 (l .before .before .before .before .before)) (line-7 l) _ refl refl refl
+    let c7 = c .before .before .before in
+    let c6 = up-7 c7 in
+    let c5 = up-6 c6 in
+    let c4 = up-5 c5 in
+    let c3 = up-4 c4 in
+    let c2 = up-3 c3 in
+    let c1 = up-2 c2 in
+    laws.record-read _ _ (line-1 c1) (line-2 c2) (line-3 c3) (line-4 c4) (line-5 c5) (line-6 c6) (line-7 c7) _ refl refl refl
     (λ i. record {
       used = true;
-      name = (l .before .before .before .before .before .before .before .before .before .before .before .before .before .before .before .before .before .before .before .before .before .before .before .before .before .n0 .given .0 .0 ∷ l .before .before .before .before .before .before .before .before .before .before .before .before .before .before .before .before .before .before .before .before .before .before .before .before .before .n0 .given .0 .1 .0 ∷ l .before .before .before .before .before .before .before .before .before .before .before .before .before .before .before .before .before .before .before .before .before .before .before .before .before .n0 .given .0 .1 .1 .0 ∷ l .before .before .before .before .before .before .before .before .before .before .before .before .before .before .before .before .before .before .before .before .before .before .before .before .before .n0 .given .0 .1 .1 .1 .0 ∷ l .before .before .before .before .before .before .before .before .before .before .before .before .before .before .before .before .before .before .before .before .before .before .before .before .before .n0 .given .0 .1 .1 .1 .1 .0 ∷ []);
+      name = letters c2;
       priority = c .before .two-bytes .ensures i;
       state = c .byte .ensures i;
-      why = l .before .before .before .before .before .before .before .before .before .before .why .given .0 .0;
-      due = l .before .before .before .before .before .due .given .0 .0;
-      interval = l .interval .given .0 .0;
+      why = c5 .why .given .0 .0;
+      due = c6 .due .given .0 .0;
+      interval = c7 .interval .given .0 .0;
     })
 
 pub read-record-spec : {M : Type 1} → statement M

@@ -78,7 +78,8 @@ returns-6 c =
     let l = w .before .before in
     let u = sonless l in
     let t = trackless u in
-    why-none (no-dash (dashless t)) (no-tracks t) (no-son u) (no-lock l) (subst (WordTo _ _ _ _) (c .enum-told5 .given .1) (w .word-to2 .ensures))
+    why-none (no-dash (dashless t)) (no-tracks t) (no-son u) (no-lock l)
+    (subst (WordTo _ _ _ _) (c .enum-told5 .given .1) (w .word-to2 .ensures))
 
 pub reason-to-spec : {M : Type 1} → statement M
 reason-to-spec =
