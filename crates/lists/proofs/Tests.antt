@@ -26,6 +26,10 @@ both false b e = false-true e
 pub and : {a b : Bool} → a ≡ true → b ≡ true → (a && b) ≡ true
 and h k = ap₂ _&&_ h k
 
+pub not-both : (a b : Bool) → b ≡ false → (a && b) ≡ false
+not-both true b e = e
+not-both false b e = refl
+
 -- the one unless the other
 pub unless : (a b : Bool) → (not a || b) ≡ true → a ≡ true → b ≡ true
 unless true b e h = e

@@ -9,7 +9,7 @@ use mathlib.Core.Option.{Option, none, some, Option·none-ne-some, Option·some-
 use lib.ListN.{set, drop, length-map}
 use lib.Dec.{leb, ltb}
 use borrow.Author.Tests.{le-leb, lt-leb, lt-ltb, le-ltb}
-use Rattle.lists.proofs.Tests.{and}
+use Rattle.lists.proofs.Tests.{and, not-both}
 use Rattle.text.specs.Text.{text}
 use Rattle.tracks.specs.declared.Tracks.{Tracks}
 use Rattle.tracks.specs.declared.held.Run.{Run}
@@ -46,11 +46,6 @@ pub none-yet : (s : List ℕ) (at line : ℕ) (t : Tracks) → Onward s at line 
 none-yet s at line t h f =
     record { onward = h; fitting = f; scan = refl; of = λ a k. record { told = a .book .holders; held = k; says = refl } }
 
--- a test that fails with its second part
-fails : (a b : Bool) → b ≡ false → (a && b) ≡ false
-fails true b e = e
-fails false b e = refl
-
 -- the table with a run put into it, where it has these tracks
 abbrev pub within : Tracks → ℕ → ℕ → Bool
 within t i j = leb i j && ltb j (t .count)
@@ -68,7 +63,7 @@ put-in t i j h n l u e =
 pub put-over : (t : Tracks) (i j h : ℕ) → t .count ≤ j → t ≡ putRun t i j h
 put-over t i j h u =
     sym (ap (λ (b : Bool). cond b (tableOf (t .count) (t .system) (filled i (suc j - i) h (holders t))) t)
-    (fails (leb i j) (ltb j (t .count)) (le-ltb j (t .count) u)))
+    (not-both (leb i j) (ltb j (t .count)) (le-ltb j (t .count) u)))
 
 pub put-back : (t : Tracks) (i j h : ℕ) → j < i → t ≡ putRun t i j h
 put-back t i j h u =

@@ -12,7 +12,7 @@ use lib.ListN.{length}
 use lib.Dec.{eqb}
 use borrow.Author.Tests.{eq-eqb, ne-eqb}
 use Rattle.lists.specs.Lists.{hit, keep, from, join}
-use Rattle.lists.proofs.Tests.{and}
+use Rattle.lists.proofs.Tests.{and, not-both}
 use Rattle.clock.specs.Clock.{ceiling, farthest}
 use Rattle.records.specs.declared.Program.{Program}
 use Rattle.records.specs.declared.Why.the-variants.{Nothing}
@@ -28,10 +28,6 @@ use Rattle.tables.specs.Inner.{Orderly, Ready, Played, Counts}
 use Rattle.tables.proofs.Agree.{sound-clauses}
 use Rattle.tables.proofs.Serving.{play-append}
 use Rattle.tables.proofs.Endings.{played-as, played-on}
-
-second-fails : (a : Bool) {b : Bool} → b ≡ false → (a && b) ≡ false
-second-fails true e = e
-second-fails false e = refl
 
 -- a program at its tick: not due; due, and not dormant; due, and dormant
 module _ (t : Tables) (p : ℕ) (r : Program) (now : ℕ) (O : Orderly t) where
@@ -96,7 +92,7 @@ pub starts-later : (r : Program) (now : ℕ) → r .due ≢ now → 0 ≡ hit (e
 starts-later r now n = sym (ap (λ (c : Bool). hit (c && eqb (r .state) 0)) (ne-eqb (r .due) now n))
 
 pub starts-busy : (r : Program) (now : ℕ) → r .state ≢ 0 → 0 ≡ hit (eqb (r .due) now && eqb (r .state) 0)
-starts-busy r now n = sym (ap hit (second-fails (eqb (r .due) now) (ne-eqb (r .state) 0 n)))
+starts-busy r now n = sym (ap hit (not-both (eqb (r .due) now) (eqb (r .state) 0) (ne-eqb (r .state) 0 n)))
 
 pub starts-now : (r : Program) (now : ℕ) → r .due ≡ now → r .state ≡ 0 → 1 ≡ hit (eqb (r .due) now && eqb (r .state) 0)
 starts-now r now d e = sym (ap hit (and (eq-eqb (r .due) now d) (eq-eqb (r .state) 0 e)))

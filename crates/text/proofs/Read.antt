@@ -11,21 +11,16 @@ use lib.ListN.{length, getD, List·getD-append}
 use lib.Seq.{slice, slice-empty}
 use borrow.Author.Tests.{ltb-true, ltb-false, lt-leb, eqb-false, eq-eqb, ne-eqb}
 use Rattle.lists.specs.Lists.{upTo}
-use Rattle.lists.proofs.Tests.{and, or, upTo-is}
+use Rattle.lists.proofs.Tests.{and, or, not-both, upTo-is}
 use Rattle.text.specs.Text.{digits, decimal, horner, numberOf}
 use Rattle.text.proofs.Laws.{ten, digits-small, digits-step, digits-pos, decimal-small, decimal-length, decimal-pos, ten-mono}
 use Rattle.text.proofs.Fields.{slice-next, slice-split}
-
--- a test that fails with its second part
-fails : (a b : Bool) → b ≡ false → (a && b) ≡ false
-fails true b e = e
-fails false b e = refl
 
 pub upTo-under : (l h n : ℕ) → n < l → upTo l h n ≡ false
 upTo-under l h n k = ap (λ (t : Bool). t && leb n h) (lt-leb l n k)
 
 pub upTo-over : (l h n : ℕ) → h < n → upTo l h n ≡ false
-upTo-over l h n k = fails (leb l n) (leb n h) (lt-leb n h k)
+upTo-over l h n k = not-both (leb l n) (leb n h) (lt-leb n h k)
 
 -- the next byte
 abbrev turn : ℕ → ℕ → List ℕ → Bool → Option ℕ
@@ -81,7 +76,7 @@ numberOf-long most s h =
 
 pub numberOf-zero : (most : ℕ) (s : List ℕ) → 1 < length s → getD s 0 0 ≡ 48 → numberOf most s ≡ none
 numberOf-zero most s h e =
-    answer most s false (fails (upTo 1 most (length s)) (eqb (length s) 1 || not (eqb (getD s 0 0) 48))
+    answer most s false (not-both (upTo 1 most (length s)) (eqb (length s) 1 || not (eqb (getD s 0 0) 48))
     (ap₂ (λ (t u : Bool). t || not u) (ne-eqb (length s) 1 (omega arith)) (eq-eqb (getD s 0 0) 48 e)))
 
 -- a text of 1 to `most` bytes that is one byte long or does not begin with 0
