@@ -2,25 +2,24 @@
 -- Assumes nothing.
 use Prim.Native.Nat.{ℕ, zero, suc, _+_, _≤_, _<_}
 use native.Mathlib.Omega.{arith}
-use mathlib.Core.Path.{_≡_, refl, sym, ap, ap₂, _∙_, subst}
-use mathlib.Core.Bool.{Bool, true, false}
+use mathlib.Core.Path.{_≡_, refl, sym, ap, _∙_, subst}
+use mathlib.Core.Bool.{true}
 use mathlib.Core.List.{List, [], _∷_, _++_, map, append-assoc}
 use mathlib.Core.Option.{Option, none, some, Option·none-ne-some, Option·some-injective}
-use lib.ListN.{length, getD, drop, replicate}
+use lib.ListN.{getD, drop, replicate}
 use lib.Seq.{slice}
-use Rattle.text.specs.Text.{parts}
 use Rattle.chains.specs.Links.{slots, layChain}
 use Rattle.rules.specs.Keeper.{lists, State}
 use Rattle.page.specs.Page.{chained, keyOfChain}
 use Rattle.reader.specs.declared.values.Chain.{Chain}
 use Rattle.reader.specs.declared.parts.Chains.{Chains}
 use Rattle.reader.specs.Shapes.{there, otherwise, into, listed}
-use Rattle.reader.specs.Order.{Form, Place, chaining, chainsAhead, chainForms, holding, valueBehind, firstBad}
+use Rattle.reader.specs.Order.{Form, chaining, chainsAhead, chainForms, firstBad}
 use Rattle.reader.specs.Said.{withChain, restSaid, chainsSaid}
-use Rattle.reader.specs.Inner.{byte, ChainRead, LineIs, NoLine, ValueIs}
-use Rattle.reader.specs.Walks.{ahead, Onward, withChains, layThese, ChainsAre, ChainsRead}
+use Rattle.reader.specs.Inner.{byte, ChainRead, NoLine, ValueIs}
+use Rattle.reader.specs.Walks.{ahead, Onward, withChains, layThese, ChainsRead}
 use Rattle.reader.proofs.ScanLaws.{value-behind}
-use Rattle.reader.proofs.LineLaws.{line-shaped, line-unshaped, line-unkeyed, scan-on, scan-off}
+use Rattle.reader.proofs.LineLaws.{line-shaped, scan-on, scan-off}
 
 -- the kind of line of a state's chain
 abbrev chainForm : ℕ → Form

@@ -1,22 +1,22 @@
 -- The head of a page, line by line: the scan over its lines and what they say.
 -- Assumes nothing.
-use Prim.Native.Nat.{ℕ, suc, _+_, _≤_}
+use Prim.Native.Nat.{ℕ, _+_, _≤_}
 use native.Mathlib.Omega.{arith}
 use mathlib.Core.Path.{_≡_, refl, sym, ap, ap₂, _∙_}
 use mathlib.Core.Bool.{Bool, true, false, cond}
 use mathlib.Core.List.{List, [], _∷_, _++_}
 use mathlib.Core.Option.{Option, none, some}
-use lib.ListN.{length, drop}
+use lib.ListN.{drop}
 use Rattle.lists.specs.Lists.{alike}
-use Rattle.text.specs.Text.{text, behind, parts}
+use Rattle.text.specs.Text.{text, behind}
 use Rattle.rules.specs.Keeper.{lists, State}
 use Rattle.page.specs.Page.{firstWord, pageKey, clockKey, tracksKey, systemKey, numbersKey, programsKey}
 use Rattle.reader.specs.declared.parts.Head.{Head}
 use Rattle.reader.specs.Shapes.{there, otherwise, figure}
-use Rattle.reader.specs.Order.{Form, Place, heading, headForms, recordsAhead, mayCome, choice, valueBehind, firstBad}
+use Rattle.reader.specs.Order.{Place, heading, headForms, recordsAhead, valueBehind, firstBad}
 use Rattle.reader.specs.Said.{valueOf, started, recordsSaid, said}
 use Rattle.reader.specs.Inner.{LineIs, NoLine, wordIs}
-use Rattle.reader.specs.Walks.{ahead, HeadIs, HeadRead}
+use Rattle.reader.specs.Walks.{ahead, HeadRead}
 use Rattle.reader.proofs.LineLaws.{scan-on, scan-off}
 
 -- whether a value is the word is what its shape says

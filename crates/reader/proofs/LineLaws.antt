@@ -1,71 +1,19 @@
 -- Laws of the line at a place: its key, its value, and the scan over it.
 -- Assumes nothing.
-use Prim.Native.Nat.{ℕ, suc, _+_, _<_, _≤_}
+use Prim.Native.Nat.{ℕ, suc, _+_, _≤_}
 use native.Mathlib.Omega.{arith}
 use mathlib.Core.Path.{_≡_, refl, sym, ap, _∙_, subst}
-use mathlib.Core.Logic.{_≢_}
 use mathlib.Core.Bool.{Bool, true, false, cond}
-use mathlib.Core.List.{List, [], _∷_, _++_, append-assoc}
-use mathlib.Core.Option.{Option, none, some, Option·none-ne-some, Option·some-injective}
-use lib.ListN.{length, getD, drop, drop-of-length-le}
+use mathlib.Core.List.{List, [], _∷_, _++_}
+use mathlib.Core.Option.{Option, none, some, Option·none-ne-some}
+use lib.ListN.{length, drop, drop-of-length-le}
 use lib.Seq.{slice}
-use Rattle.text.specs.Text.{behind, parts}
-use Rattle.text.specs.Inner.{PartEnd, BehindAt}
-use Rattle.text.proofs.Fields.{slice-next, slice-none, parts-cut}
-use Rattle.text.proofs.Words.{behind-append, behind-exact}
+use Rattle.text.specs.Text.{parts}
+use Rattle.text.proofs.Fields.{parts-cut}
 use Rattle.reader.specs.Shapes.{there, into}
 use Rattle.reader.specs.Order.{Place, Choice, valueBehind, mayCome, afterKind, afterOne, behindLine, behindAll, firstBad}
 use Rattle.reader.specs.Inner.{LineIs, NoLine, unended, keyless, shapeless, ValueIs}
 use Rattle.reader.proofs.ScanLaws.{value-behind, pass}
-
--- where a longer word stands in front, so does its beginning
-no-longer : (w x s : List ℕ) → ((v : List ℕ) → behind w s ≡ some (x ++ v) → ⊥) → behind (w ++ x) s ≡ none
-no-longer w x s h = go (behind (w ++ x) s) refl
-  where
-    go : (o : Option (List ℕ)) → behind (w ++ x) s ≡ o → behind (w ++ x) s ≡ none
-    go none e = e
-    go (some v) e =
-        let t : s ≡ w ++ (x ++ v) = behind-exact (w ++ x) s v e ∙ append-assoc w x v in
-        absurd (h v (ap (behind w) t ∙ behind-append w (x ++ v)))
-
--- a line that does not begin with the key; or has no `=` behind it
-pub no-key : (key l : List ℕ) → behind key l ≡ none → valueBehind key l ≡ none
-unfolding valueBehind
-no-key key l e = no-longer key (61 ∷ []) l (λ v f. Option·none-ne-some _ (sym e ∙ f))
-
-pub no-equals : (key l r : List ℕ) → behind key l ≡ some r → ((v : List ℕ) → r ≡ 61 ∷ v → ⊥) → valueBehind key l ≡ none
-unfolding valueBehind
-no-equals key l r e h = no-longer key (61 ∷ []) l (λ v f. h v (Option·some-injective _ _ (sym e ∙ f)))
-
--- the value of a line whose key and `=` were found
-pub value-is : (s key : List ℕ) (at e i : ℕ) → PartEnd 10 s at e → e < length s → BehindAt key s at e i → i < e → getD s i 0 ≡ 61
-    → ValueIs s at key (i + 1) e
-value-is s key at e i p h b l c =
-    let d : slice i e s ≡ 61 ∷ slice (i + 1) e s = slice-next s i e l (omega arith) ∙ ap (λ (x : ℕ). x ∷ slice (i + 1) e s) c in
-    record {
-      low = omega arith;
-      high = h;
-      beyond = omega (arith, b .place);
-      cut = p .more h
-          ∙ ap (λ (x : List ℕ). x ∷ parts 10 (drop (e + 1) s))
-          (behind-exact key (slice at e s) (slice i e s) (b .rest) ∙ ap (λ (x : List ℕ). key ++ x) d);
-    }
-
--- and of one that has another key, or ends behind it, or goes on otherwise
-module _ (s key : List ℕ) (at e : ℕ) (p : PartEnd 10 s at e) (h : e < length s) where
-  pub value-none : behind key (slice at e s) ≡ none → NoLine {A = List ℕ} some s at key
-  value-none b = keyless (slice at e s) (e + 1) (p .more h) (no-key key (slice at e s) b)
-
-  pub value-short : (i : ℕ) → BehindAt key s at e i → i ≡ e → NoLine {A = List ℕ} some s at key
-  value-short i b l =
-      keyless (slice at e s) (e + 1) (p .more h)
-      (no-equals key (slice at e s) [] (b .rest ∙ ap some (slice-none s i e l)) (λ v f. absurd (omega (arith, ap length f))))
-
-  pub value-other : (i : ℕ) → BehindAt key s at e i → i ≢ e → getD s i 0 ≢ 61 → NoLine {A = List ℕ} some s at key
-  value-other i b l n =
-      keyless (slice at e s) (e + 1) (p .more h)
-      (no-equals key (slice at e s) (getD s i 0 ∷ slice (i + 1) e s)
-      (b .rest ∙ ap some (slice-next s i e (omega (arith, b .high)) (p .high))) (λ v f. n (ap (λ (x : List ℕ). getD x 0 0) f)))
 
 -- behind the last byte there is none
 pub past-end : {A : Type 0} (shape : List ℕ → Option A) (s key : List ℕ) (at : ℕ) → length s ≤ at → NoLine shape s at key

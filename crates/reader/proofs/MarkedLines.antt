@@ -1,25 +1,28 @@
 -- The line at a place, by its key up to `=` and its value up to byte 10.
 -- Assumes nothing.
-use Prim.Native.Nat.{ℕ, suc, _+_}
+use Prim.Native.Nat.{ℕ, suc, _+_, _<_, _≤_}
 use native.Mathlib.Omega.{arith}
 use mathlib.Core.Path.{_≡_, refl, sym, ap, _∙_}
-use mathlib.Core.Bool.{Bool, true, false, cond}
+use mathlib.Core.Bool.{Bool, true, false, cond, _&&_}
 use mathlib.Core.List.{List, [], _∷_, _++_, append-assoc}
 use mathlib.Core.Option.{Option, none, some, Option·none-ne-some}
 use lib.Dec.{eqb, ltb}
 use lib.ListN.{length, drop}
-use lib.Seq.{drop-drop}
-use Rattle.lists.specs.Lists.{count}
-use borrow.Author.Tests.{eqb-true, eqb-false}
+use lib.Seq.{slice, drop-drop}
+use Rattle.lists.specs.Lists.{same, count}
+use Rattle.lists.proofs.Laws.{count-append}
+use borrow.Author.Tests.{eqb-true, eqb-false, ne-eqb, lt-ltb}
 use Rattle.lists.proofs.Tests.{false-true, every-in, alike-refl}
-use Rattle.text.specs.Text.{text, parts}
+use Rattle.text.specs.Text.{text, onFirst, parts}
+use Rattle.text.specs.Inner.{PartEnd}
+use Rattle.text.proofs.Laws.{decimal-small}
 use Rattle.text.proofs.Words.{behind-exact}
 use Rattle.reader.specs.Order.{valueBehind}
-use Rattle.reader.specs.Inner.{unbroken, LineIs, NoLine, unended, keyless, shapeless}
-use Rattle.reader.proofs.Text.{parts-at, parts-last, clean-line}
+use Rattle.reader.specs.Inner.{unbroken, LineIs, NoLine, unended, keyless, shapeless, ValueIs}
+use Rattle.reader.proofs.Text.{not-first, parts-at, parts-last, clean-line}
 use Rattle.text.specs.declared.Place.{Place}
 use Rattle.text.specs.declared.Place.the-variants as place
-use Rattle.page.specs.Page.{heldKey, numberKey}
+use Rattle.page.specs.Page.{chainKey, heldKey, numberKey, keyOfChain}
 use Rattle.reader.specs.declared.values.Figure.{Figure}
 use Rattle.reader.specs.declared.values.Figure.the-variants as figured
 use Rattle.reader.specs.declared.values.Reason.{Reason}
@@ -121,3 +124,34 @@ pub resource-line : {s : List ℕ} {at i : ℕ} → SaidIs (wordIs (text numberK
     → ResourceAt s at r
 resource-line k (resource.Is r o l next) x = line-said numberIn refl number-free k x
 resource-line k resource.Not x = line-no-value numberIn k x
+
+-- the value as it stands, up to the end of the line; or there is no end
+parts-behind : (w x y : List ℕ) (ys : List (List ℕ)) → count 10 w ≡ 0 → parts 10 x ≡ y ∷ ys → parts 10 (w ++ x) ≡ (w ++ y) ∷ ys
+unfolding parts
+parts-behind [] x y ys h e = e
+parts-behind (c ∷ w) x y ys h e =
+    ap (λ (b : Bool). cond b ([] ∷ parts 10 (w ++ x)) (onFirst c (parts 10 (w ++ x)))) (ne-eqb c 10 (not-first 10 c w h))
+    ∙ ap (onFirst c) (parts-behind w x y ys (omega arith) e)
+
+module _ {s key : List ℕ} {at from : ℕ} (k : SaidIs (wordIs key) 61 s at true from) (u : unbroken key ≡ true) {to : ℕ}
+    (p : PartEnd 10 s from to) where
+  line-cut : (ys : List (List ℕ)) → parts 10 (drop from s) ≡ slice from to s ∷ ys
+      → parts 10 (drop at s) ≡ (key ++ (61 ∷ slice from to s)) ∷ ys
+  unfolding same
+  line-cut ys e =
+      ap (parts 10) (word-there k ∙ sym (append-assoc key (61 ∷ []) (drop from s)))
+      ∙ parts-behind (key ++ (61 ∷ [])) (drop from s) (slice from to s) ys
+      (omega (arith, count-append 10 key (61 ∷ []), unbroken-clean key u)) e
+      ∙ ap (λ (x : List ℕ). x ∷ ys) (append-assoc key (61 ∷ []) (slice from to s))
+
+  pub value-found : to < length s → ValueIs s at key from to
+  value-found h = record { low = p .low; high = h; beyond = omega (arith, k .beyond, p .low); cut = line-cut _ (p .more h) }
+
+  pub value-unended : {A : Type 0} (shape : List ℕ → Option A) → to ≡ length s → NoLine shape s at key
+  value-unended shape h = unended (key ++ (61 ∷ slice from to s)) (line-cut [] (p .last h))
+
+-- the key of a chain
+pub chain-unbroken : (s : ℕ) → s ≤ 9 → unbroken (keyOfChain s) ≡ true
+chain-unbroken s h =
+    ap (λ (x : List ℕ). unbroken (text chainKey ++ x)) (decimal-small s (omega arith))
+    ∙ ap (λ (b : Bool). b && true) (lt-ltb 10 (48 + s) (omega arith))

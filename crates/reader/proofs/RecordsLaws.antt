@@ -1,11 +1,11 @@
 -- The records of a page, one after another: what is read so far.
 -- Assumes nothing.
-use Prim.Native.Nat.{ℕ, zero, suc, _+_, _-_, _≤_, _<_}
+use Prim.Native.Nat.{ℕ, suc, _+_, _-_, _≤_, _<_}
 use native.Mathlib.Omega.{arith}
 use mathlib.Core.Path.{_≡_, refl, sym, ap, ap₂, _∙_}
 use mathlib.Core.Bool.{Bool, true, false, cond}
-use mathlib.Core.List.{List, [], _∷_, map}
-use lib.ListN.{length, set, replicate}
+use mathlib.Core.List.{List, map}
+use lib.ListN.{set, replicate}
 use borrow.Author.Tests.{le-leb}
 use Rattle.limits.specs.Limits.{mostPrograms}
 use Rattle.lists.proofs.Tests.{and}
@@ -14,14 +14,13 @@ use Rattle.records.specs.declared.Program.{Program}
 use Rattle.records.specs.Records.{known, unused}
 use Rattle.rules.specs.Book as rules
 use Rattle.rules.specs.Keeper.{lists, State}
-use Rattle.page.specs.Page.{chained}
 use Rattle.reader.specs.declared.parts.Record.{Record}
 use Rattle.reader.specs.declared.parts.Records.{Records}
-use Rattle.reader.specs.Order.{recording, recordForms, recordsAhead, chainsAhead, chainForms, firstBad}
-use Rattle.reader.specs.Said.{withRecord, chainsSaid, recordsSaid}
+use Rattle.reader.specs.Order.{recordsAhead, firstBad}
+use Rattle.reader.specs.Said.{withRecord, recordsSaid}
 use Rattle.reader.specs.Inner.{narrowRecord}
 use Rattle.reader.proofs.Mapping.{map-set}
-use Rattle.reader.specs.Walks.{ahead, Onward, withPrograms, RecordIs, RecordRead, RecordsAre, RecordsRead}
+use Rattle.reader.specs.Walks.{ahead, Onward, withPrograms, RecordIs, RecordRead, RecordsRead}
 
 -- `programs` holds the records read so far, and so many are left from place o, line n on
 pub record SoFar (s : List ℕ) (at line count : ℕ) (programs : List Program) (o n left : ℕ) : Type 0 where

@@ -3,10 +3,9 @@
 use Prim.Native.Nat.{ℕ, suc}
 use native.Mathlib.Omega.{arith}
 use mathlib.Core.Path.{_≡_, refl, sym, ap, _∙_}
-use mathlib.Core.Bool.{Bool, true, false}
+use mathlib.Core.Bool.{Bool, true}
 use mathlib.Core.List.{List, [], _∷_, _++_, append-assoc}
 use mathlib.Core.Option.{Option, none, some}
-use borrow.Author.Tests.{eq-eqb}
 use Rattle.text.specs.Text.{text, behind}
 use Rattle.text.proofs.Words.{behind-append}
 use Rattle.page.specs.Page.{line, heldKey, numberKey, endKey, lastWord}

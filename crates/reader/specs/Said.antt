@@ -11,7 +11,6 @@ use lib.Dec.{leb, ltb}
 use Rattle.lists.specs.Lists.{upTo}
 use Rattle.text.specs.Text.{text}
 use Rattle.records.specs.declared.Program.{Program}
-use Rattle.records.specs.declared.Resource.{Resource}
 use Rattle.records.specs.declared.Why.the-variants.{Nothing}
 use Rattle.records.specs.Names.{nameOf}
 use Rattle.records.specs.Records.{known}

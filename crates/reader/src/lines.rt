@@ -29,22 +29,17 @@ pub(crate) enum NameLine {
 // The value of the line at a place; not, where the line has another key or is not ended.
 pub(crate) fn value_at(s: &[u8], at: usize, key: &[u8]) -> Value
     requires { ⌜ at ≤ length (now s) ⌝ }
+    requires { ⌜ unbroken (now key) ≡ true ⌝ }
     ensures { λ r. ⌜ ValueAt (now (s .entry)) at (now (key .entry)) r ⌝ }
 {
-    let end = text::part_end(s, at, 10);
-    if end == s.len() {
-        return Value::Not;
-    }
-    let Place::At(i) = text::behind(s, at, end, key) else {
+    let Place::At(from) = values::word_to(s, at, key, b'=') else {
         return Value::Not;
     };
-    if i == end {
+    let to = text::part_end(s, from, 10);
+    if to == s.len() {
         return Value::Not;
     }
-    if s[i] != b'=' {
-        return Value::Not;
-    }
-    Value::Is(i + 1, end)
+    Value::Is(from, to)
 }
 
 pub(crate) fn figure_at(s: &[u8], at: usize, key: &[u8]) -> Figure
@@ -71,6 +66,7 @@ pub(crate) fn dashed_at(s: &[u8], at: usize, key: &[u8]) -> Figure
 
 pub(crate) fn name_at(s: &[u8], at: usize, key: &[u8]) -> NameLine
     requires { ⌜ at ≤ length (now s) ⌝ }
+    requires { ⌜ unbroken (now key) ≡ true ⌝ }
     ensures { λ r. ⌜ NameAt (now (s .entry)) at (now (key .entry)) r ⌝ }
 {
     let Value::Is(from, to) = value_at(s, at, key) else {

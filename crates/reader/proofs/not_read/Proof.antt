@@ -1,6 +1,5 @@
 -- `not_read` hands back the smallest tables.
 -- Assumes nothing.
-use Prim.Native.Nat.{ℕ}
 use mathlib.Core.Path.{ap}
 use mathlib.Core.List.{[], _∷_}
 use Rattle.tables.specs.Calls.{Result}
@@ -8,9 +7,6 @@ use Rattle.rules.specs.Engine.{madeBy}
 use borrow.Author.Needs.{needs}
 use Rattle.reader.proofs.not_read.Statement.{statement}
 use Rattle.reader.proofs.not_read.Tie as tie
-use Rattle.reader.proofs.not_read.Reads as reads
-use Rattle.reader.proofs.not_read.Lts as lts
-use Rattle.tables.proofs.Tables.fresh.Reads as fresh-reads
 
 -- src/lib.rt:22:9
 fresh-requires : tie.Need-fresh-requires

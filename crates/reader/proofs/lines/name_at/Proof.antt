@@ -9,10 +9,6 @@ use Rattle.reader.proofs.LineLaws.{line-shaped, line-unshaped, line-unk
 use borrow.Author.Needs.{needs}
 use Rattle.reader.proofs.lines.name_at.Statement.{statement}
 use Rattle.reader.proofs.lines.name_at.Tie as tie
-use Rattle.reader.proofs.lines.name_at.Reads as reads
-use Rattle.reader.proofs.lines.name_at.Lts as lts
-use Rattle.reader.proofs.lines.value_at.Reads as value-at-reads
-use Rattle.records.proofs.read_name.Reads as read-name-reads
 
 -- src/lines.rt:85:31
 value-at-requires : tie.Need-value-at-requires

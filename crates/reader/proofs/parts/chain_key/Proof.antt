@@ -2,8 +2,8 @@
 -- Assumes nothing.
 use Prim.Native.Nat.{ℕ, _+_}
 use native.Mathlib.Omega.{arith}
-use mathlib.Core.Path.{_≡_, sym, ap, _∙_}
-use mathlib.Core.List.{List, [], _∷_, _++_}
+use mathlib.Core.Path.{sym, ap, _∙_}
+use mathlib.Core.List.{List, _++_}
 use lib.ListN.{set}
 use Rattle.text.specs.Text.{text}
 use Rattle.text.proofs.Laws.{decimal-small}
@@ -11,9 +11,6 @@ use Rattle.page.specs.Page.{chainKey}
 use borrow.Author.Needs.{needs}
 use Rattle.reader.proofs.parts.chain_key.Statement.{statement}
 use Rattle.reader.proofs.parts.chain_key.Tie as tie
-use Rattle.reader.proofs.parts.chain_key.Reads as reads
-use Rattle.reader.proofs.parts.chain_key.Lts as lts
-use Rattle.text.proofs.put_bytes.Reads as put-bytes-reads
 
 -- src/parts.rt:220:21
 slice-aggregate-put-bytes : tie.Need-slice-aggregate-put-bytes

@@ -1,23 +1,21 @@
 -- `read_chains` reads the chains of the states that are shown.
 -- Assumes nothing.
-use Prim.Native.Nat.{_-_, _≤_}
+use Prim.Native.Nat.{ℕ, _-_, _≤_}
 use native.Mathlib.Omega.{arith}
-use mathlib.Core.Path.{_≡_, refl, sym, _∙_, subst}
+use mathlib.Core.Path.{_≡_, refl, sym, subst}
+use mathlib.Core.Bool.{true}
+use mathlib.Core.List.{List}
 use lib.ListN.{getD}
 use borrow.Author.Needs.{needs}
 use Rattle.page.specs.Page.{chained, keyOfChain}
 use borrow.Author.Tests.{not-true, not-false}
 use Rattle.reader.specs.Shapes.{listed}
-use Rattle.reader.specs.Inner.{ValueAt, ValueIs}
+use Rattle.reader.specs.Inner.{unbroken, ValueAt, ValueIs}
+use Rattle.reader.proofs.MarkedLines.{chain-unbroken}
 use Rattle.reader.proofs.LineLaws.{value-as, no-line-as, line-unshaped, line-unkeyed}
 use Rattle.reader.proofs.ChainsLaws.{SoFar, Next, none-yet, next-of, all-read, bad-chain, one-read}
 use Rattle.reader.proofs.parts.read_chains.Statement.{statement}
 use Rattle.reader.proofs.parts.read_chains.Tie as tie
-use Rattle.reader.proofs.parts.read_chains.Reads as reads
-use Rattle.reader.proofs.parts.read_chains.Lts as lts
-use Rattle.reader.proofs.lines.value_at.Reads as value-at-reads
-use Rattle.reader.proofs.parts.chain_key.Reads as chain-key-reads
-use Rattle.reader.proofs.values.read_chain.Reads as read-chain-reads
 
 abbrev Inv-loop : tie.InvT-loop
 Inv-loop s at line states links₀ o₀ n₀ i₀ links o n i = SoFar s at line links o n i × (i ≤ 4)
@@ -61,8 +59,10 @@ slice-aggregate-value-at c =
 
 -- src/parts.rt:238:35
 value-at-requires : tie.Need-value-at-requires Inv-loop μ-loop
-value-at-requires c κs =
-    c .before .before .before .loop .inv .0 .onward .within
+value-at-requires c κs = (
+  c .before .before .before .loop .inv .0 .onward .within,
+  subst (λ (k : List ℕ). unbroken k ≡ true) (sym (c .before .chain-key .ensures)) (chain-unbroken _ (nextly (c .before .before) .small)),
+)
 
 -- src/parts.rt:238:23
 enum-known-from : tie.Need-enum-known-from Inv-loop μ-loop

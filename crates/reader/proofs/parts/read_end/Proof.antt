@@ -7,9 +7,6 @@ use Rattle.reader.proofs.EndLaws.{no-end, all-over, more-behind}
 use borrow.Author.Needs.{needs}
 use Rattle.reader.proofs.parts.read_end.Statement.{statement}
 use Rattle.reader.proofs.parts.read_end.Tie as tie
-use Rattle.reader.proofs.parts.read_end.Reads as reads
-use Rattle.reader.proofs.parts.read_end.Lts as lts
-use Rattle.reader.proofs.lines.word_at.Reads as word-at-reads
 
 -- src/parts.rt:359:46
 slice-aggregate-word-at : tie.Need-slice-aggregate-word-at

@@ -186,7 +186,7 @@ read-record-spec =
     (λ c κs. search needs)
     returns
     (λ c. search needs)
-    (λ c κs. line-1 (c .before .before) .within)
+    (λ c κs. (line-1 (c .before .before) .within, refl))
     (λ c. search needs)
     (λ c. search needs)
     (λ c κs. search needs)

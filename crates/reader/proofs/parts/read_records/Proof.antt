@@ -1,20 +1,15 @@
 -- `read_records` reads so many records, one after another.
 -- Assumes nothing.
-use Prim.Native.Nat.{ℕ, suc, _-_, _≤_}
+use Prim.Native.Nat.{ℕ, suc, _-_}
 use native.Mathlib.Omega.{arith}
 use mathlib.Core.Path.{_≡_, refl, _∙_, subst}
 use mathlib.Core.Logic.{inl, inr}
-use borrow.Author.Needs.{needs}
 use mathlib.Core.List.{List}
 use Rattle.records.specs.declared.Program.{Program}
 use Rattle.reader.specs.declared.parts.Record.{Record}
 use Rattle.reader.proofs.RecordsLaws.{SoFar, none-yet, putAt, put-in, put-over, put-under, one-more, all-read, bad-record}
 use Rattle.reader.proofs.parts.read_records.Statement.{statement}
 use Rattle.reader.proofs.parts.read_records.Tie as tie
-use Rattle.reader.proofs.parts.read_records.Reads as reads
-use Rattle.reader.proofs.parts.read_records.Lts as lts
-use Rattle.reader.proofs.parts.read_record.Reads as read-record-reads
-use Rattle.records.proofs.unused_record.Reads as unused-record-reads
 
 abbrev Inv-loop : tie.InvT-loop
 Inv-loop s at line count programs₀ o₀ n₀ left₀ programs o n left = SoFar s at line count programs o n left
