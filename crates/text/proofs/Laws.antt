@@ -195,6 +195,22 @@ decimal-thousands n h b =
 pub thousands-length : (n : ℕ) → 1000 ≤ n → n < ten 20 → length (decimal n) ≡ length (decimal (n / 1000)) + 3
 thousands-length n h b = ap length (decimal-thousands n h b) ∙ length-append (decimal (n / 1000)) (threeDigits (n % 1000))
 
+-- and by six
+millions : (n : ℕ) → n / 1000 / 1000 ≡ n / 1000000
+millions n = omega arith
+
+pub decimal-millions : (n : ℕ) → 1000000 ≤ n → n < ten 20
+    → decimal n ≡ (decimal (n / 1000000) ++ threeDigits (n / 1000 % 1000)) ++ threeDigits (n % 1000)
+decimal-millions n h b =
+    decimal-thousands n (omega arith) b
+    ∙ ap (λ (x : List ℕ). x ++ threeDigits (n % 1000)) (decimal-thousands (n / 1000) (omega arith) (omega arith)
+    ∙ ap (λ (k : ℕ). decimal k ++ threeDigits (n / 1000 % 1000)) (millions n))
+
+pub millions-length : (n : ℕ) → 1000000 ≤ n → n < ten 20 → length (decimal n) ≡ length (decimal (n / 1000000)) + 6
+millions-length n h b =
+    omega (arith, thousands-length n (omega arith) b, thousands-length (n / 1000) (omega arith) (omega arith),
+    ap (λ (k : ℕ). length (decimal k)) (millions n))
+
 -- a number below 10 ^ (f + 1) has at most f + 1 digits, whatever the fuel
 pub digits-length : (f g n : ℕ) → n < ten (suc f) → length (digits g n) ≤ suc f
 unfolding digits

@@ -56,7 +56,7 @@ fn put_small(buf: &mut [u8], at: usize, n: u64) -> usize
     put_three(buf, at, n)
 }
 
-// n in decimal, three digits at a time.
+// n in decimal, six digits at a time.
 fn put_large(buf: &mut [u8], at: usize, n: u64) -> usize
     requires { ⌜ at + length (decimal n) ≤ length (now buf) ⌝ }
     ensures { λ r. ⌜ Wrote (now (buf .entry)) at (decimal n) (now (buf .exit)) r ⌝ }
@@ -64,8 +64,13 @@ fn put_large(buf: &mut [u8], at: usize, n: u64) -> usize
     if n < 1000 {
         return put_small(buf, at, n);
     }
-    let next = put_large(buf, at, n / 1000);
-    put_three(buf, next, n % 1000)
+    if n < 1000000 {
+        let next = put_small(buf, at, n / 1000);
+        return put_three(buf, next, n % 1000);
+    }
+    let next = put_large(buf, at, n / 1000000);
+    let last = put_three(buf, next, n / 1000 % 1000);
+    put_three(buf, last, n % 1000)
 }
 
 // n in decimal. Most numbers of a page are small: for them nothing calls itself, and the compiler puts them in place.
