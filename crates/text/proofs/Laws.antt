@@ -208,8 +208,12 @@ decimal-millions n h b =
 
 pub millions-length : (n : ℕ) → 1000000 ≤ n → n < ten 20 → length (decimal n) ≡ length (decimal (n / 1000000)) + 6
 millions-length n h b =
-    omega (arith, thousands-length n (omega arith) b, thousands-length (n / 1000) (omega arith) (omega arith),
-    ap (λ (k : ℕ). length (decimal k)) (millions n))
+    omega (
+      arith,
+      thousands-length n (omega arith) b,
+      thousands-length (n / 1000) (omega arith) (omega arith),
+      ap (λ (k : ℕ). length (decimal k)) (millions n),
+    )
 
 -- a number below 10 ^ (f + 1) has at most f + 1 digits, whatever the fuel
 pub digits-length : (f g n : ℕ) → n < ten (suc f) → length (digits g n) ≤ suc f
