@@ -2,12 +2,12 @@
 
 use comparer::differ::{self, shortest, Count, Failure};
 use comparer::other::Other;
-use comparer::pages::Pages;
+use comparer::pages::{in_turn, turn, Pages};
 use comparer::reading::{self, CI_PAGES};
 use comparer::report::report;
 use comparer::script::generate;
 use comparer::{CI_LINES, CI_SEEDS};
-use engine::sheet;
+use engine::{sheet, Answer, Value};
 use faults::{Fault, FAULTS};
 use std::io::{self, Read, Write};
 use std::ops::Range;
@@ -22,12 +22,13 @@ const USAGE: &str = "usage:
   compare sheet
   compare gen [--seed K] [--lines N]
   compare cases [--seeds A..B] [--lines N]
+  compare readings [--seeds A..B] [--count N]
 Seeds A..B are A and up, below B. Status 0: no difference; 1: a difference; 2: not run.";
 
 struct Options {
     seeds: Range<u64>,
     lines: usize,
-    count: usize,
+    count: Option<usize>,
     limit: Duration,
     save: Option<String>,
     fault: Option<Fault>,
@@ -65,6 +66,7 @@ fn command() -> Result<u8, String> {
             print(&generate(options.seeds.start, options.lines))
         }
         "cases" => cases(options(rest)?),
+        "readings" => readings(options(rest)?),
         _ => Err(USAGE.to_string()),
     }
 }
@@ -73,7 +75,7 @@ fn options(args: Vec<String>) -> Result<Options, String> {
     let mut options = Options {
         seeds: CI_SEEDS,
         lines: CI_LINES,
-        count: CI_PAGES,
+        count: None,
         limit: Duration::from_secs(60),
         save: None,
         fault: None,
@@ -90,7 +92,7 @@ fn options(args: Vec<String>) -> Result<Options, String> {
             "--seeds" => options.seeds = range(&value)?,
             "--seed" => options.seeds.start = whole(&value)?,
             "--lines" => options.lines = whole(&value)? as usize,
-            "--count" => options.count = whole(&value)? as usize,
+            "--count" => options.count = Some(whole(&value)? as usize),
             "--limit" => options.limit = Duration::from_secs(whole(&value)?),
             "--save" => options.save = Some(value),
             "--fault" => options.fault = Some(Fault::by_name(&value).ok_or("no such fault")?),
@@ -149,7 +151,7 @@ fn show(other: &Other, failure: &Failure, save: Option<String>) -> Result<u8, St
 
 /// A wrong engine on pages; without one, what the engine says to them.
 fn pages(options: Options) -> Result<u8, String> {
-    let (seed, count) = (options.seeds.start, options.count);
+    let (seed, count) = (options.seeds.start, options.count.unwrap_or(CI_PAGES));
     let fault = match options.fault {
         Some(fault) => fault,
         None => {
@@ -179,6 +181,25 @@ fn cases(options: Options) -> Result<u8, String> {
         let script = generate(seed, options.lines);
         let output = sheet(&script);
         text += &format!("seed {}\nscript{}\noutput{}\n", seed, decimal(&script), decimal(&output));
+    }
+    print(text.as_bytes())
+}
+
+/// Four lines for each page: `seed K`, `kind` and what it is, `page` with its bytes in decimal,
+/// `answer` with the number and the value of the engine's reader.
+fn readings(options: Options) -> Result<u8, String> {
+    let count = options.count.unwrap_or_else(|| turn().len());
+    let mut text = String::new();
+    for seed in options.seeds {
+        for (kind, page) in in_turn(seed).take(count) {
+            let Answer { number, value } = engine::read(&page).1;
+            let value = match value {
+                Value::Number(value) => value,
+                Value::Time(_) => return Err(String::from("no time was asked")),
+            };
+            text += &format!("seed {}\nkind {}\npage{}\n", seed, kind.what(), decimal(&page));
+            text += &format!("answer {} {}\n", number, value);
+        }
     }
     print(text.as_bytes())
 }

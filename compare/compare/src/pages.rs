@@ -65,6 +65,26 @@ const KINDS: [(Kind, u64); 14] = [
     (Kind::Twice, 5),
 ];
 
+/// Each kind once for every seven of its hundred that are begun: 21 in all.
+pub fn turn() -> Vec<Kind> {
+    KINDS.iter().flat_map(|(kind, weight)| vec![*kind; (*weight as usize + 6) / 7]).collect()
+}
+
+/// The most bytes of a page in turn: the checker computes such a page in half a second.
+const MOST_IN_TURN: usize = 6_000;
+
+/// Pages that are not too long, without end, one turn of kinds after another; the same ones for
+/// the same seed.
+pub fn in_turn(seed: u64) -> impl Iterator<Item = (Kind, Vec<u8>)> {
+    let mut pages = Pages::new(seed);
+    turn().into_iter().cycle().map(move |kind| loop {
+        let page = pages.page(kind);
+        if page.len() <= MOST_IN_TURN {
+            return (kind, page);
+        }
+    })
+}
+
 /// Pages without end; the same ones for the same seed.
 pub struct Pages {
     prng: Prng,
