@@ -142,42 +142,11 @@ returns-7 c =
 pub read-head-spec : {M : Type 1} → statement M
 read-head-spec =
     tie.close
-    (tie.spec
-    (λ c. search needs)
-    (λ c. search needs)
-    (λ c κs. search needs)
-    (λ c. search needs)
-    (λ c. search needs)
-    (λ c κs. search needs)
-    returns
-    (λ c. search needs)
-    (λ c κs. (line-1 (c .before .before) .within, refl))
-    (λ c. search needs)
-    (λ c. search needs)
-    (λ c κs. search needs)
-    returns-2
-    (λ c. search needs)
-    (λ c κs. (line-2 (c .before .before) .within, refl))
-    (λ c. search needs)
-    (λ c. search needs)
-    (λ c κs. search needs)
-    returns-3
-    (λ c. search needs)
-    (λ c κs. (line-3 (c .before .before) .within, refl))
-    (λ c. search needs)
-    (λ c. search needs)
-    (λ c κs. search needs)
-    returns-4
-    (λ c. search needs)
-    (λ c κs. (line-4 (c .before .before) .within, refl))
-    (λ c. search needs)
-    (λ c. search needs)
-    (λ c κs. search needs)
-    returns-5
-    (λ c. search needs)
-    (λ c κs. (line-5 (c .before .before) .within, refl))
-    (λ c. search needs)
-    (λ c. search needs)
-    (λ c κs. search needs)
-    returns-6
-    returns-7)
+    (tie.spec (λ c. search needs) (λ c. search needs) (λ c κs. search needs) (λ c. search needs) (λ c. search needs)
+    (λ c κs. search needs) returns (λ c. search needs) (λ c κs. (line-1 (c .before .before) .within, refl)) (λ c. search needs)
+    (λ c. search needs) (λ c κs. search needs) returns-2 (λ c. search needs) (λ c κs. (line-2 (c .before .before) .within, refl))
+    (λ c. search needs) (λ c. search needs) (λ c κs. search needs) returns-3 (λ c. search needs)
+    (λ c κs. (line-3 (c .before .before) .within, refl)) (λ c. search needs) (λ c. search needs) (λ c κs. search needs) returns-4
+    (λ c. search needs) (λ c κs. (line-4 (c .before .before) .within, refl)) (λ c. search needs) (λ c. search needs)
+    (λ c κs. search needs) returns-5 (λ c. search needs) (λ c κs. (line-5 (c .before .before) .within, refl)) (λ c. search needs)
+    (λ c. search needs) (λ c κs. search needs) returns-6 returns-7)

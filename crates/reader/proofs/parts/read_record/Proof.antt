@@ -178,49 +178,12 @@ returns-8 c =
 pub read-record-spec : {M : Type 1} → statement M
 read-record-spec =
     tie.close
-    (tie.spec
-    (λ c. search needs)
-    (λ c κs. search needs)
-    (λ c. search needs)
-    (λ c. search needs)
-    (λ c κs. search needs)
-    returns
-    (λ c. search needs)
-    (λ c κs. (line-1 (c .before .before) .within, refl))
-    (λ c. search needs)
-    (λ c. search needs)
-    (λ c κs. search needs)
-    returns-2
-    (λ c. search needs)
-    (λ c κs. (line-2 (c .before .before) .within, refl))
-    (λ c. search needs)
-    (λ c. search needs)
-    (λ c κs. search needs)
-    returns-3
-    (λ c. search needs)
-    (λ c κs. (line-3 (c .before .before) .within, refl))
-    (λ c. search needs)
-    (λ c. search needs)
-    (λ c κs. search needs)
-    returns-4
-    (λ c. search needs)
-    (λ c κs. (line-4 (c .before .before) .within, refl))
-    (λ c. search needs)
-    (λ c. search needs)
-    (λ c κs. search needs)
-    returns-5
-    (λ c. search needs)
-    (λ c κs. (line-5 (c .before .before) .within, refl))
-    (λ c. search needs)
-    (λ c. search needs)
-    (λ c κs. search needs)
-    returns-6
-    (λ c. search needs)
-    (λ c κs. (line-6 (c .before .before) .within, refl))
-    (λ c. search needs)
-    (λ c. search needs)
-    (λ c κs. search needs)
-    returns-7
-    (λ c κs. search needs)
-    (λ c κs. search needs)
-    returns-8)
+    (tie.spec (λ c. search needs) (λ c κs. search needs) (λ c. search needs) (λ c. search needs) (λ c κs. search needs) returns
+    (λ c. search needs) (λ c κs. (line-1 (c .before .before) .within, refl)) (λ c. search needs) (λ c. search needs)
+    (λ c κs. search needs) returns-2 (λ c. search needs) (λ c κs. (line-2 (c .before .before) .within, refl)) (λ c. search needs)
+    (λ c. search needs) (λ c κs. search needs) returns-3 (λ c. search needs) (λ c κs. (line-3 (c .before .before) .within, refl))
+    (λ c. search needs) (λ c. search needs) (λ c κs. search needs) returns-4 (λ c. search needs)
+    (λ c κs. (line-4 (c .before .before) .within, refl)) (λ c. search needs) (λ c. search needs) (λ c κs. search needs) returns-5
+    (λ c. search needs) (λ c κs. (line-5 (c .before .before) .within, refl)) (λ c. search needs) (λ c. search needs)
+    (λ c κs. search needs) returns-6 (λ c. search needs) (λ c κs. (line-6 (c .before .before) .within, refl)) (λ c. search needs)
+    (λ c. search needs) (λ c κs. search needs) returns-7 (λ c κs. search needs) (λ c κs. search needs) returns-8)
