@@ -1,4 +1,4 @@
-// The words of a page, each in one place: the writer puts them, a reader will compare them. The keys are
+// The words of a page, each in one place: the writer puts them, the reader compares them. The keys are
 // those of specs/Page.antt, in its order.
 use limits::DISC;
 use limits::GENERAL;

@@ -16,7 +16,8 @@ use Rattle.reader.specs.Said.{withLine, restSaid}
 use Rattle.reader.specs.Inner.{narrowNumbered, numberIn, LineIs, NoLine, unended, keyless, shapeless, wordIs}
 use Rattle.reader.specs.Walks.{ahead, EndRead}
 use Rattle.reader.proofs.ScanLaws.{pass}
-use Rattle.reader.proofs.LineLaws.{some-line, scan-line, scan-stop, pass-key, pass-shape, there-into}
+use Rattle.reader.proofs.Marks.{some-part}
+use Rattle.reader.proofs.LineLaws.{scan-line, scan-stop, pass-key, pass-shape, there-into}
 use Rattle.reader.proofs.HeadLaws.{word-there}
 
 -- at the numbers, a line that is none, or not of its shape, can only be the last one
@@ -43,7 +44,7 @@ module _ (s : List ℕ) (at line : ℕ) where
   no-number : (l : List ℕ) (next : ℕ) → parts 10 (drop at s) ≡ l ∷ parts 10 (drop next s) → NoLine numberIn s at (text numberKey)
       → behindLine numbering l ≡ afterOne (choice endForm ended ∷ []) l
   no-number l next e (unended m f) =
-      let (y, ys, g) = some-line (drop next s) in
+      let (y, ys, g) = some-part 10 (drop next s) in
       absurd (omega (arith, ap length (sym f ∙ e ∙ ap (λ (x : List (List ℕ)). l ∷ x) g)))
   no-number l next e (keyless m n f g) = at-numbers l (ap (valueBehind (text numberKey)) (one-line (sym e ∙ f)) ∙ g)
   no-number l next e (shapeless v n f g) =
@@ -70,7 +71,7 @@ over : (n : ℕ) (t : List ℕ) → 1 ≤ length t → firstBad ended n (parts 1
 unfolding firstBad behindLine parts
 over n [] k = absurd (omega arith)
 over n (x ∷ xs) k =
-    let (m, ls, e) = some-line xs in
+    let (m, ls, e) = some-part 10 xs in
     ap (λ (y : List (List ℕ)). firstBad ended n (cond (eqb x 10) ([] ∷ y) (onFirst x y))) e ∙ go (eqb x 10) m ls
   where
     go : (b : Bool) (m : List ℕ) (ls : List (List ℕ)) → firstBad ended n (cond b ([] ∷ m ∷ ls) (onFirst x (m ∷ ls))) ≡ n

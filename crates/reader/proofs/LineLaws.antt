@@ -9,10 +9,10 @@ use mathlib.Core.Option.{Option, none, some, Option·none-ne-some}
 use lib.ListN.{length, drop, drop-of-length-le}
 use lib.Seq.{slice}
 use Rattle.text.specs.Text.{parts}
-use Rattle.text.proofs.Fields.{parts-cut}
 use Rattle.reader.specs.Shapes.{there, into}
 use Rattle.reader.specs.Order.{Place, Choice, valueBehind, mayCome, afterKind, afterOne, behindLine, behindAll, firstBad}
 use Rattle.reader.specs.Inner.{LineIs, NoLine, unended, keyless, shapeless, ValueIs}
+use Rattle.reader.proofs.Marks.{some-part}
 use Rattle.reader.proofs.ScanLaws.{value-behind, pass}
 
 -- behind the last byte there is none
@@ -45,15 +45,11 @@ module _ {A : Type 0} (shape : List ℕ → Option A) {s key : List ℕ} {at : �
 abbrev pub wordIf : Bool → Option Bool
 wordIf b = cond b (some true) none
 
--- lines ahead are never none
-pub some-line : (s : List ℕ) → (l : List ℕ) × (ls : List (List ℕ)) × (parts 10 s ≡ l ∷ ls)
-some-line s = (_, _, parts-cut 10 s)
-
 pub scan-line : (p q : Place) (l s : List ℕ) (n : ℕ) → behindLine p l ≡ some q
     → firstBad p n (l ∷ parts 10 s) ≡ firstBad q (suc n) (parts 10 s)
 unfolding firstBad
 scan-line p q l s n e =
-    let (m, ls, f) = some-line s in
+    let (m, ls, f) = some-part 10 s in
     ap (λ (x : List (List ℕ)). firstBad p n (l ∷ x)) f
     ∙ ap (λ (o : Option Place). elim o [ none ↦ n | some r ↦ firstBad r (suc n) (m ∷ ls) ]) e
     ∙ ap (firstBad q (suc n)) (sym f)
@@ -61,7 +57,7 @@ scan-line p q l s n e =
 pub scan-stop : (p : Place) (l s : List ℕ) (n : ℕ) → behindLine p l ≡ none → firstBad p n (l ∷ parts 10 s) ≡ n
 unfolding firstBad
 scan-stop p l s n e =
-    let (m, ls, f) = some-line s in
+    let (m, ls, f) = some-part 10 s in
     ap (λ (x : List (List ℕ)). firstBad p n (l ∷ x)) f ∙ ap (λ
     (o : Option Place). elim o [ none ↦ n | some r ↦ firstBad r (suc n) (m ∷ ls) ]) e
 
@@ -70,7 +66,7 @@ pub scan-alike : (p q : Place) (l s : List ℕ) (n : ℕ) → behindLine p l ≡
     → firstBad p n ls ≡ firstBad q n ls
 unfolding firstBad
 scan-alike p q l s n h e =
-    let (m, ls, f) = some-line s in
+    let (m, ls, f) = some-part 10 s in
     let g = e ∙ ap (λ (x : List (List ℕ)). l ∷ x) f in
     ap (firstBad p n) g
     ∙ ap (λ (o : Option Place). elim o [ none ↦ n | some r ↦ firstBad r (suc n) (m ∷ ls) ]) h

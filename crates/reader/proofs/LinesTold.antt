@@ -23,7 +23,7 @@ use Rattle.reader.specs.Order.{behindAll, firstBad}
 use Rattle.reader.specs.Said.{said}
 use Rattle.reader.specs.Reading.{wasRead, notRead, writes, judged, reading}
 use Rattle.reader.specs.Lines.{linesEnded, lastBytes, behindThese, FirstNot, not-formed, not-there, AllFormed, WrittenBy}
-use Rattle.reader.proofs.LineLaws.{some-line}
+use Rattle.reader.proofs.Marks.{some-part}
 use Rattle.reader.proofs.Lengths.{said-arrays}
 use Rattle.reader.proofs.Exact.{written-read}
 
@@ -175,7 +175,7 @@ module _ (s : List ℕ) where
   start = heading headForms
 
   some-lines : 1 ≤ length (parts 10 s)
-  some-lines = let (l, ls, e) = some-line s in rw e (omega arith)
+  some-lines = let (l, ls, e) = some-part 10 s in rw e (omega arith)
 
   bad-is : (k : ℕ) → reading s ≡ notRead k → firstBad start 1 (parts 10 s) ≡ k
   unfolding reading

@@ -11,17 +11,17 @@ use lib.Dec.{ltb}
 use lib.ListN.{length, getD, drop, take, length-drop, length-append, List·getD-append}
 use lib.Seq.{slice, split-at, getD-drop, getD-take, getD-append-seam, drop-drop, length-slice}
 use borrow.Author.Tests.{ltb-true, ltb-false}
+use Rattle.limits.specs.Limits.{pageDigits}
 use Rattle.lists.specs.Lists.{same, upTo, count}
 use Rattle.lists.proofs.Tests.{clash}
 use Rattle.lists.proofs.Laws.{count-append}
 use Rattle.text.specs.declared.Digits.{Digits}
 use Rattle.text.specs.Inner.{DigitsFrom, BehindAt}
-use Rattle.text.specs.Text.{text, decimal, horner, behind}
-use Rattle.text.proofs.Laws.{ten, ten-mono, decimal-small, decimal-pos, decimal-length}
+use Rattle.text.specs.Text.{text, horner, behind}
 use Rattle.text.proofs.Fields.{drop-take, slice-head}
 use Rattle.text.proofs.Words.{behind-append, behind-exact}
-use Rattle.text.proofs.Read.{horner-decimal, decimal-head, numberOf-plain}
-use Rattle.text.proofs.Exact.{numberOf-exact}
+use Rattle.text.proofs.Read.{numberOf-plain}
+use Rattle.text.proofs.Exact.{Plain, plain, numberOf-exact}
 use Rattle.records.specs.Numbers.{globally}
 use Rattle.page.specs.Page.{dash, globalWord}
 use Rattle.reader.specs.Shapes.{next, word, figure, figureOrDash, partyOf}
@@ -63,39 +63,8 @@ slice-cut s from to l h =
     let e : from + (to - from) ≡ to = omega arith in
     subst (λ (t : ℕ). drop from s ≡ slice from t s ++ (getD s t 0 ∷ drop (t + 1) s)) e (cut-behind s from (to - from) (omega arith))
 
--- a number, by its digits
-record Figured (v : List ℕ) (n : ℕ) : Type 0 where
-  least : 1 ≤ length v
-  few : length v ≤ 13
-  said : horner 0 v ≡ some n
-  first : 1 < length v → getD v 0 0 ≡ 48 → ⊥
-
-digited : (v : List ℕ) (n : ℕ) → figure v ≡ some n → Figured v n
-digited v n e = subst (λ (x : List ℕ). Figured x n) (sym exact) own
-  where
-    exact : v ≡ decimal n
-    exact = numberOf-exact 13 v n (omega arith) e .0
-
-    below : n < ten 13
-    below = numberOf-exact 13 v n (omega arith) e .1
-
-    small : n < ten 20
-    small = omega (arith, below, ten-mono 13 20 (omega arith))
-
-    zero-first : (b : Bool) → ltb n 10 ≡ b → 1 < length (decimal n) → getD (decimal n) 0 0 ≡ 48 → ⊥
-    zero-first true t l z = omega (arith, ap length (decimal-small n (ltb-true n 10 t)))
-    zero-first false t l z = omega (arith, decimal-head n (omega (arith, ltb-false n 10 t)) small)
-
-    own : Figured (decimal n) n
-    own = record {
-      least = decimal-pos n;
-      few = decimal-length 12 n below;
-      said = horner-decimal n small;
-      first = zero-first (ltb n 10) refl;
-    }
-
 -- digits up to one that is none, and a mark that is none
-module _ {s : List ℕ} {from : ℕ} {r : Digits} (D : DigitsFrom s from 13 r) (d : ℕ) (mark : upTo 48 57 d ≡ false) where
+module _ {s : List ℕ} {from : ℕ} {r : Digits} (D : DigitsFrom s from pageDigits r) (d : ℕ) (mark : upTo 48 57 d ≡ false) where
   inside : (i : ℕ) → from + i < r .end → getD (slice from (r .end) s) i 0 ≡ getD s (from + i) 0
   inside i h = getD-drop from (take (r .end) s) i 0 ∙ getD-take (r .end) s (from + i) 0 h
 
@@ -113,8 +82,8 @@ module _ {s : List ℕ} {from : ℕ} {r : Digits} (D : DigitsFrom s from 13 r) (
     pub ends : (m : ℕ) → figure v ≡ some m → r .end ≡ from + length v
     ends m f = go (ltb (r .end) (from + length v)) refl (ltb (from + length v) (r .end)) refl
       where
-        g : Figured v m
-        g = digited v m f
+        g : Plain pageDigits v m
+        g = plain pageDigits v m f
 
         go : (a : Bool) → ltb (r .end) (from + length v) ≡ a → (b : Bool) → ltb (from + length v) (r .end) ≡ b → r .end ≡ from + length v
         go true p b q =
@@ -124,7 +93,7 @@ module _ {s : List ℕ} {from : ℕ} {r : Digits} (D : DigitsFrom s from 13 r) (
             ap (λ (i : ℕ). upTo 48 57 (getD s i 0)) (sym k)
             ∙ ap (upTo 48 57) (before-mark (r .end - from) (omega arith))
             ∙ digit-at v 0 m (r .end - from) (g .said) (omega arith) in
-            clash digit (D .stops (omega (arith, long)) (omega (arith, g .few)))
+            clash digit (D .stops (omega (arith, long)) (omega (arith, g .high)))
         go false p true q =
             let l : from + length v < r .end = ltb-true (from + length v) (r .end) q in
             clash (ap (upTo 48 57) (sym (inside (length v) l ∙ at-mark))
@@ -132,17 +101,17 @@ module _ {s : List ℕ} {from : ℕ} {r : Digits} (D : DigitsFrom s from 13 r) (
             (omega (arith, length-slice from (r .end) s (D .high)))) mark
         go false p false q = omega (arith, ltb-false (r .end) (from + length v) p, ltb-false (from + length v) (r .end) q)
 
-  unsaid : ((v rest : List ℕ) (m : ℕ) → drop from s ≡ v ++ (d ∷ rest) → r .end ≡ from + length v → Figured v m → ⊥)
+  unsaid : ((v rest : List ℕ) (m : ℕ) → drop from s ≡ v ++ (d ∷ rest) → r .end ≡ from + length v → Plain pageDigits v m → ⊥)
       → NotSaid figure d s from
   unsaid k = record { unshaped = λ v rest e. go v rest e (figure v) refl }
     where
       go : (v rest : List ℕ) → drop from s ≡ v ++ (d ∷ rest) → (o : Option ℕ) → figure v ≡ o → figure v ≡ none
       go v rest e none f = f
-      go v rest e (some m) f = absurd (k v rest m e (ends v rest e m f) (digited v m f))
+      go v rest e (some m) f = absurd (k v rest m e (ends v rest e m f) (plain pageDigits v m f))
 
   -- no digit; no byte behind the digits; another one than the mark; a zero in front of others
   pub no-digit : r .end ≡ from → NotSaid figure d s from
-  no-digit q = unsaid (λ v rest m e h g. omega (arith, g .least))
+  no-digit q = unsaid (λ v rest m e h g. omega (arith, g .low))
 
   pub no-mark : r .end ≡ length s → NotSaid figure d s from
   no-mark q = unsaid (λ v rest m e h g. omega (arith, long v rest e))
@@ -153,7 +122,7 @@ module _ {s : List ℕ} {from : ℕ} {r : Digits} (D : DigitsFrom s from 13 r) (
   pub zero-first : from + 1 < r .end → getD s from 0 ≡ 48 → NotSaid figure d s from
   zero-first l z = unsaid (λ v rest m e h g.
       let k : from + 0 ≡ from = omega arith in
-      g .first (omega arith) (sym (before-mark v rest e 0 (omega arith)) ∙ ap (λ (i : ℕ). getD s i 0) k ∙ z))
+      g .head (omega arith) (sym (before-mark v rest e 0 (omega arith)) ∙ ap (λ (i : ℕ). getD s i 0) k ∙ z))
 
   -- a number
   pub figure-said : from < r .end → r .end < length s → getD s (r .end) 0 ≡ d → (from + 1 < r .end → getD s from 0 ≡ 48 → ⊥)
@@ -163,14 +132,14 @@ module _ {s : List ℕ} {from : ℕ} {r : Digits} (D : DigitsFrom s from 13 r) (
     cut = slice-cut s from (r .end) (D .low) h ∙ ap (λ (x : ℕ). slice from (r .end) s ++ (x ∷ drop (r .end + 1) s)) q;
     beyond = omega arith;
     within = omega arith;
-    shaped = numberOf-plain 13 (slice from (r .end) s) (omega (arith, length-slice from (r .end) s (D .high)))
+    shaped = numberOf-plain pageDigits (slice from (r .end) s) (omega (arith, length-slice from (r .end) s (D .high)))
         (omega (arith, length-slice from (r .end) s (D .high)))
         (λ k y. z (omega (arith, length-slice from (r .end) s (D .high))) (sym (slice-head s from (r .end) l (D .high)) ∙ y)) ∙ D .value;
   }
 
 -- WHAT STANDS IN NONE OF THEM
 pub figure-free : (e : ℕ) → (48 ≤ e → 57 < e) → Free figure e
-figure-free e h = record { without = λ v n q. ap (count e) (numberOf-exact 13 v n (omega arith) q .0) ∙ decimal-only e n h }
+figure-free e h = record { without = λ v n q. ap (count e) (numberOf-exact pageDigits v n (omega arith) q .0) ∙ decimal-only e n h }
 
 pub party-free : (e : ℕ) → (48 ≤ e → 57 < e) → count e (text globalWord) ≡ 0 → Free partyOf e
 party-free e h k = either-free (word globalWord globally) figure (word-free globally (text globalWord) e k) (figure-free e h)

@@ -280,10 +280,11 @@ module _ {A : Type 0} {B : Type 0} (f : List ℕ → Option B) (K : B → Parts 
           ∙ ap (firstIn K (parts e (y .value))) (x .shaped) ∙ y .shaped;
     }
 
--- the last part: a value that has no byte e
-some-part : (e : ℕ) (v : List ℕ) → (q : List ℕ) × (qs : List (List ℕ)) × (parts e v ≡ q ∷ qs)
+-- every text has a first part
+pub some-part : (e : ℕ) (v : List ℕ) → (q : List ℕ) × (qs : List (List ℕ)) × (parts e v ≡ q ∷ qs)
 some-part e v = (_, _, parts-cut e v)
 
+-- the last part: a value that has no byte e
 module _ {A : Type 0} {B : Type 0} (g : List ℕ → Option B) (k : B → A) (e : ℕ) where
   abbrev lastIn : List (List ℕ) → Option A
   lastIn = next g (λ b. over (k b))

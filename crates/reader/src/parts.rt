@@ -1,5 +1,6 @@
 // The parts of a page, each from a place on: the head, the records, the chains, what is held, the numbers, the last line. Where a line is
-// not well formed, `bad` is that line's number; else it is 0, `at` is where the next part begins and `line` the number of its first line.
+// not well formed, `bad` is that line's number; else it is 0, `at` is where the next part begins and `line` the number of its first line. What is
+// held and the numbers end where a line is none of theirs: whether that one is well formed is for the part behind them.
 ghost use Prim.Native.Nat.{_≤_};
 ghost use lib.ListN.{length};
 ghost use Rattle.text.specs.Text.{text};

@@ -101,6 +101,7 @@ pub(crate) fn word_to(s: &[u8], from: usize, word: &[u8], mark: u8) -> Place
     Place::At(end + 1)
 }
 
+// A number, with the mark behind it.
 pub(crate) fn figure_to(s: &[u8], from: usize, mark: u8) -> Figure
     requires { ⌜ from ≤ length (now s) ⌝ }
     requires { ⌜ upTo 48 57 mark ≡ false ⌝ }
@@ -161,6 +162,7 @@ fn coded_to(s: &[u8], from: usize, word: &[u8], mark: u8) -> Figure
     figure_to(s, i, mark)
 }
 
+// Why a program waits, with byte 10 behind it.
 pub(crate) fn reason_to(s: &[u8], from: usize) -> Reason
     requires { ⌜ from ≤ length (now s) ⌝ }
     ensures { λ r. ⌜ ReasonTo (now (s .entry)) from r ⌝ }

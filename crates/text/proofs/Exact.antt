@@ -50,13 +50,13 @@ horner-exact (x ∷ s) a n p b e =
     sym (append-assoc (decimal a) (x ∷ []) s) ∙ ap (λ (l : List ℕ). l ++ s) (sym w) ∙ horner-exact s a′ n (omega arith) b (i .2)
 
 -- what the answer says of the text
-record Plain (most : ℕ) (s : List ℕ) (n : ℕ) : Type 0 where
-  low : 1 ≤ length s
-  high : length s ≤ most
-  said : horner 0 s ≡ some n
-  head : 1 < length s → getD s 0 0 ≡ 48 → ⊥
+pub record Plain (most : ℕ) (s : List ℕ) (n : ℕ) : Type 0 where
+  pub low : 1 ≤ length s
+  pub high : length s ≤ most
+  pub said : horner 0 s ≡ some n
+  pub head : 1 < length s → getD s 0 0 ≡ 48 → ⊥
 
-plain : (most : ℕ) (s : List ℕ) (n : ℕ) → numberOf most s ≡ some n → Plain most s n
+pub plain : (most : ℕ) (s : List ℕ) (n : ℕ) → numberOf most s ≡ some n → Plain most s n
 unfolding numberOf
 plain most s n = go (upTo 1 most (length s) && (eqb (length s) 1 || not (eqb (getD s 0 0) 48))) refl
   where
