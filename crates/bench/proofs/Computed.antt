@@ -3,6 +3,7 @@
 use mathlib.Core.Path.{_≡_, refl}
 use Rattle.lists.specs.Lists.{same}
 use Rattle.text.specs.Text.{digits, decimal, numberOf, parts, entry}
+use Rattle.text.specs.Lines.{linesOf}
 use Rattle.clock.specs.Clock.{timeOf}
 use Rattle.records.specs.Names.{nameOf}
 use Rattle.records.specs.Records.{all, find, lowestUnused}
@@ -18,7 +19,7 @@ use Rattle.tables.specs.Calls.{served, asked}
 use Rattle.page.specs.Page.{bytes, usedIn, recordLines, chainLines, heldLine, heldLines, numberLine, numberLines, lines, page}
 use Rattle.console.specs.Line.{execs, numbers, forms, lineOf}
 use Rattle.console.specs.Console.{keyedIn}
-use Rattle.console.specs.Sheet.{answerLine, linesOf, printed, sheet}
+use Rattle.console.specs.Sheet.{answerLine, printed, sheet}
 use Rattle.history.specs.Runs as history
 use Rattle.bench.specs.Case.{tell, tellAll, printAll, toldAnew}
 use Rattle.bench.specs.Cases.{bench}

@@ -9,6 +9,7 @@ use mathlib.Core.List.{List, [], _∷_, _++_, append-nil, append-assoc}
 use lib.ListN.{take}
 use Rattle.lists.specs.Lists.{join}
 use Rattle.text.specs.Text.{parts}
+use Rattle.text.specs.Lines.{dropEmpty, linesOf, linesEnded, lastBytes}
 use Rattle.text.proofs.Fields.{parts-cut}
 use Rattle.tables.specs.declared.Tables.{Tables}
 use Rattle.tables.specs.Tables.{smallest}
@@ -17,10 +18,10 @@ use Rattle.rules.specs.Engine.{beside, notSound}
 use Rattle.page.specs.Paging.{Written}
 use Rattle.console.specs.Line.{Line, lineOf}
 use Rattle.console.specs.Console.{obeyed, keyed, keyedIn}
-use Rattle.console.specs.Sheet.{lent, shown, dropEmpty, linesOf, printed, sheet}
+use Rattle.console.specs.Sheet.{lent, shown, printed, sheet}
 use Rattle.console.proofs.LongLines.{cut-line}
-use Rattle.blocks.specs.Blocks.{ended, unended, tablesAfter, most, arriving}
-use Rattle.blocks.proofs.Cuts.{Plain, none, plain-take, parts-on, parts-plain, unended-plain, parts-append}
+use Rattle.blocks.specs.Blocks.{tablesAfter, most, arriving}
+use Rattle.blocks.proofs.Cuts.{Plain, none, plain-take, parts-on, parts-plain, lastBytes-plain, parts-append}
 
 -- lines behind lines
 pub printed-append : (t : Tables) (ls ms : List (List ℕ)) → printed t (ls ++ ms) ≡ printed t ls ++ printed (tablesAfter t ls) ms
@@ -83,23 +84,23 @@ cut-plain t {o} p y = go _ _ (parts-cut 10 y)
         ∙ ap (λ (ls : List (List ℕ)). printed t (dropEmpty ls)) (sym (parts-on p y f fs e))
 
 -- lines that ended, and then the rest
-lines-append : (s y : List ℕ) → dropEmpty (parts 10 (s ++ y)) ≡ ended (parts 10 s) ++ dropEmpty (parts 10 (unended (parts 10 s) ++ y))
+lines-append : (s y : List ℕ) → dropEmpty (parts 10 (s ++ y)) ≡ linesEnded (parts 10 s) ++ dropEmpty (parts 10 (lastBytes (parts 10 s) ++ y))
 lines-append s y =
-    let e = parts-cut 10 (unended (parts 10 s) ++ y) in
+    let e = parts-cut 10 (lastBytes (parts 10 s) ++ y) in
     ap dropEmpty (parts-append s y)
-    ∙ ap (λ (ls : List (List ℕ)). dropEmpty (ended (parts 10 s) ++ ls)) e
-    ∙ drop-empty (ended (parts 10 s)) _ _
-    ∙ ap (λ (ls : List (List ℕ)). ended (parts 10 s) ++ dropEmpty ls) (sym e)
+    ∙ ap (λ (ls : List (List ℕ)). dropEmpty (linesEnded (parts 10 s) ++ ls)) e
+    ∙ drop-empty (linesEnded (parts 10 s)) _ _
+    ∙ ap (λ (ls : List (List ℕ)). linesEnded (parts 10 s) ++ dropEmpty ls) (sym e)
 
 pub arrives : (t : Tables) {held : List ℕ} → Plain held → (bs : List (List ℕ)) → arriving t held bs ≡ printed t (linesOf (held ++ join bs))
 unfolding arriving linesOf
 arrives t {held} p [] = ap (λ (ls : List (List ℕ)). printed t (dropEmpty ls)) (sym (parts-plain p) ∙ ap (parts 10) (sym (append-nil held)))
 arrives t {held} p (b ∷ bs) =
     let s : List ℕ = held ++ b in
-    let ls : List (List ℕ) = ended (parts 10 s) in
-    let o : List ℕ = unended (parts 10 s) in
+    let ls : List (List ℕ) = linesEnded (parts 10 s) in
+    let o : List ℕ = lastBytes (parts 10 s) in
     let t′ : Tables = tablesAfter t ls in
-    ap (λ (xs : List ℕ). printed t ls ++ xs) (arrives t′ (plain-take most (unended-plain s)) bs ∙ cut-plain t′ (unended-plain s) (join bs))
+    ap (λ (xs : List ℕ). printed t ls ++ xs) (arrives t′ (plain-take most (lastBytes-plain s)) bs ∙ cut-plain t′ (lastBytes-plain s) (join bs))
     ∙ sym (printed-append t ls (dropEmpty (parts 10 (o ++ join bs))))
     ∙ ap (printed t) (sym (lines-append s (join bs)))
     ∙ ap (λ (xs : List ℕ). printed t (dropEmpty (parts 10 xs))) (append-assoc held b (join bs))

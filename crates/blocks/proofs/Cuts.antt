@@ -7,8 +7,8 @@ use mathlib.Core.List.{List, [], _∷_, _++_}
 use lib.ListN.{take}
 use lib.Dec.{eqb}
 use Rattle.text.specs.Text.{onFirst, parts}
+use Rattle.text.specs.Lines.{linesEnded, lastBytes}
 use Rattle.text.proofs.Fields.{parts-cut}
-use Rattle.blocks.specs.Blocks.{ended, unended}
 
 -- a text without byte 10
 pub data Plain : List ℕ → Type 0 where
@@ -35,47 +35,47 @@ parts-plain none = refl
 parts-plain (more {x} {xs} n p) = parts-miss x xs n ∙ ap (onFirst x) (parts-plain p)
 
 -- some parts, one at least
-ended-more : (l m : List ℕ) (ms ls : List (List ℕ)) → ls ≡ m ∷ ms → ended (l ∷ ls) ≡ l ∷ ended ls
-ended-more l m ms ls e = ap (λ (xs : List (List ℕ)). ended (l ∷ xs)) e ∙ ap (λ (xs : List (List ℕ)). l ∷ ended xs) (sym e)
+linesEnded-more : (l m : List ℕ) (ms ls : List (List ℕ)) → ls ≡ m ∷ ms → linesEnded (l ∷ ls) ≡ l ∷ linesEnded ls
+linesEnded-more l m ms ls e = ap (λ (xs : List (List ℕ)). linesEnded (l ∷ xs)) e ∙ ap (λ (xs : List (List ℕ)). l ∷ linesEnded xs) (sym e)
 
-unended-more : (l m : List ℕ) (ms ls : List (List ℕ)) → ls ≡ m ∷ ms → unended (l ∷ ls) ≡ unended ls
-unended-more l m ms ls e = ap (λ (xs : List (List ℕ)). unended (l ∷ xs)) e ∙ ap unended (sym e)
+lastBytes-more : (l m : List ℕ) (ms ls : List (List ℕ)) → ls ≡ m ∷ ms → lastBytes (l ∷ ls) ≡ lastBytes ls
+lastBytes-more l m ms ls e = ap (λ (xs : List (List ℕ)). lastBytes (l ∷ xs)) e ∙ ap lastBytes (sym e)
 
-pub ended-next : (l s : List ℕ) → ended (l ∷ parts 10 s) ≡ l ∷ ended (parts 10 s)
-ended-next l s = ended-more l _ _ (parts 10 s) (parts-cut 10 s)
+pub linesEnded-next : (l s : List ℕ) → linesEnded (l ∷ parts 10 s) ≡ l ∷ linesEnded (parts 10 s)
+linesEnded-next l s = linesEnded-more l _ _ (parts 10 s) (parts-cut 10 s)
 
-pub unended-next : (l s : List ℕ) → unended (l ∷ parts 10 s) ≡ unended (parts 10 s)
-unended-next l s = unended-more l _ _ (parts 10 s) (parts-cut 10 s)
+pub lastBytes-next : (l s : List ℕ) → lastBytes (l ∷ parts 10 s) ≡ lastBytes (parts 10 s)
+lastBytes-next l s = lastBytes-more l _ _ (parts 10 s) (parts-cut 10 s)
 
 -- the unended part has no byte 10
-pub unended-plain : (s : List ℕ) → Plain (unended (parts 10 s))
+pub lastBytes-plain : (s : List ℕ) → Plain (lastBytes (parts 10 s))
 unfolding parts
-unended-plain [] = none
-unended-plain (x ∷ xs) = go (eqb x 10) refl (unended-plain xs)
+lastBytes-plain [] = none
+lastBytes-plain (x ∷ xs) = go (eqb x 10) refl (lastBytes-plain xs)
   where
-    first : (ls : List (List ℕ)) → eqb x 10 ≡ false → Plain (unended ls) → Plain (unended (onFirst x ls))
+    first : (ls : List (List ℕ)) → eqb x 10 ≡ false → Plain (lastBytes ls) → Plain (lastBytes (onFirst x ls))
     first [] n p = more n none
     first (f ∷ []) n p = more n p
     first (f ∷ g ∷ gs) n p = p
 
-    go : (t : Bool) → eqb x 10 ≡ t → Plain (unended (parts 10 xs)) → Plain (unended (cond t ([] ∷ parts 10 xs) (onFirst x (parts 10 xs))))
-    go true e p = rw (unended-next [] xs) p
+    go : (t : Bool) → eqb x 10 ≡ t → Plain (lastBytes (parts 10 xs)) → Plain (lastBytes (cond t ([] ∷ parts 10 xs) (onFirst x (parts 10 xs))))
+    go true e p = rw (lastBytes-next [] xs) p
     go false e p = first (parts 10 xs) e p
 
-pub parts-append : (s y : List ℕ) → parts 10 (s ++ y) ≡ ended (parts 10 s) ++ parts 10 (unended (parts 10 s) ++ y)
+pub parts-append : (s y : List ℕ) → parts 10 (s ++ y) ≡ linesEnded (parts 10 s) ++ parts 10 (lastBytes (parts 10 s) ++ y)
 unfolding parts
 parts-append [] y = refl
 parts-append (x ∷ xs) y = go (eqb x 10) refl (parts-append xs y)
   where
     first : (ls : List (List ℕ)) → eqb x 10 ≡ false
-        → onFirst x (ended ls ++ parts 10 (unended ls ++ y)) ≡ ended (onFirst x ls) ++ parts 10 (unended (onFirst x ls) ++ y)
+        → onFirst x (linesEnded ls ++ parts 10 (lastBytes ls ++ y)) ≡ linesEnded (onFirst x ls) ++ parts 10 (lastBytes (onFirst x ls) ++ y)
     first [] n = sym (parts-miss x y n)
     first (f ∷ []) n = sym (parts-miss x (f ++ y) n)
     first (f ∷ g ∷ gs) n = refl
 
-    go : (t : Bool) → eqb x 10 ≡ t → parts 10 (xs ++ y) ≡ ended (parts 10 xs) ++ parts 10 (unended (parts 10 xs) ++ y)
+    go : (t : Bool) → eqb x 10 ≡ t → parts 10 (xs ++ y) ≡ linesEnded (parts 10 xs) ++ parts 10 (lastBytes (parts 10 xs) ++ y)
         → cond t ([] ∷ parts 10 (xs ++ y)) (onFirst x (parts 10 (xs ++ y)))
-        ≡ ended (cond t ([] ∷ parts 10 xs) (onFirst x (parts 10 xs)))
-        ++ parts 10 (unended (cond t ([] ∷ parts 10 xs) (onFirst x (parts 10 xs))) ++ y)
-    go true e ih = rw (ended-next [] xs, unended-next [] xs) (ap (λ (ls : List (List ℕ)). [] ∷ ls) ih)
+        ≡ linesEnded (cond t ([] ∷ parts 10 xs) (onFirst x (parts 10 xs)))
+        ++ parts 10 (lastBytes (cond t ([] ∷ parts 10 xs) (onFirst x (parts 10 xs))) ++ y)
+    go true e ih = rw (linesEnded-next [] xs, lastBytes-next [] xs) (ap (λ (ls : List (List ℕ)). [] ∷ ls) ih)
     go false e ih = ap (onFirst x) ih ∙ first (parts 10 xs) e

@@ -13,6 +13,7 @@ use borrow.Rule.Slice.PartAt.{part-to-end}
 use borrow.Rule.Slice.PartMut.{putMid, post-is}
 use Rattle.limits.specs.Limits.{pageRoom}
 use Rattle.text.specs.Text.{parts}
+use Rattle.text.specs.Lines.{linesEnded}
 use Rattle.rules.specs.Answers as answers
 use Rattle.tables.specs.declared.Tables.{Tables}
 use Rattle.tables.specs.declared.Outcome.{Outcome}
@@ -23,8 +24,8 @@ use Rattle.console.specs.Console.{keyed}
 use Rattle.console.specs.Sheet.{bytesFor, lent, printedBytes, lineShown}
 use Rattle.console.proofs.OneLine.{shown-long, printed-fits}
 use Rattle.console.proofs.LineEnds.{LineEnd, line-within, line-taken}
-use Rattle.blocks.specs.Blocks.{ended, Turn, turn, turned}
-use Rattle.blocks.proofs.Cuts.{ended-next}
+use Rattle.blocks.specs.Blocks.{Turn, turn, turned}
+use Rattle.blocks.proofs.Cuts.{linesEnded-next}
 
 -- bytes and then a turn; a turn that is over
 abbrev pub behind : List ℕ → Turn → Turn
@@ -48,18 +49,18 @@ unfolding turn
 turn-none t ls at n e = rw e
 
 -- no line ends from here on
-pub no-lines : (s : List ℕ) (from e : ℕ) → LineEnd s from e → e ≡ length s → ended (parts 10 (drop from s)) ≡ []
+pub no-lines : (s : List ℕ) (from e : ℕ) → LineEnd s from e → e ≡ length s → linesEnded (parts 10 (drop from s)) ≡ []
 unfolding parts
 no-lines s from e E h = go (decLt (length s) from)
   where
-    go : Dec (length s < from) → ended (parts 10 (drop from s)) ≡ []
-    go (yes p) = ap (λ (r : List ℕ). ended (parts 10 r)) (drop-of-length-le s {i = from} (omega arith))
-    go (no p) = ap ended (E .line (omega arith) .last h)
+    go : Dec (length s < from) → linesEnded (parts 10 (drop from s)) ≡ []
+    go (yes p) = ap (λ (r : List ℕ). linesEnded (parts 10 r)) (drop-of-length-le s {i = from} (omega arith))
+    go (no p) = ap linesEnded (E .line (omega arith) .last h)
 
 -- a line ends at e
 pub one-line : (s : List ℕ) (from e : ℕ) → LineEnd s from e → from ≤ length s → e < length s
-    → ended (parts 10 (drop from s)) ≡ slice from e s ∷ ended (parts 10 (drop (e + 1) s))
-one-line s from e E p h = ap ended (E .line p .more h) ∙ ended-next (slice from e s) (drop (e + 1) s)
+    → linesEnded (parts 10 (drop from s)) ≡ slice from e s ∷ linesEnded (parts 10 (drop (e + 1) s))
+one-line s from e E p h = ap linesEnded (E .line p .more h) ∙ linesEnded-next (slice from e s) (drop (e + 1) s)
 
 -- the turn over a block, from place `at` on: some bytes are printed, and from place `from` on the turn is to go on
 pub record Going (t₀ : Tables) (block : List ℕ) (at : ℕ) (out₀ out : List ℕ) (t : Tables) (from used : ℕ) : Type 0 where
@@ -67,21 +68,21 @@ pub record Going (t₀ : Tables) (block : List ℕ) (at : ℕ) (out₀ out : Lis
   pub many : used ≡ length bytes
   pub fits : used ≤ length out₀
   pub buffer : out ≡ front bytes out₀
-  pub left : turn t₀ (ended (parts 10 (drop at block))) at (length out₀)
-      ≡ behind bytes (turn t (ended (parts 10 (drop from block))) from (length out₀ - used))
+  pub left : turn t₀ (linesEnded (parts 10 (drop at block))) at (length out₀)
+      ≡ behind bytes (turn t (linesEnded (parts 10 (drop from block))) from (length out₀ - used))
 
 pub going-start : (t : Tables) (block : List ℕ) (at : ℕ) (out : List ℕ) → Going t block at out out t at 0
 going-start t block at out =
     let n : length out ≡ length out - 0 = omega arith in
-    record { bytes = []; many = refl; fits = omega arith; buffer = refl; left = ap (turn t (ended (parts 10 (drop at block))) at) n }
+    record { bytes = []; many = refl; fits = omega arith; buffer = refl; left = ap (turn t (linesEnded (parts 10 (drop at block))) at) n }
 
 module _ {t₀ t : Tables} {block out₀ out : List ℕ} {at from used : ℕ} (g : Going t₀ block at out₀ out t from used) where
   -- the turn is over
-  pub going-over : turn t (ended (parts 10 (drop from block))) from (length out₀ - used) ≡ over t from
+  pub going-over : turn t (linesEnded (parts 10 (drop from block))) from (length out₀ - used) ≡ over t from
       → record { tables = t; place = from; used = used; buffer = out } ≡ turned t₀ block at out₀
   unfolding turned
   going-over h =
-      let e : turn t₀ (ended (parts 10 (drop at block))) at (length out₀) ≡ record { tables = t; place = from; bytes = g .bytes } =
+      let e : turn t₀ (linesEnded (parts 10 (drop at block))) at (length out₀) ≡ record { tables = t; place = from; bytes = g .bytes } =
       g .left ∙ ap (behind (g .bytes)) h ∙ (λ i. record { tables = t; place = from; bytes = append-nil (g .bytes) i })
       in
       (λ i. record { tables = t; place = from; used = g .many i; buffer = g .buffer i })
@@ -150,14 +151,14 @@ module _ {t₀ t : Tables} {block out₀ out : List ℕ} {at from used : ℕ} (g
 
     -- the turn from the next line on
     abbrev next : Turn
-    next = turn (r .tables) (ended (parts 10 (drop (e + 1) block))) (e + 1) (length out₀ - (used + n))
+    next = turn (r .tables) (linesEnded (parts 10 (drop (e + 1) block))) (e + 1) (length out₀ - (used + n))
 
-    left : turn t (ended (parts 10 (drop from block))) from (length out₀ - used) ≡ behind put next
+    left : turn t (linesEnded (parts 10 (drop from block))) from (length out₀ - used) ≡ behind put next
     left =
         let len : length line ≡ e - from = length-slice from e block (omega arith) in
         let place : from + length line + 1 ≡ e + 1 = omega (arith, low) in
         let rest : length out₀ - used - length put ≡ length out₀ - (used + n) = omega (arith, many) in
-        let ls : List (List ℕ) = ended (parts 10 (drop (e + 1) block)) in
+        let ls : List (List ℕ) = linesEnded (parts 10 (drop (e + 1) block)) in
         let t′ : keyed t line lent .tables ≡ r .tables = sym (ap (λ (w : Written). w .tables) printing) in
         ap (λ (xs : List (List ℕ)). turn t xs from (length out₀ - used)) (one-line block from e E (line-within E ends) ends)
         ∙ turn-next t line ls from (length out₀ - used) big

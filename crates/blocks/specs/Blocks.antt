@@ -10,21 +10,11 @@ use lib.Seq.{slice}
 use lib.Dec.{leb, eqb}
 use Rattle.limits.specs.Limits.{longestLine, pageRoom}
 use Rattle.text.specs.Text.{parts}
+use Rattle.text.specs.Lines.{dropEmpty, linesEnded, lastBytes}
 use Rattle.tables.specs.declared.Tables.{Tables}
 use Rattle.rules.specs.Engine.{front}
 use Rattle.console.specs.Console.{keyed}
-use Rattle.console.specs.Sheet.{lent, bytesFor, printed, dropEmpty}
-
--- of the parts of a block, those that byte 10 ended; and the last, which it did not
-abbrev pub ended : List (List ℕ) → List (List ℕ)
-ended [] = []
-ended (l ∷ []) = []
-ended (l ∷ m ∷ ls) = l ∷ ended (m ∷ ls)
-
-abbrev pub unended : List (List ℕ) → List ℕ
-unended [] = []
-unended (l ∷ []) = l
-unended (l ∷ m ∷ ls) = unended (m ∷ ls)
+use Rattle.console.specs.Sheet.{lent, bytesFor, printed}
 
 -- the tables after some lines; what they print is `printed`
 unfoldable pub tablesAfter : Tables → List (List ℕ) → Tables
@@ -58,7 +48,7 @@ pub record Turned : Type 0 where
 
 unfoldable pub turned : Tables → List ℕ → ℕ → List ℕ → Turned
 turned t block at out =
-    let x : Turn = turn t (ended (parts 10 (drop at block))) at (length out) in
+    let x : Turn = turn t (linesEnded (parts 10 (drop at block))) at (length out) in
     record { tables = x .tables; place = x .place; used = length (x .bytes); buffer = front (x .bytes) out }
 
 -- what is held of a line that goes on behind the block: a byte more than a line may have is enough, since a longer line is not understood
@@ -86,13 +76,13 @@ unfoldable pub arriving : Tables → List ℕ → List (List ℕ) → List ℕ
 arriving t held [] = printed t (dropEmpty (held ∷ []))
 arriving t held (b ∷ bs) =
     let ls : List (List ℕ) = parts 10 (held ++ b) in
-    printed t (ended ls) ++ arriving (tablesAfter t (ended ls)) (take most (unended ls)) bs
+    printed t (linesEnded ls) ++ arriving (tablesAfter t (linesEnded ls)) (take most (lastBytes ls)) bs
 
 -- Turn after turn over one block, each into n emptied bytes, until one prints nothing; k turns at most
 unfoldable pub turns : ℕ → Tables → List ℕ → ℕ → ℕ → Turn
 turns zero t block at n = record { tables = t; place = at; bytes = [] }
 turns (suc k) t block at n =
-    let x : Turn = turn t (ended (parts 10 (drop at block))) at n in
+    let x : Turn = turn t (linesEnded (parts 10 (drop at block))) at n in
     let y : Turn = turns k (x .tables) block (x .place) n in
     elim (eqb (length (x .bytes)) 0) [
       | true ↦ x
@@ -101,13 +91,13 @@ turns (suc k) t block at n =
 
 -- that is what the lines which end in the block from a place on print, the tables after them, and the place behind the last of them
 pub record All (t : Tables) (block : List ℕ) (at : ℕ) (x : Turn) : Type 0 where
-  pub bytes : x .bytes ≡ printed t (ended (parts 10 (drop at block)))
-  pub tables : x .tables ≡ tablesAfter t (ended (parts 10 (drop at block)))
-  pub rest : drop (x .place) block ≡ unended (parts 10 (drop at block))
+  pub bytes : x .bytes ≡ printed t (linesEnded (parts 10 (drop at block)))
+  pub tables : x .tables ≡ tablesAfter t (linesEnded (parts 10 (drop at block)))
+  pub rest : drop (x .place) block ≡ lastBytes (parts 10 (drop at block))
 
 -- What the turns over a block s, and the carrying behind them, come to: what `arriving` prints for it, and the tables
 -- and the held bytes that it goes on with.
 pub record OneBlock (t : Tables) (s : List ℕ) (x : Turn) (c : Carried) : Type 0 where
-  pub bytes : x .bytes ≡ printed t (ended (parts 10 s))
-  pub tables : x .tables ≡ tablesAfter t (ended (parts 10 s))
-  pub held : take (c .held) (c .block) ≡ take most (unended (parts 10 s))
+  pub bytes : x .bytes ≡ printed t (linesEnded (parts 10 s))
+  pub tables : x .tables ≡ tablesAfter t (linesEnded (parts 10 s))
+  pub held : take (c .held) (c .block) ≡ take most (lastBytes (parts 10 s))

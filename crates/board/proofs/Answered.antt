@@ -16,7 +16,7 @@ use Rattle.rules.specs.Engine.{front}
 use Rattle.page.proofs.Writing.{wrote-as}
 use Rattle.rules.specs.declared.Answer.{Answer}
 use Rattle.rules.specs.declared.Answer.the-variants.{Done, Told, Waits, NoCaller, NotAllowed, NoProgram, WrongState, NameInUse, AllUsed}
-use Rattle.rules.specs.declared.Answer.the-variants.{NoRoom, NotHolder, NotAllocated, AtCeiling, TooShort, NotUnderstood, NotSound, NotRead}
+use Rattle.rules.specs.declared.Answer.the-variants.{NoRoom, NotHolder, NotAllocated, AtCeiling, TooShort, NotUnderstood, NotSound, NotRead, InNeither}
 use Rattle.rules.specs.Answers.{number, values}
 use Rattle.rules.proofs.Answer.{the-type}
 use Rattle.board.specs.Packed.{inBytes}
@@ -29,10 +29,10 @@ five a = take 5 (values a ++ replicate {A = ℕ} 5 0)
 -- the places among all of the answers that hold nothing, and of those that are no time: the first have the value 0, the
 -- others one value, and four 0 behind it
 abbrev bare : List ℕ
-bare = 3 ∷ 4 ∷ 5 ∷ 7 ∷ 8 ∷ 9 ∷ 10 ∷ 11 ∷ 12 ∷ 14 ∷ 15 ∷ []
+bare = 3 ∷ 4 ∷ 5 ∷ 7 ∷ 8 ∷ 9 ∷ 10 ∷ 11 ∷ 12 ∷ 14 ∷ 15 ∷ 17 ∷ []
 
 abbrev timeless : List ℕ
-timeless = 0 ∷ 2 ∷ 3 ∷ 4 ∷ 5 ∷ 6 ∷ 7 ∷ 8 ∷ 9 ∷ 10 ∷ 11 ∷ 12 ∷ 13 ∷ 14 ∷ 15 ∷ 16 ∷ []
+timeless = 0 ∷ 2 ∷ 3 ∷ 4 ∷ 5 ∷ 6 ∷ 7 ∷ 8 ∷ 9 ∷ 10 ∷ 11 ∷ 12 ∷ 13 ∷ 14 ∷ 15 ∷ 16 ∷ 17 ∷ []
 
 said : (a : Answer)
     → (OneOf bare (tagOf the-type a) → 0 ≡ getD (values a) 0 0)
@@ -54,6 +54,7 @@ said (TooShort n) = (λ h. absurd (miss bare 13 tt h), λ h. refl)
 said NotUnderstood = (λ h. refl, λ h. refl)
 said NotSound = (λ h. refl, λ h. refl)
 said (NotRead n) = (λ h. absurd (miss bare 16 tt h), λ h. refl)
+said InNeither = (λ h. refl, λ h. refl)
 
 pub first-none : (a : Answer) → OneOf bare (tagOf the-type a) → 0 ≡ getD (values a) 0 0
 first-none a = (said a) .0

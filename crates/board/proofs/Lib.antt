@@ -6,7 +6,6 @@ pub mod OneForm
 pub mod Answered
 pub mod Agreed
 pub mod Determined
-pub mod Lines
 pub mod Whole
 pub mod Refused
 pub mod ReadingBack

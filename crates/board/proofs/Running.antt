@@ -9,8 +9,10 @@ use mathlib.Core.List.{List, [], _∷_}
 use mathlib.Core.Logic.{_⊎_, inl, inr}
 use lib.ListN.{length, take, drop}
 use lib.Seq.{slice, take-at}
+use Rattle.text.specs.Lines.{linesOf}
 use Rattle.limits.specs.Limits.{pageRoom}
 use Rattle.text.specs.Inner.{Wrote}
+use Rattle.text.proofs.Lines.{lines-none, lines-next}
 use Rattle.text.proofs.Laws.{Left, left-start, left-step, left-end, wrote-front}
 use Rattle.page.proofs.Writing.{left-as, wrote-as}
 use Rattle.rules.specs.Answers as answers
@@ -22,12 +24,11 @@ use Rattle.tables.specs.Tables.{lay, smallest}
 use Rattle.tables.specs.Calls.{Result, told, made}
 use Rattle.rules.specs.Engine.{beside, front, madeBy}
 use Rattle.page.specs.Paging.{Written}
-use Rattle.console.specs.Sheet.{bytesFor, lineShown, printedBytes, linesOf, printed, sheet}
+use Rattle.console.specs.Sheet.{bytesFor, lineShown, printedBytes, printed, sheet}
 use Rattle.console.proofs.LineEnds.{LineEnd}
 use Rattle.console.proofs.OneLine.{shown-long, printed-fits}
 use Rattle.board.specs.Board.{figures, figuresLength, answering, longest, filled, ran}
 use Rattle.board.proofs.Answered.{answering-put}
-use Rattle.board.proofs.Lines.{lines-none, lines-next}
 use Rattle.board.proofs.Whole.{after, printed-length, printed-none, filled-fits, filled-over, filled-none, filled-most, ran-put}
 
 -- FRESH of the smallest tables yields them, allowed or not
@@ -108,7 +109,7 @@ module _ {s out₀ out : List ℕ} {t : Tables} {from used needed : ℕ} {full :
   behind = linesOf (drop (e + 1) s)
 
   split : linesOf (drop from s) ≡ line ∷ behind
-  split = lines-next s from e (T .more) (T .ends)
+  split = lines-next s from e (T .more) (T .ends .line (omega (arith, T .more)))
 
   count-on : needed + n + length (printed t′ behind) ≡ length (sheet s)
   count-on =

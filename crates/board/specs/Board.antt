@@ -6,6 +6,7 @@ use mathlib.Core.Bool.{Bool, true, false, cond, _&&_}
 use mathlib.Core.List.{List, [], _∷_, _++_, map}
 use lib.ListN.{length, take, replicate}
 use lib.Dec.{leb, eqb}
+use Rattle.text.specs.Lines.{linesOf}
 use Rattle.lists.specs.Lists.{hit, alike, join}
 use Rattle.tables.specs.declared.Tables.{Tables}
 use Rattle.tables.specs.Tables.{smallest}
@@ -15,7 +16,7 @@ use Rattle.tables.specs.Calls.{Result}
 use Rattle.page.specs.Paging.{Written}
 use Rattle.reader.specs.Reading.{reading}
 use Rattle.console.specs.Console.{keyed}
-use Rattle.console.specs.Sheet.{lent, bytesFor, linesOf, sheet}
+use Rattle.console.specs.Sheet.{lent, bytesFor, sheet}
 use Rattle.board.specs.Packed.{inBytes, packedLength, packed, unpacked}
 
 -- what is put of the output of some lines where n bytes are lent: that of each line as long as it fits

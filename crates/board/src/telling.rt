@@ -35,7 +35,8 @@ fn first_value(answer: Answer) -> u64
         | Answer::NotAllocated
         | Answer::AtCeiling
         | Answer::NotUnderstood
-        | Answer::NotSound => 0,
+        | Answer::NotSound
+        | Answer::InNeither => 0,
     }
 }
 

@@ -18,7 +18,7 @@ use Rattle.clock.specs.declared.Time.{Time}
 use Rattle.clock.specs.Clock.{partsOf}
 use Rattle.rules.specs.declared.Answer.{Answer}
 use Rattle.rules.specs.declared.Answer.the-variants.{Done, Told, Waits, NoCaller, NotAllowed, NoProgram, WrongState, NameInUse, AllUsed}
-use Rattle.rules.specs.declared.Answer.the-variants.{NoRoom, NotHolder, NotAllocated, AtCeiling, TooShort, NotUnderstood, NotSound, NotRead}
+use Rattle.rules.specs.declared.Answer.the-variants.{NoRoom, NotHolder, NotAllocated, AtCeiling, TooShort, NotUnderstood, NotSound, NotRead, InNeither}
 use Rattle.rules.specs.Answers.{number, values}
 use Rattle.rules.proofs.Answer.{the-type}
 use Rattle.rules.proofs.shared.OneAnswer.{one-answer}
@@ -54,10 +54,11 @@ one-value (TooShort n) = inl refl
 one-value NotUnderstood = inl refl
 one-value NotSound = inl refl
 one-value (NotRead n) = inl refl
+one-value InNeither = inl refl
 
 -- the places among all of those that tell none
 abbrev timeless : List ℕ
-timeless = 0 ∷ 2 ∷ 3 ∷ 4 ∷ 5 ∷ 6 ∷ 7 ∷ 8 ∷ 9 ∷ 10 ∷ 11 ∷ 12 ∷ 13 ∷ 14 ∷ 15 ∷ 16 ∷ []
+timeless = 0 ∷ 2 ∷ 3 ∷ 4 ∷ 5 ∷ 6 ∷ 7 ∷ 8 ∷ 9 ∷ 10 ∷ 11 ∷ 12 ∷ 13 ∷ 14 ∷ 15 ∷ 16 ∷ 17 ∷ []
 
 pub no-time : (a : Answer) → OneOf timeless (tagOf the-type a) → valuesLine a ≡ decimal (single (values a))
 no-time a h =
@@ -107,7 +108,7 @@ answer-room a = omega (arith, answer-length a (number a) refl, values-room a, de
 
 -- an answer at another place than `Done` is not that, and has no bytes printed
 abbrev behind : List ℕ
-behind = 1 ∷ 2 ∷ 3 ∷ 4 ∷ 5 ∷ 6 ∷ 7 ∷ 8 ∷ 9 ∷ 10 ∷ 11 ∷ 12 ∷ 13 ∷ 14 ∷ 15 ∷ 16 ∷ []
+behind = 1 ∷ 2 ∷ 3 ∷ 4 ∷ 5 ∷ 6 ∷ 7 ∷ 8 ∷ 9 ∷ 10 ∷ 11 ∷ 12 ∷ 13 ∷ 14 ∷ 15 ∷ 16 ∷ 17 ∷ []
 
 pub done-not : (a : Answer) → OneOf behind (tagOf the-type a) → (v : ℕ) → a ≡ Done v → ⊥
 done-not a h v d = miss behind 0 tt (subst (λ (x : Answer). OneOf behind (tagOf the-type x)) d h)

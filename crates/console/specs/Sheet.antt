@@ -7,6 +7,7 @@ use lib.ListN.{length, getD, drop, replicate}
 use lib.Dec.{leb, eqb}
 use Rattle.limits.specs.Limits.{pageRoom}
 use Rattle.text.specs.Text.{text, decimal, between, parts}
+use Rattle.text.specs.Lines.{linesOf}
 use Rattle.tables.specs.declared.Tables.{Tables}
 use Rattle.tables.specs.Tables.{plain, smallest}
 use Rattle.page.specs.Page.{page}
@@ -20,8 +21,11 @@ abbrev pub lent : List ℕ
 lent = replicate pageRoom 0
 
 -- `answer=a,value=v`, the parts of a time joined by dots
+abbrev pub answerOf : ℕ → List ℕ → List ℕ
+answerOf a vs = text "answer=" ++ decimal a ++ text ",value=" ++ between 46 (map decimal vs) ++ (10 ∷ [])
+
 unfoldable pub answerLine : Written → List ℕ
-answerLine r = text "answer=" ++ decimal (r .number) ++ text ",value=" ++ between 46 (map decimal (r .values)) ++ (10 ∷ [])
+answerLine r = answerOf (r .number) (r .values)
 
 -- for PAGE the page instead
 abbrev pub shown : Line → Tables → Written → List ℕ
@@ -50,16 +54,6 @@ printedBytes a vs = cond (eqb a 0 && eqb (length vs) 1) (getD vs 0 0) 0
 -- where the line that begins at a place of a block ends: at its byte 10, or at the block's end
 unfoldable pub lineEnd : List ℕ → ℕ → ℕ
 lineEnd s at = cond (leb at (length s)) (at + length (getD (parts 10 (drop at s)) 0 [])) (length s)
-
--- the lines of a text: a last one without byte 10 counts
-abbrev pub dropEmpty : List (List ℕ) → List (List ℕ)
-dropEmpty [] = []
-dropEmpty ([] ∷ []) = []
-dropEmpty ((x ∷ xs) ∷ []) = (x ∷ xs) ∷ []
-dropEmpty (l ∷ m ∷ ls) = l ∷ dropEmpty (m ∷ ls)
-
-unfoldable pub linesOf : List ℕ → List (List ℕ)
-linesOf s = dropEmpty (parts 10 s)
 
 -- line after line, the tables handed on
 unfoldable pub printed : Tables → List (List ℕ) → List ℕ

@@ -34,6 +34,7 @@ pub fn number_of(answer: Answer) -> u64
         Answer::NotUnderstood => 13,
         Answer::NotSound => 14,
         Answer::NotRead(_) => 15,
+        Answer::InNeither => 17,
     }
 }
 
@@ -69,6 +70,7 @@ fn value_of(answer: Answer) -> u64
         Answer::NotUnderstood => 0,
         Answer::NotSound => 0,
         Answer::NotRead(n) => n,
+        Answer::InNeither => 0,
     }
 }
 
@@ -104,7 +106,7 @@ fn put_values(buf: &mut [u8], at: usize, answer: Answer) -> usize
 }
 
 // The line for an answer, at the front.
-pub(crate) fn put_answer(buf: &mut [u8], answer: Answer) -> usize
+pub fn put_answer(buf: &mut [u8], answer: Answer) -> usize
     requires { ⌜ length (answerBytes answer) ≤ length (now buf) ⌝ }
     ensures { λ r. ⌜ Wrote (now (buf .entry)) 0 (answerBytes answer) (now (buf .exit)) r ⌝ }
 {

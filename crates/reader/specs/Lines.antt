@@ -7,6 +7,7 @@ use mathlib.Core.List.{List, [], _∷_}
 use mathlib.Core.Option.{Option, none, some}
 use lib.ListN.{length, getD, take}
 use Rattle.text.specs.Text.{parts}
+use Rattle.text.specs.Lines.{linesEnded, lastBytes}
 use Rattle.tables.specs.declared.Tables.{Tables}
 use Rattle.tables.specs.Tables.{plain, Arrays}
 use Rattle.tables.specs.Sound.{Sound}
@@ -14,19 +15,9 @@ use Rattle.page.specs.Page.{page}
 use Rattle.reader.specs.Order.{Place, heading, headForms, behindLine, ended}
 use Rattle.reader.specs.Reading.{wasRead, reading}
 
--- the lines of a text that are ended by byte 10, and the bytes behind the last of these
-abbrev pub linesEnded : List (List ℕ) → List (List ℕ)
-linesEnded [] = []
-linesEnded (l ∷ []) = []
-linesEnded (l ∷ m ∷ ls) = l ∷ linesEnded (m ∷ ls)
-
-abbrev pub lastBytes : List (List ℕ) → List ℕ
-lastBytes [] = []
-lastBytes (l ∷ []) = l
-lastBytes (l ∷ m ∷ ls) = lastBytes (m ∷ ls)
-
-abbrev pub linesOf : List ℕ → List (List ℕ)
-linesOf s = linesEnded (parts 10 s)
+-- the lines of a text that are ended by byte 10
+abbrev pub endedLines : List ℕ → List (List ℕ)
+endedLines s = linesEnded (parts 10 s)
 
 -- lines one after another, each of them well formed where it stands: where the reader stands behind them
 abbrev pub behindThese : Place → List (List ℕ) → Option Place
@@ -35,18 +26,18 @@ behindThese p (l ∷ ls) = elim (behindLine p l) [ none ↦ none | some q ↦ be
 
 -- the first k lines of a text are well formed, and the reader stands at p behind them
 pub record FormedTo (s : List ℕ) (k : ℕ) (p : Place) : Type 0 where
-  pub there : k ≤ length (linesOf s)
-  pub formed : behindThese (heading headForms) (take k (linesOf s)) ≡ some p
+  pub there : k ≤ length (endedLines s)
+  pub formed : behindThese (heading headForms) (take k (endedLines s)) ≡ some p
 
 -- Line k + 1 is the first that is not well formed: those before it are, and it may not come; or it is not there, or not ended, and the
 -- page is not at its end before it
 pub data FirstNot (s : List ℕ) (k : ℕ) : Type 0 where
-  not-formed : (p : Place) → FormedTo s k p → k < length (linesOf s) → behindLine p (getD (linesOf s) k []) ≡ none → FirstNot s k
-  not-there : (p : Place) → FormedTo s k p → k ≡ length (linesOf s) → (p ≡ ended → lastBytes (parts 10 s) ≡ [] → ⊥) → FirstNot s k
+  not-formed : (p : Place) → FormedTo s k p → k < length (endedLines s) → behindLine p (getD (endedLines s) k []) ≡ none → FirstNot s k
+  not-there : (p : Place) → FormedTo s k p → k ≡ length (endedLines s) → (p ≡ ended → lastBytes (parts 10 s) ≡ [] → ⊥) → FirstNot s k
 
 -- all lines are well formed, and the page is at its end behind the last
 pub record AllFormed (s : List ℕ) : Type 0 where
-  pub formed : behindThese (heading headForms) (linesOf s) ≡ some ended
+  pub formed : behindThese (heading headForms) (endedLines s) ≡ some ended
   pub nothing : lastBytes (parts 10 s) ≡ []
 
 -- sound tables write these bytes

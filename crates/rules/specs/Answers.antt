@@ -6,7 +6,7 @@ use Rattle.clock.specs.Clock.{partsOf}
 use Rattle.rules.specs.declared.Answer.{Answer}
 use Rattle.rules.specs.declared.Answer.the-variants.{Done, Told, Waits, NoCaller, NotAllowed, NoProgram, WrongState, NameInUse}
 use Rattle.rules.specs.declared.Answer.the-variants.{AllUsed, NoRoom, NotHolder, NotAllocated, AtCeiling, TooShort, NotUnderstood}
-use Rattle.rules.specs.declared.Answer.the-variants.{NotSound, NotRead}
+use Rattle.rules.specs.declared.Answer.the-variants.{NotSound, NotRead, InNeither}
 
 abbrev pub number : Answer → ℕ
 number (Done v) = 0
@@ -26,6 +26,7 @@ number (TooShort n) = 12
 number NotUnderstood = 13
 number NotSound = 14
 number (NotRead n) = 15
+number InNeither = 17
 
 -- one value, or the five parts of the time
 abbrev pub values : Answer → List ℕ
@@ -46,3 +47,4 @@ values (TooShort n) = n ∷ []
 values NotUnderstood = 0 ∷ []
 values NotSound = 0 ∷ []
 values (NotRead n) = n ∷ []
+values InNeither = 0 ∷ []

@@ -20,6 +20,7 @@ pub enum Answer {
     NotUnderstood,
     NotSound,
     NotRead(u64),
+    InNeither,
 }
 
 // What the operator asks of a program. A name stands beside a request, since an enum holds no array.

@@ -7,10 +7,11 @@ use mathlib.Core.List.{List}
 use Prim.Native.Nat.{ℕ}
 use lib.ListN.{drop}
 use Rattle.text.specs.Text.{parts}
+use Rattle.text.specs.Lines.{linesEnded, lastBytes}
 use Rattle.tables.specs.declared.Tables.{Tables}
-use Rattle.blocks.specs.Blocks.{ended, unended, tablesAfter}
+use Rattle.blocks.specs.Blocks.{tablesAfter}
 use Rattle.sheet.specs.declared.Printed.{Printed}
 
 pub record Through (t : Tables) (block : List ℕ) (r : Printed) : Type 0 where
-  pub tables : r .written ≡ true → r .tables ≡ tablesAfter t (ended (parts 10 block))
-  pub rest : r .written ≡ true → drop (r .place) block ≡ unended (parts 10 block)
+  pub tables : r .written ≡ true → r .tables ≡ tablesAfter t (linesEnded (parts 10 block))
+  pub rest : r .written ≡ true → drop (r .place) block ≡ lastBytes (parts 10 block)

@@ -3,3 +3,4 @@ pub mod Fields
 pub mod Read
 pub mod Exact
 pub mod Words
+pub mod Lines

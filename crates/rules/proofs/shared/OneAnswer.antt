@@ -9,7 +9,7 @@ use lib.Dec.{eqb}
 use Rattle.rules.specs.declared.Answer.{Answer}
 use Rattle.rules.specs.declared.Answer.the-variants.{Done, Told, Waits, NoCaller, NotAllowed, NoProgram}
 use Rattle.rules.specs.declared.Answer.the-variants.{WrongState, NameInUse, AllUsed, NoRoom, NotHolder}
-use Rattle.rules.specs.declared.Answer.the-variants.{NotAllocated, AtCeiling, TooShort, NotUnderstood, NotSound, NotRead}
+use Rattle.rules.specs.declared.Answer.the-variants.{NotAllocated, AtCeiling, TooShort, NotUnderstood, NotSound, NotRead, InNeither}
 use Rattle.rules.specs.Answers.{number, values}
 
 -- done with a value, or with a time
@@ -38,7 +38,8 @@ caseOf n vs =
     (cond (eqb n 11) AtCeiling
     (cond (eqb n 12) (TooShort (getD vs 0 0))
     (cond (eqb n 13) NotUnderstood
-    (cond (eqb n 14) NotSound (NotRead (getD vs 0 0))))))))))))))))
+    (cond (eqb n 14) NotSound
+    (cond (eqb n 15) (NotRead (getD vs 0 0)) InNeither)))))))))))))))
 
 case-is : (a : Answer) → caseOf (number a) (values a) ≡ a
 case-is (Done v) = refl
@@ -58,6 +59,7 @@ case-is (TooShort n) = refl
 case-is NotUnderstood = refl
 case-is NotSound = refl
 case-is (NotRead n) = refl
+case-is InNeither = refl
 
 pub one-answer : (a b : Answer) → number a ≡ number b → values a ≡ values b → a ≡ b
 one-answer a b n v = sym (case-is a) ∙ (λ i. caseOf (n i) (v i)) ∙ case-is b

@@ -10,17 +10,17 @@ use lib.ListN.{length, drop}
 use borrow.Author.Needs.{needs}
 use Rattle.lists.proofs.Tests.{false-true}
 use Rattle.text.specs.Text.{parts}
+use Rattle.text.specs.Lines.{linesEnded}
 use Rattle.tables.specs.declared.Tables.{Tables}
-use Rattle.blocks.specs.Blocks.{ended}
 use Rattle.blocks.proofs.AllTurns.{turned-fits, Onward, onward-start, onward-turn, onward-none}
-use Rattle.blocks.proofs.AllTurns.{ended-few, turn-fewer, turn-last, no-lines-left}
+use Rattle.blocks.proofs.AllTurns.{linesEnded-few, turn-fewer, turn-last, no-lines-left}
 use Rattle.sheet.specs.Inner.{Through}
 use Rattle.sheet.proofs.print_turns.Statement.{statement}
 use Rattle.sheet.proofs.print_turns.Tie as tie
 
 abbrev Inv-loop : tie.InvT-loop
 Inv-loop block out₀ t₀ from₀ left₀ out t from left =
-    (length out ≡ length out₀) × Onward t₀ block t from × (length (ended (parts 10 (drop from block))) ≤ left)
+    (length out ≡ length out₀) × Onward t₀ block t from × (length (linesEnded (parts 10 (drop from block))) ≤ left)
 
 abbrev μ-loop : tie.MeasureT-loop
 μ-loop block out₀ t₀ from₀ left₀ out t from left = left
@@ -28,12 +28,12 @@ abbrev μ-loop : tie.MeasureT-loop
 abbrev Block : tie.At-loop Inv-loop μ-loop → List ℕ
 Block c = c .before .before .before .args .block .now
 
-through : {t₀ t : Tables} {block : List ℕ} {from : ℕ} → Onward t₀ block t from → ended (parts 10 (drop from block)) ≡ []
+through : {t₀ t : Tables} {block : List ℕ} {from : ℕ} → Onward t₀ block t from → linesEnded (parts 10 (drop from block)) ≡ []
     → Through t₀ block (record { tables = t; place = from; written = true })
 through o e = let n = onward-none o e in record { tables = λ w. n .0; rest = λ w. n .1 }
 
 loop-holds : tie.Need-loop-holds Inv-loop μ-loop
-loop-holds c = let a = c .before .before .args in (refl, onward-start (a .tables) (a .block .now), ended-few (a .block .now))
+loop-holds c = let a = c .before .before .args in (refl, onward-start (a .tables) (a .block .now), linesEnded-few (a .block .now))
 
 write-front-requires : tie.Need-write-front-requires Inv-loop μ-loop
 write-front-requires c κs =
@@ -59,7 +59,7 @@ loop-again c =
 returns-2 : tie.Need-returns-2 Inv-loop μ-loop
 returns-2 c =
     let l = c .before in
-    through (l .loop .inv .1) (no-lines-left (ended (parts 10 (drop (l .loop .from) (Block l)))) (omega (arith, l .loop .inv .2)))
+    through (l .loop .inv .1) (no-lines-left (linesEnded (parts 10 (drop (l .loop .from) (Block l)))) (omega (arith, l .loop .inv .2)))
 
 returns-3 : tie.Need-returns-3 Inv-loop μ-loop
 returns-3 c =

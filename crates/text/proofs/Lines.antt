@@ -7,11 +7,10 @@ use mathlib.Core.Path.{_≡_, refl, sym, ap, _∙_}
 use mathlib.Core.List.{List, [], _∷_}
 use lib.ListN.{length, getD, drop, drop-of-length-le}
 use lib.Seq.{slice}
 use Rattle.text.specs.Text.{parts}
+use Rattle.text.specs.Lines.{dropEmpty, linesOf}
 use Rattle.text.specs.Inner.{PartEnd}
 use Rattle.text.proofs.Fields.{slice-next, parts-cut}
-use Rattle.console.specs.Sheet.{dropEmpty, linesOf}
-use Rattle.console.proofs.LineEnds.{LineEnd}
 
 -- the text is at its end
 pub lines-none : (s : List ℕ) (from : ℕ) → length s ≤ from → linesOf (drop from s) ≡ []
@@ -33,14 +32,11 @@ more-lines l s = line-stays l _ _ (parts 10 s) (parts-cut 10 s)
 last-line : (l : List ℕ) (x : ℕ) (xs : List ℕ) → l ≡ x ∷ xs → dropEmpty (l ∷ []) ≡ l ∷ []
 last-line l x xs e = ap (λ (r : List ℕ). dropEmpty (r ∷ [])) e ∙ ap (λ (r : List ℕ). r ∷ []) (sym e)
 
-pub lines-next : (s : List ℕ) (from e : ℕ) → from < length s → LineEnd s from e
+pub lines-next : (s : List ℕ) (from e : ℕ) → from < length s → PartEnd 10 s from e
     → linesOf (drop from s) ≡ slice from e s ∷ linesOf (drop (e + 1) s)
 unfolding linesOf
-lines-next s from e h E = go (decLt e (length s))
+lines-next s from e h P = go (decLt e (length s))
   where
-    P : PartEnd 10 s from e
-    P = E .line (omega arith)
-
     go : Dec (e < length s) → linesOf (drop from s) ≡ slice from e s ∷ linesOf (drop (e + 1) s)
     go (yes more) = ap dropEmpty (P .more more) ∙ more-lines (slice from e s) (drop (e + 1) s)
     go (no last) =
