@@ -1,0 +1,11 @@
+pub mod LineLaws
+pub mod KeyLaws
+pub mod OccurrenceLaws
+pub mod TurnLaws
+pub mod CountLaws
+pub mod FindingLaws
+pub mod Standing
+pub mod WayLaws
+pub mod Turning
+pub mod FillLaws
+pub mod ListLaws

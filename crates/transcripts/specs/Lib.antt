@@ -1,0 +1,4 @@
+pub mod Transcripts
+pub mod Finding
+pub mod Listing
+pub mod Inner
