@@ -27,6 +27,19 @@ answerOf a vs = text "answer=" ++ decimal a ++ text ",value=" ++ between 46 (map
 unfoldable pub answerLine : Written → List ℕ
 answerLine r = answerOf (r .number) (r .values)
 
+-- that line put at the front of a buffer where the longest has room: how many bytes, and the buffer
+abbrev pub longestAnswer : ℕ
+longestAnswer = 139
+
+pub record Put : Type 0 where
+  pub many : ℕ
+  pub buffer : List ℕ
+
+unfoldable pub answerPut : ℕ → List ℕ → List ℕ → Put
+answerPut a vs out =
+    let line : List ℕ = answerOf a vs in
+    cond (leb longestAnswer (length out)) (record { many = length line; buffer = front line out }) (record { many = 0; buffer = out })
+
 -- for PAGE the page instead
 abbrev pub shown : Line → Tables → Written → List ℕ
 shown bad t r = answerLine r

@@ -8,7 +8,7 @@ ghost use Rattle.text.specs.Inner.{Wrote};
 ghost use Rattle.clock.specs.Clock.{partsOf};
 ghost use Rattle.rules.specs.Answers.{number, values};
 ghost use Rattle.console.specs.Inner.{single, valuesLine, answerBytes};
-ghost use Rattle.console.specs.Sheet.{printedBytes};
+ghost use Rattle.console.specs.Sheet.{answerPut, printedBytes};
 use clock::Time;
 use rules::Answer;
 
@@ -106,7 +106,7 @@ fn put_values(buf: &mut [u8], at: usize, answer: Answer) -> usize
 }
 
 // The line for an answer, at the front.
-pub fn put_answer(buf: &mut [u8], answer: Answer) -> usize
+pub(crate) fn put_answer(buf: &mut [u8], answer: Answer) -> usize
     requires { ⌜ length (answerBytes answer) ≤ length (now buf) ⌝ }
     ensures { λ r. ⌜ Wrote (now (buf .entry)) 0 (answerBytes answer) (now (buf .exit)) r ⌝ }
 {
@@ -115,4 +115,17 @@ pub fn put_answer(buf: &mut [u8], answer: Answer) -> usize
     let c = text::put_bytes(buf, b, b",value=");
     let d = put_values(buf, c, answer);
     text::put_byte(buf, d, 10)
+}
+
+// The bytes of the longest line for an answer.
+const LONGEST_ANSWER: usize = 139;
+
+// The line for an answer at the front of `out`, and how many bytes it has; none where fewer than 139 are lent.
+pub fn print_answer(answer: Answer, out: &mut [u8]) -> usize
+    ensures { λ r. ⌜ record { many = r; buffer = now (out .exit) } ≡ answerPut (number answer) (values answer) (now (out .entry)) ⌝ }
+{
+    if out.len() < LONGEST_ANSWER {
+        return 0;
+    }
+    put_answer(out, answer)
 }

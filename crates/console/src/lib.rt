@@ -8,7 +8,7 @@ mod words;
 
 pub use answers::bytes_printed;
 pub use answers::number_of;
-pub use answers::put_answer;
+pub use answers::print_answer;
 pub use keying::key_line;
 pub use keying::print_line;
 pub use lines::line_end;
