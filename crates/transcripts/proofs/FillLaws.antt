@@ -34,11 +34,11 @@ module _ (copy : List ℕ) (before : List Line) (x : Line) (xs : List Line) wher
   abbrev entry : Option Line → Listed
   entry y = record { number = suc (length before); line = x; counterpart = y }
 
-  abbrev headed : Option (List ℕ) → List Listed
+  abbrev pub headed : Option (List ℕ) → List Listed
   headed none = rest
   headed (some k) = cond (differs x (counterpartOf copy before k)) (entry (counterpartOf copy before k) ∷ rest) rest
 
-  by-key : listedBehind copy before (x ∷ xs) ≡ headed (keyOf (x .bytes))
+  pub by-key : listedBehind copy before (x ∷ xs) ≡ headed (keyOf (x .bytes))
   unfolding listedBehind
   by-key = go (keyOf (x .bytes))
     where
@@ -84,7 +84,7 @@ module _ (copy : List ℕ) (before : List Line) (x : Line) (xs : List Line) wher
 pub put-one : (w : ℕ) (copy : List ℕ) (d : Listed) (ds : List Listed) → cut w copy (d ∷ ds) ≡ take w (figuresOf copy d) ++ cut w copy ds
 put-one w copy d ds = refl
 
-no-more : (copy : List ℕ) (before : List Line) → listedBehind copy before [] ≡ []
+pub no-more : (copy : List ℕ) (before : List Line) → listedBehind copy before [] ≡ []
 unfolding listedBehind
 no-more copy before = refl
 

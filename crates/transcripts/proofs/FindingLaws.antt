@@ -38,7 +38,7 @@ module _ (original copy key : List ℕ) (n : ℕ) where
       either true = refl
       either false = refl
 
-  searches : (length key ≡ 0 → ⊥) → (n ≡ 0 → ⊥) → sought original copy key n ≡ searched
+  pub searches : (length key ≡ 0 → ⊥) → (n ≡ 0 → ⊥) → sought original copy key n ≡ searched
   searches h l = tested false false (ne-eqb (length key) 0 h) (ne-eqb n 0 l)
 
 -- a line looked for from the front

@@ -9,3 +9,6 @@ pub mod WayLaws
 pub mod Turning
 pub mod FillLaws
 pub mod ListLaws
+pub mod Exactly
+pub mod Outranks
+pub mod Determined

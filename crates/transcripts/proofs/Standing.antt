@@ -1,36 +1,35 @@
 -- Each line of a text stands where it says: its bytes are those of the text from where it begins up to where it ends.
 -- Assumes nothing.
-use Prim.Native.Nat.{ℕ, zero, suc, _+_, _≤_, _<_}
+use Prim.Native.Nat.{ℕ, zero, suc, _+_, _-_, _≤_, _<_}
 use native.Mathlib.Decide.{decLt}
 use native.Mathlib.Omega.{arith}
 use mathlib.Core.Path.{_≡_, refl, sym, ap, subst, _∙_}
 use mathlib.Core.Bool.{Bool, true, false, cond, not}
-use mathlib.Core.List.{List, [], _∷_}
+use mathlib.Core.Logic.{_⊎_, inl, inr}
+use mathlib.Core.List.{List, [], _∷_, _++_}
 use mathlib.Core.Option.{Option, none, some}
-use lib.ListN.{length, getElem?, drop}
-use lib.Seq.{slice}
+use lib.ListN.{length, getD, getElem?, drop, length-drop}
+use lib.Seq.{getD-drop}
+use lib.Dec.{eqb}
+use borrow.Author.Tests.{eqb-true}
 use Rattle.lists.specs.Lists.{alike}
 use Rattle.text.specs.Inner.{PartEnd}
 use Rattle.text.proofs.Fields.{until, part-end}
 use Rattle.transcripts.specs.declared.lines.Spot.{Spot}
-use Rattle.transcripts.specs.Transcripts.{Line, keyOf, hasKey, withKey}
+use Rattle.transcripts.specs.Transcripts.{Line, linesIn, keyOf, hasKey, withKey, occurrence}
 use Rattle.transcripts.specs.Listing.{differs, beginOf}
+use Rattle.transcripts.specs.Promises.{LineOf, StandsIn}
 use Rattle.transcripts.specs.Inner.{linesFrom, lineAt, spotOf, firstOr, firstKeyed, behindOthers, SpotIn, heldAt}
-use Rattle.transcripts.proofs.LineLaws.{from-none, from-next}
-
-pub record Stands (s : List ℕ) (x : Line) : Type 0 where
-  pub low : x .begins ≤ x .ends
-  pub high : x .ends ≤ length s
-  pub bytes : x .bytes ≡ slice (x .begins) (x .ends) s
+use Rattle.transcripts.proofs.LineLaws.{from-none, from-next, one-end}
 
 -- all of some lines do; one does, where there is one
 abbrev pub AllStand : List ℕ → List Line → Type 0
 AllStand s [] = Unit {0}
-AllStand s (x ∷ xs) = Stands s x × AllStand s xs
+AllStand s (x ∷ xs) = StandsIn s x × AllStand s xs
 
 abbrev pub OneStands : List ℕ → Option Line → Type 0
 OneStands s none = Unit {0}
-OneStands s (some x) = Stands s x
+OneStands s (some x) = StandsIn s x
 
 -- Something holds of the lines from any place on if it holds of none, and of a line in front of those of which it holds.
 pub by-lines : (s : List ℕ) (P : ℕ → List Line → Type 0) → ((at : ℕ) → length s ≤ at → P at [])
@@ -55,11 +54,32 @@ by-lines s P nothing more at = go (length s) at (omega arith)
         test (yes l) rest = line at l rest
         test (no l) rest = over at (omega arith)
 
-pub line-stands : (s : List ℕ) (at e : ℕ) → PartEnd 10 s at e → Stands s (lineAt s at e)
-line-stands s at e p = record { low = p .low; high = p .high; bytes = refl }
+-- a part that is not the last ends at its byte
+until-there : (d : ℕ) (s : List ℕ) → until d s < length s → getD s (until d s) 0 ≡ d
+unfolding until
+until-there d [] h = absurd (omega arith)
+until-there d (x ∷ xs) h = go (eqb x d) refl h (until-there d xs)
+  where
+    go : (b : Bool) → eqb x d ≡ b → cond b 0 (suc (until d xs)) < suc (length xs)
+        → (until d xs < length xs → getD xs (until d xs) 0 ≡ d) → getD (x ∷ xs) (cond b 0 (suc (until d xs))) 0 ≡ d
+    go true e l ih = eqb-true x d e
+    go false e l ih = ih (omega arith)
+
+pub line-stands : (s : List ℕ) (at e : ℕ) → at ≤ length s → PartEnd 10 s at e → StandsIn s (lineAt s at e)
+line-stands s at e l p = record { low = p .low; high = p .high; bytes = refl; ended = go (decLt e (length s)) }
+  where
+    at-until : e ≡ at + until 10 (drop at s)
+    at-until = one-end 10 s at e (at + until 10 (drop at s)) p (part-end 10 s at l)
+
+    go : Dec (e < length s) → (e ≡ length s) ⊎ (getD s e 0 ≡ 10)
+    go (no h) = inl (omega (arith, p .high))
+    go (yes h) =
+        let len : length (drop at s) ≡ length s - at = length-drop at s in
+        inr (ap (λ (i : ℕ). getD s i 0) at-until ∙ sym (getD-drop at s (until 10 (drop at s)) 0)
+        ∙ until-there 10 (drop at s) (omega (arith, at-until)))
 
 pub all-stand : (s : List ℕ) (at : ℕ) → AllStand s (linesFrom s at)
-all-stand s at = by-lines s (λ i xs. AllStand s xs) (λ i h. tt) (λ i e h p r. (line-stands s i e p, r)) at
+all-stand s at = by-lines s (λ i xs. AllStand s xs) (λ i h. tt) (λ i e h p r. (line-stands s i e (omega arith) p, r)) at
 
 with-stand : (s k : List ℕ) (xs : List Line) → AllStand s xs → AllStand s (withKey k xs)
 with-stand s k [] h = tt
@@ -102,3 +122,17 @@ pub held-is : (copy : List ℕ) (x : Line) (y : Option Line) → OneStands copy 
 held-is copy x none h = refl
 held-is copy x (some y) h =
     ap (λ (b : List ℕ). record { listed = not (alike (x .bytes) b); begins = y .begins }) (sym (h .bytes))
+
+-- so does each line of a text, wherever it stands among them
+pub stands-in : (s : List ℕ) (before : List Line) (x : Line) → LineOf s before x → StandsIn s x
+unfolding linesIn
+stands-in s before x l = go before (subst (AllStand s) (l .whole) (all-stand s 0))
+  where
+    go : (ys : List Line) → AllStand s (ys ++ (x ∷ l .after)) → StandsIn s x
+    go [] h = h .0
+    go (y ∷ ys) h = go ys (h .1)
+
+-- and one that is found by its key
+pub occurrence-stands : (s k : List ℕ) (n : ℕ) → OneStands s (occurrence k n (linesIn s))
+unfolding occurrence linesIn
+occurrence-stands s k n = nth-stands s (n - 1) (withKey k (linesFrom s 0)) (with-stand s k (linesFrom s 0) (all-stand s 0))

@@ -15,13 +15,14 @@ use Rattle.transcripts.specs.declared.listing.Held.{Held}
 use Rattle.transcripts.specs.declared.listing.Turn.{Turn}
 use Rattle.transcripts.specs.Transcripts.{Line, keyOf, hasKey}
 use Rattle.transcripts.specs.Listing.{counterpartOf, differs, beginOf}
+use Rattle.transcripts.specs.Promises.{StandsIn}
 use Rattle.transcripts.specs.Inner.{linesFrom, lineAt, spotOf, firstKeyed, onKeys, keysIn, occurrences, behindOthers, OnWay}
 use Rattle.transcripts.specs.Inner.{heldAt, Tells, Turned, TakesTurn, TurnedApart}
 use Rattle.transcripts.proofs.LineLaws.{part-taken}
 use Rattle.transcripts.proofs.KeyLaws.{key-is}
 use Rattle.transcripts.proofs.OccurrenceLaws.{count-none}
 use Rattle.transcripts.proofs.TurnLaws.{no-key, some-key}
-use Rattle.transcripts.proofs.Standing.{Stands, OneStands, first-stands, behind-stands, held-is}
+use Rattle.transcripts.proofs.Standing.{OneStands, first-stands, behind-stands, held-is}
 use Rattle.transcripts.proofs.WayLaws.{counterpart-behind, stays, none-since, steps, FirstIn, first-in, first-behind, keys-append}
 
 -- a line at a spot
@@ -105,7 +106,7 @@ module _ (o c : List ℕ) (at base other e : ℕ) (h : at < length o) (p : PartE
       abbrev y : Line
       y = spotted .line
 
-      stands : Stands c y
+      stands : StandsIn c y
       stands = subst (OneStands c) (spotted .is) (first-stands c other)
 
       has : hasKey key (y .bytes) ≡ true
