@@ -74,7 +74,8 @@ module _ (original copy : RefT (List ℕ)) (key : List ℕ) (n : ℕ) (k : lengt
   pub from-original : occurrence key n (linesIn (original .now)) ≡ some x → OwnBytes Original original copy x r
   from-original e =
       own Original (subst (OneStands (original .now)) e (occurrence-stands (original .now) key n))
-      (searches (original .now) (copy .now) key n k l ∙ ap (λ (y : Option Line). foundOr Original y _) e)
+      (searches (original .now) (copy .now) key n k l
+      ∙ ap (λ (y : Option Line). foundOr Original y (foundOr Copy (occurrence key n (linesIn (copy .now))) (refused 17))) e)
 
   pub from-copy : occurrence key n (linesIn (original .now)) ≡ none → occurrence key n (linesIn (copy .now)) ≡ some x
       → OwnBytes Copy original copy x r
