@@ -1,3 +1,4 @@
 pub mod Case
 pub mod Cases
 pub mod Pages
+pub mod Desks
