@@ -79,11 +79,11 @@ figures-wrote a n vs e f v w =
     wrote-as (ap₂ (λ (k : ℕ) (xs : List ℕ). join (map (inBytes 8) (k ∷ xs))) (sym e) (sym f))
     (wrote-then (inBytes 8 n) (join (map (inBytes 8) vs)) v w)
 
--- the number 0, and two values
-pub counts-wrote : {l₀ l₁ l₂ : List ℕ} {at₀ at₁ at₂ : ℕ} (a b : ℕ) → Wrote l₀ at₀ (inBytes 8 0) l₁ at₁
-    → Wrote l₁ at₁ (join (map (inBytes 8) (a ∷ b ∷ 0 ∷ 0 ∷ 0 ∷ []))) l₂ at₂ → Wrote l₀ at₀ (figures 0 (a ∷ b ∷ [])) l₂ at₂
+-- a number, and four values
+pub four-wrote : {l₀ l₁ l₂ : List ℕ} {at₀ at₁ at₂ : ℕ} (n a b c d : ℕ) → Wrote l₀ at₀ (inBytes 8 n) l₁ at₁
+    → Wrote l₁ at₁ (join (map (inBytes 8) (a ∷ b ∷ c ∷ d ∷ 0 ∷ []))) l₂ at₂ → Wrote l₀ at₀ (figures n (a ∷ b ∷ c ∷ d ∷ [])) l₂ at₂
 unfolding figures
-counts-wrote a b v w = wrote-then (inBytes 8 0) (join (map (inBytes 8) (a ∷ b ∷ 0 ∷ 0 ∷ 0 ∷ []))) v w
+four-wrote n a b c d v w = wrote-then (inBytes 8 n) (join (map (inBytes 8) (a ∷ b ∷ c ∷ d ∷ 0 ∷ []))) v w
 
 -- a number of eight bytes, and five more
 five-long : (vs : List ℕ) → length (take 5 (vs ++ replicate {A = ℕ} 5 0)) ≡ 5

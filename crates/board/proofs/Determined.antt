@@ -3,6 +3,7 @@ use Prim.Native.Nat.{ℕ}
 use mathlib.Core.Path.{_≡_, sym, _∙_}
 use mathlib.Core.List.{List}
 use Rattle.board.specs.Board.{Ran, ran, Boarded, boarded, soundly, ReadBack, readBack}
+use Rattle.board.specs.Desk.{FoundBy, foundBy, ListedBy, listedBy}
 
 pub run-determined : (text out answer : List ℕ) (x y : Ran) → x ≡ ran text out answer → y ≡ ran text out answer → x ≡ y
 run-determined text out answer x y e f = e ∙ sym f
@@ -17,3 +18,11 @@ sound-determined tables x y e f = e ∙ sym f
 pub read-determined : (page tables answer : List ℕ) (x y : ReadBack) → x ≡ readBack page tables answer → y ≡ readBack page tables answer
     → x ≡ y
 read-determined page tables answer x y e f = e ∙ sym f
+
+pub find-determined : (original copy key : List ℕ) (n : ℕ) (answer : List ℕ) (x y : FoundBy) → x ≡ foundBy original copy key n answer
+    → y ≡ foundBy original copy key n answer → x ≡ y
+find-determined original copy key n answer x y e f = e ∙ sym f
+
+pub list-determined : (original copy list answer : List ℕ) (x y : ListedBy) → x ≡ listedBy original copy list answer
+    → y ≡ listedBy original copy list answer → x ≡ y
+list-determined original copy list answer x y e f = e ∙ sym f

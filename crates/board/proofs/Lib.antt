@@ -9,4 +9,5 @@ pub mod Determined
 pub mod Whole
 pub mod Refused
 pub mod ReadingBack
+pub mod Desks
 pub mod Running

@@ -1,16 +1,24 @@
-// The executive for callers in other languages: four functions on bytes. They trust nobody: whatever bytes they are handed, of whatever
-// lengths, the contracts say what comes back. In C, where a slice is a pointer and its length in bytes:
+// The executive for callers in other languages: six functions on bytes. They trust nobody: whatever bytes they are handed, of whatever
+// lengths, the contracts say what comes back. In C, where a slice is a pointer and its length, in bytes but for `list`, whose length is in
+// places of 8 bytes:
 //
 //     uint64_t board_run(const uint8_t *text, size_t, uint8_t *out, size_t, uint8_t *answer, size_t);
 //     uint64_t board_ask(uint8_t *tables, size_t, const uint8_t *line, size_t, uint8_t *page, size_t, uint8_t *answer, size_t);
 //     uint64_t board_sound(const uint8_t *tables, size_t);
 //     uint64_t board_read(const uint8_t *page, size_t, uint8_t *tables, size_t, uint8_t *answer, size_t);
+//     uint64_t board_find(const uint8_t *original, size_t, const uint8_t *copy, size_t, const uint8_t *key, size_t, uint64_t occurrence,
+//         uint8_t *answer, size_t);
+//     uint64_t board_list(const uint8_t *original, size_t, const uint8_t *copy, size_t, uint64_t *list, size_t, uint8_t *answer, size_t);
 //
-// What no contract can say, the caller sees to: each pointer is valid for its length, for writing too where it is not const; bytes that are
-// lent for writing overlap no others that are handed in; and nothing else writes to any of them before the call returns.
+// What no contract can say, the caller sees to: each pointer is valid for its length, for writing too where it is not const, and aligned
+// for its type; bytes that are lent for writing overlap no others that are handed in; and nothing else writes to any of them before the
+// call returns.
 //
-// board_run, board_ask and board_read hand back the answer's number. The answer itself goes to the front of `answer`, in 48 bytes: its
-// number and five values of 8 bytes each, the lowest first. Fewer than 48 bytes are answered 12: nothing is done, and no byte is written.
+// All but board_sound hand back the answer's number. The answer itself goes to the front of `answer`, in 48 bytes: its number and five
+// values of 8 bytes each, the lowest first. Fewer than 48 bytes are answered 12: nothing is done, and no byte is written. The values of
+// board_find are 0, then 0 for the original or 1 for the copy, and where the line begins and ends there; that of board_list is how many
+// lines it put, or, with 12, how many places these need.
+mod desk;
 mod pack;
 mod telling;
 

@@ -75,11 +75,19 @@ pub(crate) fn tell(buf: &mut [u8], answer: Answer) -> u64
     number
 }
 
+// Puts an answer's number and four values; one that the answer does not have is 0.
+pub(crate) fn put_four(buf: &mut [u8], number: u64, a: u64, b: u64, c: u64, d: u64) -> usize
+    requires { ⌜ figuresLength ≤ length (now buf) ⌝ }
+    ensures { λ r. ⌜ Wrote (now (buf .entry)) 0 (figures number (a ∷ b ∷ c ∷ d ∷ [])) (now (buf .exit)) r ⌝ }
+{
+    let at = pack::put_long(buf, 0, number);
+    put_five(buf, at, a, b, c, d, 0)
+}
+
 // Tells of a text that was run how many bytes its output has in all, and how many of them were put.
 pub(crate) fn put_counts(buf: &mut [u8], all: u64, put: u64) -> usize
     requires { ⌜ figuresLength ≤ length (now buf) ⌝ }
     ensures { λ r. ⌜ Wrote (now (buf .entry)) 0 (figures 0 (all ∷ put ∷ [])) (now (buf .exit)) r ⌝ }
 {
-    let at = pack::put_long(buf, 0, 0);
-    put_five(buf, at, all, put, 0, 0, 0)
+    put_four(buf, 0, all, put, 0, 0)
 }
