@@ -13,8 +13,6 @@ use std::path::{Path, PathBuf};
 
 const ENGINE: &str = "../engine/src";
 const LIST: &str = "list";
-/// The list of those that are told apart on pages.
-const PAGES: &str = "pages.txt";
 
 /// File by file: its name and its text.
 type Sources = BTreeMap<String, String>;
@@ -42,22 +40,29 @@ fn make(out: &Path) -> Result<(), String> {
     let mut faults = String::new();
     for (place, (list, patch)) in patches()?.iter().enumerate() {
         let number = place + 1;
-        let on_pages = list == PAGES;
+        let shown = match list.as_str() {
+            "pages.txt" => "OnPages",
+            "desk.txt" => "OnTexts",
+            "prints.txt" => "OnPaper",
+            _ => "OnConsole",
+        };
         let changes = changes(patch, &sources)?;
-        let (choice, sheet, read) = if changes.iter().all(|(_, change)| change.body.is_some()) {
+        let (choice, engine) = if changes.iter().all(|(_, change)| change.body.is_some()) {
             together.extend(changes.into_iter().map(|placed| (number, placed)));
-            let chosen = |call| format!("choice::with({number}, || {call})");
-            (number, chosen("together::sheet(input)"), chosen("told!(together, input)"))
+            (number, String::from("together"))
         } else {
             let alone = patch.name.replace('-', "_");
             write(out, &alone, &changed(&sources, &changes), "")?;
             modules += &module(out, "mod", &alone);
-            (0, format!("{alone}::sheet(input)"), format!("told!({alone}, input)"))
+            (0, alone)
         };
         let (name, what) = (&patch.name, &patch.what);
         faults += &format!(
             "Fault {{ name: {name:?}, what: {what:?}, choice: {choice}, \
-             on_pages: {on_pages}, sheet: |input| {sheet}, read: |input| {read} }},\n"
+             shown: Shown::{shown}, \
+             sheet: |input| choice::with({choice}, || {engine}::sheet(input)), \
+             read: |input| choice::with({choice}, || told!({engine}, input)), \
+             desk: desk!({engine}, {choice}) }},\n"
         );
     }
     write(out, "together", &with_choices(&sources, &together), "use crate::choice;\n")?;

@@ -1,4 +1,4 @@
-//! The four functions of `libboard.a`, each behind a safe one. Nothing checks these declarations
+//! The six functions of `libboard.a`, each behind a safe one. Nothing checks these declarations
 //! against the library's source. All the unsafe code there is stands in this file.
 
 /// The tables as bytes; `pack` says which byte is what.
@@ -69,6 +69,27 @@ mod library {
             page_len: usize,
             tables: *mut u8,
             tables_len: usize,
+            answer: *mut u8,
+            answer_len: usize,
+        ) -> u64;
+        pub fn board_find(
+            original: *const u8,
+            original_len: usize,
+            copy: *const u8,
+            copy_len: usize,
+            key: *const u8,
+            key_len: usize,
+            occurrence: u64,
+            answer: *mut u8,
+            answer_len: usize,
+        ) -> u64;
+        pub fn board_list(
+            original: *const u8,
+            original_len: usize,
+            copy: *const u8,
+            copy_len: usize,
+            list: *mut u64,
+            list_len: usize,
             answer: *mut u8,
             answer_len: usize,
         ) -> u64;
@@ -154,6 +175,64 @@ pub fn read_bytes(page: &[u8], tables: &mut [u8], answer: &mut [u8]) -> u64 {
             page.len(),
             tables.as_mut_ptr(),
             tables.len(),
+            answer.as_mut_ptr(),
+            answer.len(),
+        )
+    }
+}
+
+/// A line of two texts, by its key and occurrence. The values are 0, 0 for the original or 1 for the
+/// copy, and where the line begins and ends in it.
+pub fn find(original: &[u8], copy: &[u8], key: &[u8], occurrence: u64) -> Reply {
+    let mut answer = [0; ANSWER];
+    find_bytes(original, copy, key, occurrence, &mut answer);
+    Reply::of_bytes(&answer)
+}
+
+/// The same with an answer of any length, and the number that is handed back.
+pub fn find_bytes(
+    original: &[u8],
+    copy: &[u8],
+    key: &[u8],
+    occurrence: u64,
+    answer: &mut [u8],
+) -> u64 {
+    // The pointers and lengths are those of slices, of which the library writes into the last
+    // alone, which is lent alone.
+    unsafe {
+        library::board_find(
+            original.as_ptr(),
+            original.len(),
+            copy.as_ptr(),
+            copy.len(),
+            key.as_ptr(),
+            key.len(),
+            occurrence,
+            answer.as_mut_ptr(),
+            answer.len(),
+        )
+    }
+}
+
+/// The lines of the original that differ in the copy, at the front of a list.
+pub fn list(original: &[u8], copy: &[u8], list: &mut [u64]) -> Reply {
+    let mut answer = [0; ANSWER];
+    list_bytes(original, copy, list, &mut answer);
+    Reply::of_bytes(&answer)
+}
+
+/// The same with an answer of any length, and the number that is handed back.
+pub fn list_bytes(original: &[u8], copy: &[u8], list: &mut [u64], answer: &mut [u8]) -> u64 {
+    // The pointers and lengths are those of slices, the places of the list being of eight bytes, and
+    // two of them are lent alone, so that no two overlap.
+    unsafe {
+        library::board_list(
+            original.as_ptr(),
+            original.len(),
+            copy.as_ptr(),
+            copy.len(),
+            list.as_mut_ptr(),
+            list.len(),
             answer.as_mut_ptr(),
             answer.len(),
         )

@@ -2,7 +2,7 @@
 //!
 //! | file | subject |
 //! |---|---|
-//! | `ffi` | the library's four functions |
+//! | `ffi` | the library's six functions |
 //! | `pack` | the engine's tables as the library's bytes, and back |
 //! | `harm` | bytes changed, fields exchanged, another form or length, noise |
 //! | `ask` | a console line for given tables |
@@ -10,8 +10,10 @@
 //! | `tables` | one line on any tables: both sides |
 //! | `text` | a whole text: both sides |
 //! | `pages` | a page read back: both sides |
+//! | `desk` | two texts at the reading desk: both sides |
 //! | `natural` | the engine as a program that tests its tables at every line |
-//! | `load` | texts and pages whose speed is measured |
+//! | `load` | texts, pages and pairs whose speed is measured |
+//! | `looks` | both sides of the desk, to be timed |
 //! | `clock` | rounds, medians and ratios |
 //! | `words` | what stands on the command line |
 
@@ -19,10 +21,12 @@
 
 pub mod ask;
 pub mod clock;
+pub mod desk;
 #[allow(unsafe_code)]
 pub mod ffi;
 pub mod harm;
 pub mod load;
+pub mod looks;
 pub mod natural;
 pub mod pack;
 pub mod pages;

@@ -1,6 +1,7 @@
-//! Texts and pages whose speed is measured.
+//! Texts, pages and pairs of texts whose speed is measured.
 
 use comparer::script::generate;
+use comparer::texts::Pair;
 use engine::raw::{Raw, RawNumber, RawRecord, RawWhy, GLOBAL, LINKS};
 use engine::tables::{CEILING, DISC, FURTHEST, LOWEST_PRIORITY, RECORDS};
 use engine::{sheet, Engine};
@@ -169,4 +170,36 @@ pub fn small_page() -> Vec<u8> {
     let set_up = joined(lines.map(String::from).to_vec());
     let printed = sheet(&[&set_up, "PAGE\n".as_bytes()].concat());
     printed[sheet(&set_up).len()..].to_vec()
+}
+
+/// The longest page twice.
+pub fn same_pages() -> Pair {
+    Pair { original: full_page(), copy: full_page() }
+}
+
+/// The same with one figure changed in the middle of the copy.
+pub fn one_figure() -> Pair {
+    let Pair { original, mut copy } = same_pages();
+    let middle = copy.len() / 2;
+    if let Some(place) = (middle..copy.len()).find(|place| copy[*place].is_ascii_digit()) {
+        copy[place] = if copy[place] == b'1' { b'7' } else { b'1' };
+    }
+    Pair { original, copy }
+}
+
+/// Lines with so many keys in turn.
+fn keyed(lines: usize, keys: usize) -> Vec<u8> {
+    joined((0..lines).map(|line| format!("key{}={}", line % keys, line)).collect())
+}
+
+/// A text of such lines twice.
+pub fn same_lines(lines: usize, keys: usize) -> Pair {
+    Pair { original: keyed(lines, keys), copy: keyed(lines, keys) }
+}
+
+/// The same with the first line missing in the copy, so that no other is where it was.
+pub fn first_missing(lines: usize, keys: usize) -> Pair {
+    let Pair { original, copy } = same_lines(lines, keys);
+    let behind = copy.iter().position(|byte| *byte == b'\n').map_or(0, |end| end + 1);
+    Pair { original, copy: copy[behind..].to_vec() }
 }

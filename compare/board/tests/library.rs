@@ -1,6 +1,6 @@
 //! The library against the engine, in short; `agree` does it at length.
 
-use board::{pages, tables, text};
+use board::{desk, pages, tables, text};
 
 #[test]
 fn wrong_lengths() {
@@ -28,4 +28,12 @@ fn pages_read_back() {
     let compared = pages::lengths(&mut count).and_then(|()| pages::agree(2, 10_000, &mut count));
     assert!(compared.is_ok(), "{}", compared.unwrap_err());
     assert!(count.sums().iter().all(|times| *times > 1_500));
+}
+
+#[test]
+fn texts_at_the_desk() {
+    let mut count = desk::Count::default();
+    let compared = desk::lengths().and_then(|()| desk::agree(2, 5_000, &mut count));
+    assert!(compared.is_ok(), "{}", compared.unwrap_err());
+    assert!(count.tally.rows().iter().all(|times| *times > 300), "{}", count.print());
 }

@@ -8,6 +8,7 @@ use board::{load, natural};
 use comparer::make;
 use comparer::prng::Prng;
 use comparer::script::generate;
+use comparer::texts::Pair;
 use engine::raw::{Raw, RawNumber, RawRecord, RawWhy, LINKS, UNUSED};
 use engine::sheet::lines;
 use engine::{sheet, Engine, Holder, Timer, Why};
@@ -279,4 +280,27 @@ fn timed_pages() {
         assert!(page.len() <= full.len());
     }
     assert!(full.len() <= 8_192);
+}
+
+/// The pairs that are timed have the lines that their names say.
+#[test]
+fn timed_pairs() {
+    let listed = |pair: &Pair| {
+        let mut list = vec![0; 10_000];
+        let answer = engine::desk::list(&pair.original, &pair.copy, &mut list);
+        let count = list.iter().filter(|place| **place > 0).count();
+        assert_eq!(answer, engine::Answer::new(0, count as u64));
+        (lines(&pair.original).len(), lines(&pair.copy).len(), list[..count].to_vec())
+    };
+    assert_eq!(listed(&load::same_pages()), (507, 507, vec![]));
+    assert_eq!(listed(&load::one_figure()).2.len(), 1);
+    let end = engine::desk::find(&load::full_page(), b"", b"end", 1);
+    assert_eq!((end.answer.number, end.end), (0, load::full_page().len() - 1));
+    for keys in [7, 10_000] {
+        assert_eq!(listed(&load::same_lines(10_000, keys)), (10_000, 10_000, vec![]));
+    }
+    assert_eq!(listed(&load::first_missing(10_000, 10_000)), (10_000, 9_999, vec![1]));
+    // Each line with the first one's key has another counterpart then, and the last of them none.
+    let of_first_key: Vec<u64> = (1..=10_000).filter(|line| line % 7 == 1).collect();
+    assert_eq!(listed(&load::first_missing(10_000, 7)).2, of_first_key);
 }

@@ -1,4 +1,5 @@
-//! Scripts for the console, and the comparison of a `sheet` program with the engine on them.
+//! Scripts for the console, and the comparison of a `sheet` program with the engine on them; pages
+//! and pairs of texts, and the comparison of what is made of them.
 //!
 //! | file | subject |
 //! |---|---|
@@ -18,19 +19,29 @@
 //! | `blot` | pages that are not well formed |
 //! | `absurd` | pages with absurd counts, and fixed ones |
 //! | `reading` | the comparison of a page reader with the engine's, on pages |
+//! | `texts` | pairs of texts from a seed |
+//! | `miscopy` | what may happen to a text while it is copied |
+//! | `asks` | what is asked of a reading desk on a pair |
+//! | `looking` | the comparison of a reading desk with the engine's, on pairs |
+//! | `tally` | how often what came up there |
+//! | `filed` | the comparison of a `desk` program with the engine, on pairs in files |
 //! | `other` | the program, or the wrong engine, that is compared |
 //! | `differ` | batches of scripts, and the first difference |
 //! | `shrink` | a shorter script that still fails |
 //! | `report` | a difference in print |
 
 pub mod absurd;
+pub mod asks;
 pub mod blot;
 pub mod claims;
 pub mod corners;
 pub mod damage;
 pub mod differ;
+pub mod filed;
 pub mod forms;
+pub mod looking;
 pub mod make;
+pub mod miscopy;
 pub mod other;
 pub mod pages;
 pub mod prng;
@@ -40,7 +51,9 @@ pub mod report;
 pub mod script;
 pub mod shrink;
 pub mod spoil;
+pub mod tally;
 pub mod tangle;
+pub mod texts;
 pub mod twist;
 pub mod wish;
 

@@ -1,16 +1,21 @@
 //! The command line: see `USAGE`.
 
 use comparer::differ::{self, shortest, Count, Failure};
+use comparer::filed::{self, Folder, Program, CI_FILED};
+use comparer::looking::{self, CI_PAIRS};
 use comparer::other::Other;
 use comparer::pages::{in_turn, turn, Pages};
 use comparer::reading::{self, CI_PAGES};
 use comparer::report::report;
 use comparer::script::generate;
+use comparer::tally;
 use comparer::{CI_LINES, CI_SEEDS};
-use engine::{sheet, Answer, Value};
+use engine::{sheet, Answer, Desk, Value};
 use faults::{Fault, FAULTS};
+use std::ffi::OsString;
 use std::io::{self, Read, Write};
 use std::ops::Range;
+use std::os::unix::ffi::OsStrExt;
 use std::process::ExitCode;
 use std::time::Duration;
 
@@ -18,8 +23,12 @@ const USAGE: &str = "usage:
   compare run [--seeds A..B] [--lines N] [--limit SECONDS] [--save FILE] -- PROGRAM [ARGS..]
   compare run [--seeds A..B] [--lines N] [--save FILE] --fault NAME
   compare pages [--seed K] [--count N] [--fault NAME]
+  compare texts [--seed K] [--count N] [--fault NAME]
+  compare desk [--seed K] [--count N] [--limit SECONDS] [--save FILE] -- PROGRAM [ARGS..]
+  compare desk [--seed K] [--count N] [--save FILE] --fault NAME
   compare faults
   compare sheet
+  compare look ORIGINAL COPY [KEY OCCURRENCE]
   compare gen [--seed K] [--lines N]
   compare cases [--seeds A..B] [--lines N]
   compare readings [--seeds A..B] [--count N]
@@ -46,14 +55,20 @@ fn main() -> ExitCode {
 }
 
 fn command() -> Result<u8, String> {
-    let mut args = std::env::args().skip(1);
+    let mut args = std::env::args_os().skip(1);
     let word = args.next().unwrap_or_default();
-    let rest: Vec<String> = args.collect();
-    match word.as_str() {
+    if word == "look" {
+        return look(&args.collect::<Vec<_>>());
+    }
+    let text = |arg: OsString| arg.into_string().map_err(|_| USAGE.to_string());
+    let rest = args.map(text).collect::<Result<Vec<String>, String>>()?;
+    match text(word)?.as_str() {
         "run" => run(options(rest)?),
         "pages" => pages(options(rest)?),
+        "texts" => texts(options(rest)?),
+        "desk" => desk(options(rest)?),
         "faults" => {
-            let list = FAULTS.iter().map(|fault| format!("{:24}{}\n", fault.name, fault.what));
+            let list = FAULTS.iter().map(|fault| format!("{:32}{}\n", fault.name, fault.what));
             print(list.collect::<String>().as_bytes())
         }
         "sheet" => {
@@ -172,6 +187,71 @@ fn pages(options: Options) -> Result<u8, String> {
             Ok(1)
         }
     }
+}
+
+/// A wrong engine's desk on pairs of texts; without one, what the engine's says on them.
+fn texts(options: Options) -> Result<u8, String> {
+    let (seed, count) = (options.seeds.start, options.count.unwrap_or(CI_PAIRS));
+    let fault = match options.fault {
+        Some(fault) => fault,
+        None => return print(tally::Count::of_pairs(seed, count).print().as_bytes()),
+    };
+    let all: Vec<_> = looking::trials(seed, count).chain(looking::fixed_trials()).collect();
+    match looking::first_difference(&fault.desk, all.iter()) {
+        None => print(format!("{} pairs: no difference\n", all.len()).as_bytes()),
+        Some(difference) => {
+            print(looking::report(&fault.desk, &difference)?.as_bytes())?;
+            Ok(1)
+        }
+    }
+}
+
+/// A `desk` program, or a wrong engine in its place, on pairs of texts in files.
+fn desk(options: Options) -> Result<u8, String> {
+    let program = match (options.fault, options.program.is_empty()) {
+        (Some(fault), true) => Program::Engine(fault.desk.print),
+        (None, false) => {
+            let (command, limit) = (options.program, options.limit);
+            Program::Command { command, limit, folder: Folder::new()? }
+        }
+        _ => return Err(USAGE.to_string()),
+    };
+    let (seed, count) = (options.seeds.start, options.count.unwrap_or(CI_FILED));
+    let mut total = filed::Count::default();
+    let difference = match filed::run(&program, seed, count, &mut total)? {
+        Some(difference) => filed::shortened(&program, difference)?,
+        None => {
+            let text = format!("{} pairs, {} runs: no difference\n", total.pairs, total.runs);
+            return print(text.as_bytes());
+        }
+    };
+    print(filed::report(&program, &difference)?.as_bytes())?;
+    if let Some(file) = options.save {
+        for (name, text) in
+            [("original", &difference.pair.original), ("copy", &difference.pair.copy)]
+        {
+            let file = format!("{}.{}", file, name);
+            std::fs::write(&file, text).map_err(|error| format!("{}: {}", file, error))?;
+        }
+    }
+    Ok(1)
+}
+
+/// The engine as a `desk` program. A key may be of any bytes.
+fn look(args: &[OsString]) -> Result<u8, String> {
+    let read = |file: &OsString| {
+        std::fs::read(file).map_err(|error| format!("{}: {}", file.to_string_lossy(), error))
+    };
+    let (files, wanted) = match args {
+        [original, copy] => ([original, copy], None),
+        [original, copy, key, occurrence] => {
+            let occurrence = whole(&occurrence.to_string_lossy())?;
+            ([original, copy], Some((key.as_bytes(), occurrence)))
+        }
+        _ => return Err(USAGE.to_string()),
+    };
+    let [original, copy] = [read(files[0])?, read(files[1])?];
+    print(&Desk::new(&original, &copy).print(wanted))
 }
 
 /// Three lines for each seed: `seed K`, `script` and `output` with their bytes in decimal.

@@ -1,5 +1,6 @@
 //! What is compared with the engine: a `sheet` program in a process of its own, or another engine.
 
+use std::ffi::OsStr;
 use std::io::{Read, Write};
 use std::process::{Child, Command, Stdio};
 use std::sync::mpsc;
@@ -30,13 +31,19 @@ impl Other {
     }
 }
 
-fn run(command: &[String], limit: Duration, input: &[u8]) -> Result<Vec<u8>, String> {
-    let mut child = Command::new(&command[0])
+/// What the program, the first of these words, prints with the others as its arguments.
+pub fn run<S: AsRef<OsStr>>(
+    command: &[S],
+    limit: Duration,
+    input: &[u8],
+) -> Result<Vec<u8>, String> {
+    let program = command[0].as_ref();
+    let mut child = Command::new(program)
         .args(&command[1..])
         .stdin(Stdio::piped())
         .stdout(Stdio::piped())
         .spawn()
-        .map_err(|error| format!("{}: {}", command[0], error))?;
+        .map_err(|error| format!("{}: {}", program.to_string_lossy(), error))?;
     feed(&mut child, input.to_vec());
     let printed = collect(&mut child);
     match printed.recv_timeout(limit) {

@@ -145,7 +145,8 @@ fn with_lines(page: &[u8], change: impl FnOnce(&mut Lines)) -> Vec<u8> {
     bytes_of(&lines)
 }
 
-fn changed(prng: &mut Prng, kind: Kind, mut page: Vec<u8>) -> Vec<u8> {
+/// The page of sound tables with what makes it one of this kind.
+pub fn changed(prng: &mut Prng, kind: Kind, mut page: Vec<u8>) -> Vec<u8> {
     match kind {
         Kind::Reached | Kind::Unreached | Kind::Twice => {}
         Kind::Twisted => return with_lines(&page, |lines| twist(prng, lines)),

@@ -28,14 +28,18 @@ fn block(text: &mut String, title: &str, bytes: &[u8], mark: Option<usize>) {
     }
 }
 
-/// The first line in which the two differ is marked in both.
 pub fn report(input: &[u8], got: &[u8]) -> String {
-    let expected = sheet(input);
-    let (right, wrong) = (lines(&expected), lines(got));
-    let same = right.iter().zip(&wrong).take_while(|(a, b)| a == b).count();
     let mut text = String::new();
     block(&mut text, "script", input, None);
-    block(&mut text, "the engine prints", &expected, Some(same));
+    text + &outputs(&sheet(input), got)
+}
+
+/// The first line in which the two differ is marked in both.
+pub fn outputs(expected: &[u8], got: &[u8]) -> String {
+    let (right, wrong) = (lines(expected), lines(got));
+    let same = right.iter().zip(&wrong).take_while(|(a, b)| a == b).count();
+    let mut text = String::new();
+    block(&mut text, "the engine prints", expected, Some(same));
     block(&mut text, "the other prints", got, Some(same));
     text
 }

@@ -1,6 +1,8 @@
 //! The command itself, with itself as the program that is compared.
 
+use std::ffi::OsStr;
 use std::io::Write;
+use std::os::unix::ffi::OsStrExt;
 use std::process::{Command, Output, Stdio};
 
 const COMPARE: &str = env!("CARGO_BIN_EXE_compare");
@@ -64,9 +66,90 @@ fn pages() {
 }
 
 #[test]
+fn texts() {
+    let output = compare(&["texts", "--count", "300", "--fault", "copy-preferred"], b"");
+    assert_eq!(output.status.code(), Some(1));
+    let text = String::from_utf8_lossy(&output.stdout).to_string();
+    assert!(
+        text.starts_with("difference on pair ") && text.contains("the other says:"),
+        "{}",
+        text
+    );
+    // An engine whose desk is right.
+    let output = compare(&["texts", "--count", "300", "--fault", "three-passes"], b"");
+    assert_eq!(output.status.code(), Some(0));
+    assert_eq!(output.stdout, b"1900 pairs: no difference\n");
+    let output = compare(&["texts", "--count", "300"], b"");
+    assert_eq!(output.status.code(), Some(0));
+    assert!(String::from_utf8_lossy(&output.stdout).contains("\ncounterpart missing "));
+}
+
+/// `compare look` is a `desk` program.
+#[test]
+fn desk() {
+    let output = compare(&["desk", "--count", "30", "--", COMPARE, "look"], b"");
+    assert_eq!(output.status.code(), Some(0));
+    assert_eq!(output.stdout, b"53 pairs, 212 runs: no difference\n");
+    let output = compare(&["desk", "--count", "1", "--", "echo", "answer=0,value=0"], b"");
+    assert_eq!(output.status.code(), Some(1));
+    let text = String::from_utf8_lossy(&output.stdout).to_string();
+    assert!(
+        text.contains("the engine prints:") && text.contains("\n  > answer=0,value=0"),
+        "{}",
+        text
+    );
+    let output = compare(&["desk", "--fault", "prints-fields"], b"");
+    assert_eq!(output.status.code(), Some(1));
+}
+
+/// Whether the program agrees, differs, or cannot be started.
+#[test]
+fn no_folder_is_left() {
+    let folder = std::env::temp_dir().join(format!("compare-left-{}", std::process::id()));
+    std::fs::create_dir_all(&folder).expect("a folder");
+    for (status, program) in [(0, &[COMPARE, "look"][..]), (1, &["echo"]), (2, &["./no-such"])] {
+        let run = Command::new(COMPARE)
+            .args(["desk", "--count", "2", "--"])
+            .args(program)
+            .env("TMPDIR", &folder)
+            .output();
+        assert_eq!(run.expect("the command ends").status.code(), Some(status));
+        assert_eq!(std::fs::read_dir(&folder).expect("a folder").count(), 0);
+    }
+    std::fs::remove_dir_all(&folder).expect("the folder goes");
+}
+
+/// The files of a difference, and a key that is no text.
+#[test]
+fn look() {
+    let folder = std::env::temp_dir().join(format!("compare-look-{}", std::process::id()));
+    std::fs::create_dir_all(&folder).expect("a folder");
+    let saved = folder.join("saved").display().to_string();
+    compare(&["desk", "--save", &saved, "--fault", "prints-original-always"], b"");
+    let [original, copy] = ["original", "copy"].map(|name| format!("{}.{}", saved, name));
+    assert_eq!(std::fs::read(&original).expect("a text"), b"");
+    assert!(std::fs::read(&copy).expect("a text").contains(&b'='));
+    std::fs::write(&original, b"\xff=1\nb=\n").expect("a file");
+    std::fs::write(&copy, b"b=2").expect("a file");
+    let looked = |wanted: &[&OsStr]| {
+        let run = Command::new(COMPARE).args(["look", &original, &copy]).args(wanted).output();
+        run.expect("the command ends").stdout
+    };
+    let found = looked(&[OsStr::from_bytes(b"\xff"), OsStr::new("1")]);
+    assert_eq!(found, b"original: \xff=1\n");
+    let list = looked(&[]);
+    std::fs::remove_dir_all(&folder).expect("the folder goes");
+    assert_eq!(list, b"line 1: \xff=1 | -\nline 2: b= | b=2\nanswer=0,value=2\n");
+}
+
+#[test]
 fn not_run() {
     for args in [
         &["run"][..],
+        &["desk"],
+        &["desk", "--", "./no-such-program"],
+        &["look", "./no-such-text", "./no-such-text"],
+        &["look"],
         &["run", "--", "./no-such-program"],
         &["run", "--fault", "no-such-fault"],
         &["run", "--seeds", "7"],

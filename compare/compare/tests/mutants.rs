@@ -1,5 +1,6 @@
 //! Every wrong engine is told from the right one within the seeds of the CI, but for those that show
-//! on tables put by hand alone (`faults/tests/hand.rs`) and on pages (`pages.rs`).
+//! on tables put by hand alone (`faults/tests/hand.rs`), on pages (`pages.rs`) and on pairs of texts
+//! (`texts.rs`).
 
 use comparer::differ::{begins_fresh, differs, fixed_inputs, run, shortest, Count, Failure};
 use comparer::other::Other;
@@ -7,7 +8,7 @@ use comparer::report::report;
 use comparer::{CI_LINES, CI_SEEDS};
 use engine::sheet;
 use engine::sheet::lines;
-use faults::{together, Fault, FAULTS, ON_TABLES};
+use faults::{together, Fault, Shown, FAULTS, ON_TABLES};
 
 /// A minute of ticks is more than a script has; some of the fixed inputs have it.
 const BY_FIXED_INPUT: [&str; 3] = ["seconds-run-on", "minutes-run-on", "hours-lost"];
@@ -18,9 +19,9 @@ fn first_failure(other: &Other) -> Option<Failure> {
 
 #[test]
 fn each_mutant_is_found_and_its_script_shrinks() {
-    assert!(FAULTS.iter().filter(|fault| !fault.on_pages).count() >= 82);
+    assert!(FAULTS.iter().filter(|fault| fault.shown == Shown::OnConsole).count() >= 82);
     for fault in FAULTS {
-        if ON_TABLES.contains(&fault.name) || fault.on_pages {
+        if ON_TABLES.contains(&fault.name) || fault.shown != Shown::OnConsole {
             continue;
         }
         let other = Other::Engine(fault.sheet);

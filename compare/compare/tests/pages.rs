@@ -8,7 +8,7 @@ use comparer::prng::Prng;
 use comparer::reading::{self, class, engine_reads, first_difference, report, Count, CI_PAGES};
 use engine::raw::Raw;
 use engine::{read, Answer, Engine, Value};
-use faults::{together_reads, FAULTS};
+use faults::{together_reads, Shown, FAULTS};
 
 const SEED: u64 = 1;
 
@@ -110,7 +110,7 @@ fn each_wrong_reader_is_found() {
     let trials = || all.iter().map(|(what, page, right)| (*what, page.as_slice(), right.clone()));
     // What all wrong ones that are built together have in common is right.
     assert!(first_difference(together_reads, trials()).is_none());
-    let wrong: Vec<_> = FAULTS.iter().filter(|fault| fault.on_pages).collect();
+    let wrong: Vec<_> = FAULTS.iter().filter(|fault| fault.shown == Shown::OnPages).collect();
     assert!(wrong.len() >= 68, "{}", wrong.len());
     for fault in wrong {
         // By pages of the seed alone.
@@ -125,7 +125,7 @@ fn each_wrong_reader_is_found() {
 fn the_example_is_read() {
     assert_eq!(read(EXAMPLE.as_bytes()).1, Answer::new(0, 0));
     let right = engine_reads(EXAMPLE.as_bytes()).0;
-    for fault in FAULTS.iter().filter(|fault| !fault.on_pages) {
+    for fault in FAULTS.iter().filter(|fault| fault.shown != Shown::OnPages) {
         assert_eq!((fault.read)(EXAMPLE.as_bytes()).0, right, "{}", fault.name);
     }
 }

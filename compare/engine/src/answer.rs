@@ -32,6 +32,7 @@ pub const TOO_SHORT: u64 = 12;
 pub const NOT_UNDERSTOOD: u64 = 13;
 pub const NOT_SOUND: u64 = 14;
 pub const NOT_READ: u64 = 15;
+pub const NO_LINE: u64 = 17;
 
 impl Answer {
     pub fn new(number: u64, value: u64) -> Answer {

@@ -13,9 +13,11 @@
 //! | `waking` | Ending and waking |
 //! | `page`, `line`, `sheet` | The page and the console line |
 //! | `read` | a page read back: request (i) |
+//! | `desk` | a line found, and lines that differ, in two texts: request (xii) |
 //! | `raw`, `sound` | the tables as a caller could hand them in, and when they are sound |
 
 pub mod answer;
+pub mod desk;
 pub mod exec;
 pub mod line;
 pub mod numbers;
@@ -30,6 +32,7 @@ pub mod tracks;
 pub mod waking;
 
 pub use answer::{Answer, Outcome, Value};
+pub use desk::{Desk, Found, Mark};
 pub use line::{parse, Request};
 pub use numbers::Kind;
 pub use raw::Raw;

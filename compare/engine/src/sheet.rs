@@ -36,7 +36,7 @@ pub fn print_line(engine: &mut Engine, line: &[u8]) -> Vec<u8> {
 }
 
 /// Time is printed as `day.hour.minute.second.hundredth`.
-fn print_answer(answer: Answer) -> String {
+pub fn print_answer(answer: Answer) -> String {
     let value = match answer.value {
         Value::Number(number) => number.to_string(),
         Value::Time(parts) => {

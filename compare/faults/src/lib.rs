@@ -4,6 +4,19 @@
 
 mod choice;
 
+/// Where a wrong engine shows: each kind has its list.
+#[derive(Clone, Copy, Debug, PartialEq, Eq)]
+pub enum Shown {
+    /// Or on tables put by hand.
+    OnConsole,
+    /// Its reader of pages is wrong.
+    OnPages,
+    /// Its reading desk is wrong.
+    OnTexts,
+    /// Its desk is right, but not what the program prints of it.
+    OnPaper,
+}
+
 /// A wrong engine.
 #[derive(Clone, Copy)]
 pub struct Fault {
@@ -13,13 +26,28 @@ pub struct Fault {
     pub what: &'static str,
     /// Its number in `together`; 0 if it is built by itself.
     choice: usize,
-    /// Its reader of pages is wrong: no console line shows it.
-    pub on_pages: bool,
+    pub shown: Shown,
     /// Console lines in, what its `sheet` prints out.
     pub sheet: fn(&[u8]) -> Vec<u8>,
     /// What it reads from a page, in print: the answer, and the tables.
     pub read: fn(&[u8]) -> (String, String),
+    pub desk: InPrint,
 }
+
+/// The calls of an engine's reading desk on two texts, the original's and the copy's; what they say
+/// is in print.
+#[derive(Clone, Copy)]
+pub struct InPrint {
+    /// A key and its occurrence in, what was found out.
+    pub find: fn(&[u8], &[u8], &[u8], u64) -> String,
+    /// The answer; the list that is lent may be filled.
+    pub list: fn(&[u8], &[u8], &mut [u64]) -> String,
+    /// What its program `desk` prints.
+    pub print: Print,
+}
+
+/// Two texts, and perhaps a key with its occurrence, in; what `desk` prints out.
+pub type Print = fn(&[u8], &[u8], Option<(&[u8], u64)>) -> Vec<u8>;
 
 /// A reading by one of the engines, whose types are all different.
 macro_rules! told {
@@ -27,6 +55,25 @@ macro_rules! told {
         let (tables, answer) = $engine::read($page);
         (format!("{:?}", answer), format!("{:?}", tables))
     }};
+}
+
+/// The desk of one of the engines, with this one chosen of those that are built together.
+macro_rules! desk {
+    ($engine:ident, $choice:expr) => {
+        InPrint {
+            find: |original, copy, key, occurrence| {
+                let find = || $engine::desk::find(original, copy, key, occurrence);
+                format!("{:?}", choice::with($choice, find))
+            },
+            list: |original, copy, list| {
+                let list = || $engine::desk::list(original, copy, list);
+                format!("{:?}", choice::with($choice, list))
+            },
+            print: |original, copy, asked| {
+                choice::with($choice, || $engine::Desk::new(original, copy).print(asked))
+            },
+        }
+    };
 }
 
 include!(concat!(env!("OUT_DIR"), "/engines.rs"));
@@ -50,6 +97,9 @@ pub const ON_TABLES: [&str; 9] = [
 pub fn together_reads(page: &[u8]) -> (String, String) {
     told!(together, page)
 }
+
+/// The desk of the engine of all that are built together, with nothing chosen.
+pub const TOGETHER_DESK: InPrint = desk!(together, 0);
 
 impl Fault {
     pub fn by_name(name: &str) -> Option<Fault> {

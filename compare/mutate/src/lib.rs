@@ -4,7 +4,9 @@
 //! | file | subject |
 //! |---|---|
 //! | `sites` | the changes that a source allows |
+//! | `programs` | the programs in which they are tried, and what these are given |
 //! | `trial` | changed engines, built and tried |
 
+pub mod programs;
 pub mod sites;
 pub mod trial;

@@ -1,10 +1,8 @@
 //! Changed engines, built and tried: first by the comparer in the place of the program, then by the
 //! engine's own tests.
 
-use comparer::differ::everything;
+use crate::programs::{programs, Program};
 use comparer::other::Other;
-use comparer::reading::{engine_reads, pages, CI_PAGES};
-use comparer::{CI_LINES, CI_SEEDS};
 use edit::change::Change;
 use edit::files::{files, name, read};
 use edit::many::with_all;
@@ -25,8 +23,9 @@ pub enum Verdict {
 /// The sources that no console line comes to: the tables as a caller could hand them in.
 pub const OFF_THE_CONSOLE: [&str; 2] = ["raw.rs", "sound.rs"];
 
-/// The sources that no console line comes to, but every page that is read.
+/// The sources that no console line comes to, but every page that is read, or every pair of texts.
 pub const ON_PAGES: [&str; 1] = ["read.rs"];
+pub const ON_TEXTS: [&str; 1] = ["desk.rs"];
 
 /// How long one run may take; the right engine takes a second.
 const LIMIT: Duration = Duration::from_secs(15);
@@ -52,63 +51,16 @@ pub mod choice {
 
 const ENGINE: &str = "--extern=engine=libengine.rlib";
 
-const SHEET: &str = "use std::io::{Read, Write};
-fn main() {
-    let mut input = Vec::new();
-    std::io::stdin().lock().read_to_end(&mut input).expect(\"input\");
-    let output = engine::sheet(&input);
-    std::io::stdout().lock().write_all(&output).expect(\"output\");
-}
-";
-
-/// Pages in, each after its length, and out what the engine reads from each: the answer, and the
-/// tables as one number.
-const READS: &str = "use std::io::{Read, Write};
-fn main() {
-    let mut input = Vec::new();
-    std::io::stdin().lock().read_to_end(&mut input).expect(\"input\");
-    let mut output = Vec::new();
-    let mut rest = &input[..];
-    while rest.len() >= 8 {
-        let size = u64::from_le_bytes(rest[..8].try_into().expect(\"eight bytes\")) as usize;
-        let (tables, answer) = engine::read(&rest[8..8 + size]);
-        let tables = format!(\"{:?}\", tables);
-        let mixed = |sum: u64, byte: u8| (sum ^ u64::from(byte)).wrapping_mul(0x100000001b3);
-        let sum = tables.bytes().fold(0xcbf29ce484222325, mixed);
-        output.extend(format!(\"{:?} {}\\n\", answer, sum).bytes());
-        rest = &rest[8 + size..];
-    }
-    std::io::stdout().lock().write_all(&output).expect(\"output\");
-}
-";
-
-/// All pages that the comparer compares in one input, with what is right.
-fn all_pages() -> (Vec<u8>, Vec<u8>) {
-    let (mut input, mut output) = (Vec::new(), Vec::new());
-    for (_, page) in pages(1, CI_PAGES) {
-        input.extend((page.len() as u64).to_le_bytes());
-        input.extend_from_slice(&page);
-        let (answer, tables) = engine_reads(&page);
-        let mixed = |sum: u64, byte: u8| (sum ^ u64::from(byte)).wrapping_mul(0x0100_0000_01b3);
-        let sum = tables.bytes().fold(0xcbf2_9ce4_8422_2325, mixed);
-        output.extend(format!("{} {}\n", answer, sum).bytes());
-    }
-    (input, output)
-}
-
 /// A folder in which engines are built.
 pub struct Shop {
     folder: PathBuf,
-    /// What the comparer compares, with what is right.
-    inputs: Vec<(Vec<u8>, Vec<u8>)>,
-    pages: (Vec<u8>, Vec<u8>),
+    programs: [Program; 3],
 }
 
 impl Shop {
-    /// A copy of the engine's sources, its tests in one program, a `sheet`, and a reader of pages.
+    /// A copy of the engine's sources, its tests in one program, and the programs to try it in.
     pub fn new(engine: &Path, folder: &Path) -> Result<Shop, String> {
-        let inputs = everything(CI_SEEDS, CI_LINES);
-        let shop = Shop { folder: folder.to_path_buf(), inputs, pages: all_pages() };
+        let shop = Shop { folder: folder.to_path_buf(), programs: programs() };
         fs::create_dir_all(shop.at("src")).map_err(|error| error.to_string())?;
         for file in files(&engine.join("src"), "rs")? {
             shop.write(&format!("src/{}", name(&file)), &read(&file)?)?;
@@ -120,8 +72,9 @@ impl Shop {
             all += &format!("#[path = {:?}]\nmod {};\n", file.display().to_string(), module);
         }
         shop.write("tests.rs", &all)?;
-        shop.write("sheet.rs", SHEET)?;
-        shop.write("reads.rs", READS)?;
+        for Program { name, source, .. } in &shop.programs {
+            shop.write(&format!("{}.rs", name), source)?;
+        }
         Ok(shop)
     }
 
@@ -212,13 +165,13 @@ impl Shop {
         Ok(places)
     }
 
-    /// The engine, its `sheet` and its reader. Where the errors are, none if it was built.
+    /// The engine, and the programs to try it in. Where the errors are, none if it was built.
     fn build_engine(&self, quick: &str) -> Result<Vec<(String, usize)>, String> {
         let library = ["--crate-type=rlib", "--crate-name=engine", quick];
         let mut errors = self.build("src/lib.rs", &library)?;
-        for program in ["sheet.rs", "reads.rs"] {
+        for program in &self.programs {
             if errors.is_empty() {
-                errors = self.build(program, &[ENGINE])?;
+                errors = self.build(&format!("{}.rs", program.name), &[ENGINE])?;
             }
         }
         Ok(errors)
@@ -240,12 +193,14 @@ impl Shop {
         if OFF_THE_CONSOLE.contains(&file) {
             return Ok(false);
         }
-        let (program, inputs) = match ON_PAGES.contains(&file) {
-            true => ("reads", std::slice::from_ref(&self.pages)),
-            false => ("sheet", self.inputs.as_slice()),
+        let [console, on_pages, on_texts] = &self.programs;
+        let program = match file {
+            _ if ON_PAGES.contains(&file) => on_pages,
+            _ if ON_TEXTS.contains(&file) => on_texts,
+            _ => console,
         };
-        let other = Other::Program { command: self.command(program, number), limit: LIMIT };
-        for (input, expected) in inputs {
+        let other = Other::Program { command: self.command(program.name, number), limit: LIMIT };
+        for (input, expected) in &program.inputs {
             if other.print(input)? != *expected {
                 return Ok(true);
             }

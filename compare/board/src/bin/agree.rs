@@ -2,7 +2,7 @@
 
 #![forbid(unsafe_code)]
 
-use board::{pages, tables, text, words};
+use board::{desk, pages, tables, text, words};
 use comparer::{CI_LINES, CI_SEEDS};
 use std::process::ExitCode;
 
@@ -10,6 +10,7 @@ const USAGE: &str = "usage:
   agree tables [--count N] [--seed S]
   agree text [--seeds A..B] [--lines N]
   agree pages [--count N] [--seed S]
+  agree desk [--count N] [--seed S]
 Seeds A..B are A and up, below B. Status 0: no difference; 1: a difference; 2: not run.";
 
 fn main() -> ExitCode {
@@ -18,6 +19,7 @@ fn main() -> ExitCode {
         Some((first, rest)) if first == "tables" => run_tables(rest),
         Some((first, rest)) if first == "text" => run_text(rest),
         Some((first, rest)) if first == "pages" => run_pages(rest),
+        Some((first, rest)) if first == "desk" => run_desk(rest),
         _ => Err(USAGE.to_string()),
     };
     match ran {
@@ -85,5 +87,15 @@ fn run_pages(rest: &[String]) -> Result<Verdict, String> {
         let all = read + line + none;
         let sums = format!("{} read, {} with 15 and a line, {} with 15 and 0", read, line, none);
         format!("{}\n{} pages, {}: no difference\n", total.print(), all, sums)
+    }))
+}
+
+fn run_desk(rest: &[String]) -> Result<Verdict, String> {
+    let (count, seed) = count_and_seed(rest)?;
+    let mut total = desk::Count::default();
+    let compared = desk::lengths().and_then(|()| desk::agree(seed, count, &mut total));
+    Ok(compared.map(|()| {
+        let (pairs, calls) = (total.tally.pairs(), total.calls + total.fixed);
+        format!("{}\n{} pairs, {} calls: no difference\n", total.print(), pairs, calls)
     }))
 }

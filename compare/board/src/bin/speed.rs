@@ -3,9 +3,11 @@
 #![forbid(unsafe_code)]
 
 use board::clock::{race, Contestant};
+use board::looks::{self, What};
 use board::pack::{formed, pack};
 use board::tables::{reply_of, Case, Cases, Kind};
 use board::{ffi, load, natural, words};
+use comparer::texts::Pair;
 use engine::sheet::lines;
 use std::process::ExitCode;
 
@@ -116,7 +118,8 @@ fn heading() {
     println!(
         "Speed: the engine's time divided by the library's; above 1.00 the library is quicker.\n\
          \"tested\" is the engine with a soundness test before every line, as the library has it,\n\
-         \"untested\" the engine without any. Where a page is read, \"ns a line\" are those of a page.\n"
+         \"untested\" the engine without any. Where a page is read or two texts are looked at, \"ns a\n\
+         line\" are those of a call.\n"
     );
     println!("{:32}{:>18}{:>32}", "", "speed against", "ns a line, of this machine");
     let sides = ["tested", "untested"];
@@ -150,7 +153,12 @@ fn rows(rounds: usize) -> Result<(), String> {
     calls(rounds, "soundness of given tables", &cases, sounds)?;
     calls(rounds, "one line on given tables", &cases, asks)?;
     pages(rounds, "a full page read", &load::full_page())?;
-    pages(rounds, "a small page read", &load::small_page())
+    pages(rounds, "a small page read", &load::small_page())?;
+    look(rounds, "list, two full pages", What::List, &load::same_pages())?;
+    look(rounds, "list, one figure changed", What::List, &load::one_figure())?;
+    look(rounds, "find the last key, full page", What::Find(b"end"), &load::same_pages())?;
+    look(rounds, "list, 10,000 lines", What::List, &load::same_lines(10_000, 10_000))?;
+    look(rounds, "list, 10,000, first missing", What::List, &load::first_missing(10_000, 10_000))
 }
 
 /// Sound tables, reached and not, each with a line.
@@ -288,6 +296,16 @@ fn pages(rounds: usize, name: &str, page: &[u8]) -> Result<(), String> {
     Ok(())
 }
 
+/// Nanoseconds a call.
+fn look(rounds: usize, name: &str, what: What, pair: &Pair) -> Result<(), String> {
+    let [ours, rust] = looks::times(rounds, what, &[pair])?[0];
+    let speed = rust / ours;
+    // One that grows with the square of the lines may be far below.
+    let digits = if speed < 0.1 { 4 } else { 2 };
+    println!("{:32}{:>8.*}{:>10}{:>12.0}{:>10.0}{:>10}", name, digits, speed, "-", ours, rust, "-");
+    Ok(())
+}
+
 /// How the time of a line grows: against the first column.
 fn growth(rounds: usize) -> Result<(), String> {
     println!("\nGrowth: the time of a line as a multiple of that in the first column.");
@@ -296,7 +314,27 @@ fn growth(rounds: usize) -> Result<(), String> {
     let tracks = [16, 64, 256].map(|n| (n, load::by_tracks(n, 20_000)));
     grow(rounds, "tracks", &tracks)?;
     let lines = [1_000, 10_000, 100_000].map(|n| (n, load::by_programs(8, n)));
-    grow(rounds, "lines", &lines)
+    grow(rounds, "lines", &lines)?;
+    grow_lists(rounds, "lines listed, a key for each", |lines| lines)?;
+    grow_lists(rounds, "lines listed, seven keys", |_| 7)
+}
+
+/// The time of a list by the lines of two texts, the same in both, and without the copy's first.
+fn grow_lists(rounds: usize, name: &str, keys: fn(usize) -> usize) -> Result<(), String> {
+    let counts = [100, 1_000, 10_000];
+    let mut pairs = counts.map(|lines| load::same_lines(lines, keys(lines))).to_vec();
+    pairs.push(load::first_missing(10_000, keys(10_000)));
+    let columns = looks::times(rounds, What::List, &pairs.iter().collect::<Vec<_>>())?;
+    let numbers: String = counts.iter().map(|lines| format!("{:>10}", lines)).collect();
+    println!("\n{:32}{}{:>24}", name, numbers, "10000, first missing");
+    for (side, title) in ["library", "engine"].iter().enumerate() {
+        // Of the last pair as of the one before it.
+        let lines = [counts[0], counts[1], counts[2], counts[2]].map(|count| count as f64);
+        let a_line = |place: usize| columns[place][side] / lines[place];
+        let ratios = [0, 1, 2].map(|place| format!("{:>10.2}", a_line(place) / a_line(0)));
+        println!("  {:30}{}{:>24.2}", title, ratios.concat(), a_line(3) / a_line(0));
+    }
+    Ok(())
 }
 
 fn grow(rounds: usize, name: &str, texts: &[(usize, Vec<u8>)]) -> Result<(), String> {
