@@ -1,16 +1,18 @@
 //! The command line: see `USAGE`.
 
+use comparer::asks::Ask;
 use comparer::differ::{self, shortest, Count, Failure};
 use comparer::filed::{self, Folder, Program, CI_FILED};
-use comparer::looking::{self, CI_PAIRS};
+use comparer::looking::{self, Trial, CI_PAIRS};
 use comparer::other::Other;
 use comparer::pages::{in_turn, turn, Pages};
 use comparer::reading::{self, CI_PAGES};
 use comparer::report::report;
 use comparer::script::generate;
 use comparer::tally;
+use comparer::texts::Pair;
 use comparer::{CI_LINES, CI_SEEDS};
-use engine::{sheet, Answer, Desk, Value};
+use engine::{sheet, Answer, Desk, Found, Value};
 use faults::{Fault, FAULTS};
 use std::ffi::OsString;
 use std::io::{self, Read, Write};
@@ -32,6 +34,7 @@ const USAGE: &str = "usage:
   compare gen [--seed K] [--lines N]
   compare cases [--seeds A..B] [--lines N]
   compare readings [--seeds A..B] [--count N]
+  compare lookings [--seeds A..B] [--count N]
 Seeds A..B are A and up, below B. Status 0: no difference; 1: a difference; 2: not run.";
 
 struct Options {
@@ -82,6 +85,7 @@ fn command() -> Result<u8, String> {
         }
         "cases" => cases(options(rest)?),
         "readings" => readings(options(rest)?),
+        "lookings" => lookings(options(rest)?),
         _ => Err(USAGE.to_string()),
     }
 }
@@ -279,6 +283,35 @@ fn readings(options: Options) -> Result<u8, String> {
             };
             text += &format!("seed {}\nkind {}\npage{}\n", seed, kind.what(), decimal(&page));
             text += &format!("answer {} {}\n", number, value);
+        }
+    }
+    print(text.as_bytes())
+}
+
+/// Pairs of short texts, so that definitions can be computed on them.
+const SHORT: usize = 300;
+
+fn lookings(options: Options) -> Result<u8, String> {
+    let count = options.count.unwrap_or(10);
+    let mut text = String::new();
+    for seed in options.seeds {
+        let short = |pair: &Pair| pair.original.len().max(pair.copy.len()) <= SHORT;
+        let trials = looking::trials(seed, usize::MAX).filter(|trial| short(&trial.pair));
+        for Trial { pair, asked, .. } in trials.take(count) {
+            let desk = Desk::new(&pair.original, &pair.copy);
+            text += &format!("seed {}\noriginal{}\n", seed, decimal(&pair.original));
+            text += &format!("copy{}\n", decimal(&pair.copy));
+            let mut list = vec![0; looking::listed(&desk)];
+            desk.list(&mut list);
+            let numbers: String = list.iter().map(|number| format!(" {}", number)).collect();
+            text += &format!("listed{}\n", numbers);
+            for (ask, _) in asked {
+                if let Ask::Find { key, occurrence } = ask {
+                    let Found { answer, mark, begin, end } = desk.find(&key, occurrence);
+                    text += &format!("key{}\noccurrence {}\n", decimal(&key), occurrence);
+                    text += &format!("found {} {} {} {}\n", answer.number, mark as u8, begin, end);
+                }
+            }
         }
     }
     print(text.as_bytes())
