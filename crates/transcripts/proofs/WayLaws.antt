@@ -1,5 +1,5 @@
--- A walk over the original, line by line, with a place in the copy: up to there both have the same keys in the same order, so what a line's
--- counterpart is can be read off the lines behind these places.
+-- A walk over the original, line by line, with a place in the copy: the lines up to there go together, key by key, so what a line's counterpart
+-- is can be read off the lines behind these places.
 -- Assumes nothing.
 use Prim.Native.Nat.{ℕ, zero, suc, _+_, _-_, _≤_, _<_}
 use native.Mathlib.Omega.{arith}
@@ -14,9 +14,9 @@ use Rattle.text.specs.Inner.{PartEnd}
 use Rattle.transcripts.specs.Transcripts.{Line, linesIn, keyOf, isKey, hasKey, withKey, occurrence}
 use Rattle.transcripts.specs.Listing.{counterpartOf}
 use Rattle.transcripts.specs.Inner.{linesFrom, lineAt, firstOr, firstKeyed, onKeys, keysIn, Between, here, next}
-use Rattle.transcripts.specs.Inner.{occurrences, behindOthers, OnWay}
+use Rattle.transcripts.specs.Inner.{occurrences, behindOthers, Even, even, spent, OnWay}
 use Rattle.transcripts.proofs.LineLaws.{from-next, from-start}
-use Rattle.transcripts.proofs.KeyLaws.{has-none, has-some}
+use Rattle.transcripts.proofs.KeyLaws.{has-none, has-some, key-is}
 use Rattle.transcripts.proofs.OccurrenceLaws.{count-none, count-append, behind-append, behind-miss, behind-hit, count-miss, count-hit}
 use Rattle.transcripts.proofs.Standing.{by-lines}
 
@@ -50,6 +50,31 @@ keys-append (x ∷ xs) ys = go (keyOf (x .bytes)) (keys-append xs ys)
     go none e = e
     go (some k) e = ap (λ (ks : List (List ℕ)). k ∷ ks) e
 
+-- where the first is missing, all are
+with-none : (k : List ℕ) (xs : List Line) → behindOthers k 0 xs ≡ none → withKey k xs ≡ []
+unfolding behindOthers
+with-none k xs e = go (withKey k xs) e
+  where
+    go : (ys : List Line) → getElem? ys 0 ≡ none → ys ≡ []
+    go [] q = refl
+    go (y ∷ ys) q = let z : _≡_ {A = ℕ} 0 1 = cc in absurd (omega arith)
+
+none-all : (k : List ℕ) (n : ℕ) (xs : List Line) → behindOthers k 0 xs ≡ none → behindOthers k n xs ≡ none
+unfolding behindOthers
+none-all k n xs e = ap (λ (ys : List Line). getElem? ys n) (with-none k xs e)
+
+none-count : (k : List ℕ) (xs : List Line) → behindOthers k 0 xs ≡ none → occurrences k xs ≡ 0
+unfolding occurrences
+none-count k xs e = ap length (with-none k xs e)
+
+count-zero : (k : List ℕ) (xs : List Line) → occurrences k xs ≡ 0 → behindOthers k 0 xs ≡ none
+unfolding occurrences behindOthers
+count-zero k xs e = go (withKey k xs) e
+  where
+    go : (ys : List Line) → length ys ≡ 0 → getElem? ys 0 ≡ none
+    go [] q = refl
+    go (y ∷ ys) q = absurd (omega arith)
+
 -- the line n others with its key stand before, by the definition
 pub counted-from : (k s : List ℕ) (n : ℕ) → occurrence k (suc n) (linesIn s) ≡ behindOthers k n (linesIn s)
 unfolding occurrence behindOthers
@@ -58,14 +83,23 @@ counted-from k s n = let e : suc n - 1 ≡ n = omega arith in ap (getElem? (with
 module _ {o c : List ℕ} {at base other : ℕ} {before : List Line} (w : OnWay o c at base other before) where
   pub counterpart-behind : (k : List ℕ) → counterpartOf c before k ≡ behindOthers k (occurrences k (w .since)) (linesFrom c other)
   unfolding occurrences
-  counterpart-behind k =
-      let n : occurrences k before ≡ occurrences k (w .fore) + occurrences k (w .since) =
-      ap (occurrences k) (w .split) ∙ count-append k (w .front) (w .since)
-      ∙ ap (λ (i : ℕ). i + occurrences k (w .since)) (same-count k (w .front) (w .fore) (w .keys))
-      in
-      counted-from k c (occurrences k before)
-      ∙ ap₂ (λ (i : ℕ) (xs : List Line). behindOthers k i xs) n (w .there)
-      ∙ behind-append k (occurrences k (w .since)) (w .fore) (linesFrom c other)
+  counterpart-behind k = counted-from k c (occurrences k before) ∙ go (w .together k)
+    where
+      all : occurrences k before ≡ occurrences k (w .front) + occurrences k (w .since)
+      all = ap (occurrences k) (w .split) ∙ count-append k (w .front) (w .since)
+
+      -- behind those in front in the copy
+      past : (d : ℕ) → occurrences k before ≡ occurrences k (w .fore) + d → behindOthers k (occurrences k before) (linesIn c)
+          ≡ behindOthers k d (linesFrom c other)
+      past d n = ap₂ (λ (i : ℕ) (xs : List Line). behindOthers k i xs) n (w .there) ∙ behind-append k d (w .fore) (linesFrom c other)
+
+      go : Even k (w .front) (w .fore) (linesFrom c other)
+          → behindOthers k (occurrences k before) (linesIn c) ≡ behindOthers k (occurrences k (w .since)) (linesFrom c other)
+      go (even e) = past (occurrences k (w .since)) (omega (arith, all, e))
+      go (spent h e) =
+          past (occurrences k before - occurrences k (w .fore)) (omega (arith, all, h))
+          ∙ none-all k (occurrences k before - occurrences k (w .fore)) (linesFrom c other) e
+          ∙ sym (none-all k (occurrences k (w .since)) (linesFrom c other) e)
 
   module _ (e : ℕ) (h : at < length o) (p : PartEnd 10 o at e) where
     abbrev line : Line
@@ -92,7 +126,7 @@ module _ {o c : List ℕ} {at base other : ℕ} {before : List Line} (w : OnWay 
       between = between-more (w .between);
       fore = w .fore;
       there = w .there;
-      keys = w .keys;
+      together = w .together;
     }
 
     -- the places are here: nothing stands since them
@@ -107,10 +141,15 @@ module _ {o c : List ℕ} {at base other : ℕ} {before : List Line} (w : OnWay 
       all-front : before ≡ w .front
       all-front = w .split ∙ ap (λ (xs : List Line). w .front ++ xs) none-since ∙ append-nil (w .front)
 
-      -- on to behind the line, and in the copy to behind lines with the same keys
-      pub steps : (more : List Line) (other′ : ℕ) → linesFrom c other ≡ more ++ linesFrom c other′ → keysIn (line ∷ []) ≡ keysIn more
+      -- with the line, the original has so many of a key
+      with-line : (k : List ℕ) → occurrences k (before ++ (line ∷ [])) ≡ occurrences k (w .front) + occurrences k (line ∷ [])
+      with-line k = count-append k before (line ∷ []) ∙ ap (λ (xs : List Line). occurrences k xs + occurrences k (line ∷ [])) all-front
+
+      -- on to behind the line, and in the copy to behind lines that go together with it
+      moves : (more : List Line) (other′ : ℕ) → linesFrom c other ≡ more ++ linesFrom c other′
+          → ((k : List ℕ) → Even k (before ++ (line ∷ [])) (w .fore ++ more) (linesFrom c other′))
           → OnWay o c (e + 1) (e + 1) other′ (before ++ (line ∷ []))
-      steps more other′ t k = record {
+      moves more other′ t g = record {
         here = further;
         front = before ++ (line ∷ []);
         since = [];
@@ -118,11 +157,40 @@ module _ {o c : List ℕ} {at base other : ℕ} {before : List Line} (w : OnWay 
         between = here refl;
         fore = w .fore ++ more;
         there = w .there ∙ ap (λ (xs : List Line). w .fore ++ xs) t ∙ sym (append-assoc (w .fore) more (linesFrom c other′));
-        keys =
-            keys-append before (line ∷ [])
-            ∙ ap₂ (λ (js ks : List (List ℕ)). js ++ ks) (ap keysIn all-front ∙ w .keys) k
-            ∙ sym (keys-append (w .fore) more);
+        together = g;
       }
+
+      -- lines with the same keys
+      pub steps : (more : List Line) (other′ : ℕ) → linesFrom c other ≡ more ++ linesFrom c other′ → keysIn (line ∷ []) ≡ keysIn more
+          → OnWay o c (e + 1) (e + 1) other′ (before ++ (line ∷ []))
+      steps more other′ t q′ = moves more other′ t (λ k. go k (w .together k))
+        where
+          go : (k : List ℕ) → Even k (w .front) (w .fore) (linesFrom c other)
+              → Even k (before ++ (line ∷ [])) (w .fore ++ more) (linesFrom c other′)
+          go k (even r) = even (omega (arith, with-line k, count-append k (w .fore) more, same-count k (line ∷ []) more q′, r))
+          go k (spent r n) =
+              let none = none-count k (linesFrom c other) n in
+              let split = ap (occurrences k) t ∙ count-append k more (linesFrom c other′) in
+              spent (omega (arith, with-line k, count-append k (w .fore) more, same-count k (line ∷ []) more q′, r))
+              (count-zero k (linesFrom c other′) (omega (arith, none, split)))
+
+      -- no line, where the copy has none of this key ahead: it will have none for later ones either
+      pub passes : (j : List ℕ) → keyOf (line .bytes) ≡ some j → behindOthers j 0 (linesFrom c other) ≡ none
+          → OnWay o c (e + 1) (e + 1) other (before ++ (line ∷ []))
+      passes j r n = moves [] other refl (λ k. go k (hasKey k (line .bytes)) refl (w .together k))
+        where
+          same : (k : List ℕ) → hasKey k (line .bytes) ≡ true → j ≡ k
+          same k h = let f : some j ≡ some k = sym r ∙ key-is k (line .bytes) h in cc
+
+          go : (k : List ℕ) (b : Bool) → hasKey k (line .bytes) ≡ b → Even k (w .front) (w .fore) (linesFrom c other)
+              → Even k (before ++ (line ∷ [])) (w .fore ++ []) (linesFrom c other)
+          go k true h (even f) =
+              spent (omega (arith, with-line k, count-append k (w .fore) [], count-none k, f))
+              (subst (λ (i : List ℕ). behindOthers i 0 (linesFrom c other) ≡ none) (same k h) n)
+          go k true h (spent f m) = spent (omega (arith, with-line k, count-append k (w .fore) [], count-none k, f)) m
+          go k false h (even f) =
+              even (omega (arith, with-line k, count-append k (w .fore) [], count-none k, count-miss k line [] h, f))
+          go k false h (spent f m) = spent (omega (arith, with-line k, count-append k (w .fore) [], count-none k, f)) m
 
 -- at the start
 pub way-start : (o c : List ℕ) → OnWay o c 0 0 0 []
@@ -134,7 +202,7 @@ way-start o c = record {
   between = here refl;
   fore = [];
   there = from-start c;
-  keys = refl;
+  together = λ k. even refl;
 }
 
 -- of the lines up to the first with a key, that one alone has one

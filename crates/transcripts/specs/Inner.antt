@@ -65,8 +65,13 @@ behindOthers k n xs = getElem? (withKey k xs) n
 pub record Counted (k s : List ℕ) (from to n : ℕ) : Type 0 where
   pub right : (xs : List Line) → Between s to from xs → n ≡ occurrences k xs
 
+-- of this key, some lines of the original and some of the copy have as many; or the original has more, and the copy none ahead
+pub data Even (k : List ℕ) (front fore ahead : List Line) : Type 0 where
+  even : occurrences k front ≡ occurrences k fore → Even k front fore ahead
+  spent : occurrences k fore ≤ occurrences k front → behindOthers k 0 ahead ≡ none → Even k front fore ahead
+
 -- A turn's place: the line at `at` stands behind the lines `before`. Those in front of `base` and those of the copy in front of `other`
--- have the same keys in the same order, so a line behind has its counterpart behind.
+-- go together, key by key, so a line behind has its counterpart behind.
 pub record OnWay (original copy : List ℕ) (at base other : ℕ) (before : List Line) : Type 0 where
   pub here : linesIn original ≡ before ++ linesFrom original at
   pub front : List Line
@@ -75,7 +80,7 @@ pub record OnWay (original copy : List ℕ) (at base other : ℕ) (before : List
   pub between : Between original at base since
   pub fore : List Line
   pub there : linesIn copy ≡ fore ++ linesFrom copy other
-  pub keys : keysIn front ≡ keysIn fore
+  pub together : (k : List ℕ) → Even k front fore (linesFrom copy other)
 
 -- a spot lies in the text
 abbrev pub SpotIn : List ℕ → Spot → Type 0
@@ -96,6 +101,12 @@ Tells copy before x r (some k) =
 pub record Turned (original copy : List ℕ) (at : ℕ) (before : List Line) (r : Turn) : Type 0 where
   pub tells : Tells copy before (lineAt original at (r .end)) r (keyOf (slice at (r .end) original))
   pub onward : OnWay original copy (r .end + 1) (r .base) (r .other) (before ++ (lineAt original at (r .end) ∷ []))
+
+-- a line of a text, with its key
+pub record KeyedLine (s : List ℕ) (at e : ℕ) (k : List ℕ) : Type 0 where
+  pub begins : at < length s
+  pub ends : PartEnd 10 s at e
+  pub key : keyOf (slice at e s) ≡ some k
 
 -- what a turn promises, wherever it stands
 pub record TakesTurn (original copy : List ℕ) (at base other : ℕ) (r : Turn) : Type 0 where

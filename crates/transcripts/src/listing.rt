@@ -6,13 +6,13 @@ ghost use lib.ListN.{length, take};
 ghost use lib.Seq.{slice};
 ghost use Rattle.text.specs.Inner.{Wrote};
 ghost use Rattle.transcripts.specs.Listing.{listedLines, answered, listing, figuring};
-ghost use Rattle.transcripts.specs.Inner.{SpotIn, heldAt, TakesTurn, TurnedApart, Width, cut, Fills, filledBy};
+ghost use Rattle.transcripts.specs.Inner.{SpotIn, heldAt, KeyedLine, TakesTurn, TurnedApart, Width, cut, Fills, filledBy};
 use super::lines;
 use super::lines::Spot;
 use rules::Answer;
 
 // One line of the original held against its counterpart: where it ends; whether it is listed, and where its counterpart begins, the copy's
-// length where it has none; and the places up to which the two texts have the same keys in the same order.
+// length where it has none; and the places up to which the lines of the two texts go together.
 pub(crate) struct Turn {
     end: usize,
     listed: bool,
@@ -47,7 +47,7 @@ fn hold(original: &[u8], at: usize, end: usize, copy: &[u8], spot: Spot) -> Held
 }
 
 // The line original[at..end], where its counterpart is not the next line with a key: it is counted off, behind the places up to which the
-// two texts have the same keys.
+// two texts go together.
 fn turn_apart(
     original: &[u8],
     copy: &[u8],
@@ -73,8 +73,47 @@ fn turn_apart(
     }
 }
 
-// The line at `at` held against its counterpart. Where the two texts have the same keys up to here, and the next line of the copy with a key
-// has this line's, that is its counterpart; so texts with the same keys in the same order are gone through once.
+// The line original[at..end], where the lines up to here and those of the copy up to `other` go together. Where the next line of the copy with
+// a key has this line's, that is its counterpart, and both go on; where the key does not come any more, the original goes on alone.
+fn turn_together(
+    original: &[u8],
+    copy: &[u8],
+    at: usize,
+    end: usize,
+    key: &[u8],
+    other: usize,
+) -> Turn
+    requires { ⌜ KeyedLine (now original) at end (now key) ⌝ }
+    ensures { λ r. ⌜ TakesTurn (now (original .entry)) (now (copy .entry)) at at other r ⌝ }
+{
+    let next = lines::first_keyed(copy, other);
+    if let Spot::At(a, e) = next {
+        if lines::has_key(&copy[a..e], key) {
+            let held = hold(original, at, end, copy, next);
+            return Turn {
+                end: end,
+                listed: held.listed,
+                begins: held.begins,
+                base: end + 1,
+                other: e + 1,
+            };
+        }
+    }
+    let spot = lines::seek(copy, other, key, 0);
+    let Spot::At(_, _) = spot else {
+        return Turn {
+            end: end,
+            listed: true,
+            begins: copy.len(),
+            base: end + 1,
+            other: other,
+        };
+    };
+    turn_apart(original, copy, at, end, key, at, other)
+}
+
+// The line at `at` held against its counterpart. Lines before `base` and lines of the copy before `other` go together, key by key; so texts
+// that have the same keys in the same order, but for lines that one of them has lost, are gone through once.
 pub(crate) fn take_turn(original: &[u8], copy: &[u8], at: usize, base: usize, other: usize) -> Turn
     requires { ⌜ at < length (now original) ⌝ }
     ensures { λ r. ⌜ TakesTurn (now (original .entry)) (now (copy .entry)) at base other r ⌝ }
@@ -102,19 +141,7 @@ pub(crate) fn take_turn(original: &[u8], copy: &[u8], at: usize, base: usize, ot
     }
     let key = &line[..key_end];
     if base == at {
-        let next = lines::first_keyed(copy, other);
-        if let Spot::At(a, e) = next {
-            if lines::has_key(&copy[a..e], key) {
-                let held = hold(original, at, end, copy, next);
-                return Turn {
-                    end: end,
-                    listed: held.listed,
-                    begins: held.begins,
-                    base: end + 1,
-                    other: e + 1,
-                };
-            }
-        }
+        return turn_together(original, copy, at, end, key, other);
     }
     turn_apart(original, copy, at, end, key, base, other)
 }

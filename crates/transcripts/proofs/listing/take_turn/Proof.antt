@@ -1,17 +1,15 @@
 -- `listing::take_turn` meets its contract, by the way that the turn went (Turning.antt). Assumes nothing.
 use native.Mathlib.Omega.{arith}
-use mathlib.Core.Path.{_≡_, sym, subst, _∙_}
-use mathlib.Core.List.{List}
-use Prim.Native.Nat.{ℕ, _+_, _-_, _≤_, _<_}
-use lib.ListN.{length, take, drop}
+use mathlib.Core.Path.{_≡_, sym, subst}
+use mathlib.Core.Option.{none}
+use Prim.Native.Nat.{ℕ, _-_}
+use lib.ListN.{take, drop}
 use lib.Seq.{slice, length-take-le}
 use borrow.Author.Needs.{needs}
-use Rattle.text.specs.Inner.{PartEnd}
-use Rattle.transcripts.specs.declared.lines.Spot.{Spot}
-use Rattle.transcripts.specs.declared.lines.Spot.the-variants.{At}
-use Rattle.transcripts.specs.Inner.{linesFrom, spotOf, firstKeyed, SpotIn, heldAt}
-use Rattle.transcripts.proofs.Standing.{spot-lies, first-stands}
-use Rattle.transcripts.proofs.Turning.{keyless-here, keyless, apart, next-one}
+use Rattle.transcripts.specs.Transcripts.{keyOf}
+use Rattle.transcripts.specs.Inner.{KeyedLine, TakesTurn}
+use Rattle.transcripts.proofs.TurnLaws.{no-key, some-key}
+use Rattle.transcripts.proofs.Turning.{keyless-here, keyless, apart}
 use Rattle.transcripts.proofs.listing.take_turn.Statement.{statement}
 use Rattle.transcripts.proofs.listing.take_turn.Tie as tie
 
@@ -22,73 +20,66 @@ Ended c = c .before .before
 abbrev S : tie.After-part-end → tie.Start
 S c = c .before .before .before
 
-returns : tie.Need-returns
-returns c =
-    let k = c .before .before in
+unkeyed : (c : tie.Then1) → keyOf (slice (S (Ended (c .before)) .args .at) (Ended (c .before) .part-end .result) (S (Ended (c .before)) .args .original .now)) ≡ none
+unkeyed c =
+    let k = c .before in
     let b = Ended k in
     let a = S b .args in
+    no-key (a .original .now) (a .at) (b .part-end .result) (S b .pre) (b .part-end .ensures) (k .part-end2 .result) (k .part-end2 .ensures)
+    (omega (arith, c .if1 .taken))
+
+returns : tie.Need-returns
+returns c =
+    let b = Ended (c .before .before) in
+    let a = S b .args in
     keyless-here (a .original .now) (a .copy .now) (a .at) (a .base) (a .other) (b .part-end .result) (S b .pre) (b .part-end .ensures)
-    (k .part-end2 .result) (k .part-end2 .ensures) (omega (arith, c .before .if1 .taken)) (c .if2 .taken)
+    (unkeyed (c .before)) (c .if2 .taken)
 
 returns-2 : tie.Need-returns-2
 returns-2 c =
-    let k = c .before .before in
-    let b = Ended k in
+    let b = Ended (c .before .before) in
     let a = S b .args in
     keyless (a .original .now) (a .copy .now) (a .at) (a .base) (a .other) (b .part-end .result) (S b .pre) (b .part-end .ensures)
-    (k .part-end2 .result) (k .part-end2 .ensures) (omega (arith, c .before .if1 .taken))
+    (unkeyed (c .before))
 
 slice-aggregate-key : tie.Need-slice-aggregate-key
 slice-aggregate-key c = sym (length-take-le (c .before .before .part-end2 .result) _ (c .before .before .part-end2 .ensures .high))
 
--- the next line of the copy with a key lies in it
-lies : (c : tie.After-first-keyed) → SpotIn (S (Ended (c .before .before .before .before)) .args .copy .now) (c .first-keyed .result)
-lies c =
-    let a = S (Ended (c .before .before .before .before)) .args in
-    spot-lies (a .copy .now) (c .first-keyed .result) (firstKeyed (linesFrom (a .copy .now) (a .other))) (c .first-keyed .ensures)
-    (first-stands (a .copy .now) (a .other))
+-- a line with a key
+line : (c : tie.Else1) → KeyedLine (S (Ended (c .before)) .args .original .now) (S (Ended (c .before)) .args .at) (Ended (c .before) .part-end .result)
+    (take (c .before .part-end2 .result)
+    (take (Ended (c .before) .part-end .result - S (Ended (c .before)) .args .at) (drop (S (Ended (c .before)) .args .at) (S (Ended (c .before)) .args .original .now))))
+line c =
+    let k = c .before in
+    let b = Ended k in
+    let a = S b .args in
+    record {
+      begins = S b .pre;
+      ends = b .part-end .ensures;
+      key = some-key (a .original .now) (a .at) (b .part-end .result) (S b .pre) (b .part-end .ensures) (k .part-end2 .result) (k .part-end2 .ensures)
+          (omega (arith, c .if1 .left, k .part-end2 .ensures .high));
+    }
 
-spot : (c : tie.After-known-told) → SpotIn (S (Ended (c .before .before .before .before .before .before .before)) .args .copy .now)
-    (At (c .before .next .given .0 .0) (c .before .next .given .0 .1 .0))
-spot c =
-    let a = S (Ended (c .before .before .before .before .before .before .before)) .args in
-    subst (SpotIn (a .copy .now)) (c .before .next .given .1) (lies (c .before .before .before))
-
-hold-requires : tie.Need-hold-requires
-hold-requires c κs =
-    let t = c .before .before .before in
-    let b = Ended (t .before .before .before .before .before .before .before) in
-    (b .part-end .ensures .low, (b .part-end .ensures .high, spot t))
-
-add-t27 : tie.Need-add-t27
-add-t27 c = let h = spot (c .before .before .before .before) .1 in search needs
+turn-together-requires : tie.Need-turn-together-requires
+turn-together-requires c κs = line (c .before .before)
 
 returns-3 : tie.Need-returns-3
 returns-3 c =
-    let t = c .before .before .before .before in
-    let f = t .before .before .before in
-    let e = f .before .before .before in
-    let k = e .before in
-    let b = Ended k in
-    let a = S b .args in
-    next-one (a .original .now) (a .copy .now) (a .at) (a .base) (a .other) (b .part-end .result) (S b .pre) (b .part-end .ensures)
-    (k .part-end2 .result) (k .part-end2 .ensures) (omega (arith, e .if1 .left, k .part-end2 .ensures .high)) (f .before .if3 .taken)
-    (t .before .next .given .0 .0) (t .before .next .given .0 .1 .0) (sym (t .before .next .given .1) ∙ f .first-keyed .ensures)
-    (sym (c .before .if4 .taken) ∙ c .before .before .has-key .ensures) (c .hold .result) (c .hold .ensures)
+    let t = c .before in
+    let a = S (Ended (t .before .before .before)) .args in
+    subst (λ (i : ℕ). TakesTurn (a .original .now) (a .copy .now) (a .at) i (a .other) (c .turn-together .result)) (sym (t .if3 .taken))
+    (c .turn-together .ensures)
 
 returns-4 : tie.Need-returns-4
 returns-4 c =
     let e = c .before .before .before in
-    let k = e .before in
-    let b = Ended k in
+    let b = Ended (e .before) in
     let a = S b .args in
-    apart (a .original .now) (a .copy .now) (a .at) (a .base) (a .other) (b .part-end .result) (S b .pre) (b .part-end .ensures)
-    (k .part-end2 .result) (k .part-end2 .ensures) (omega (arith, e .if1 .left, k .part-end2 .ensures .high)) _ (c .turn-apart .ensures)
+    apart (a .original .now) (a .copy .now) (a .at) (b .part-end .result) _ (line e) (a .other) (a .base) _ (c .turn-apart .ensures)
 
 pub take-turn-spec : {M : Type 1} → statement M
 take-turn-spec =
     tie.close
     (tie.spec (λ c κs. search needs) (λ c. c .part-end .ensures .low) (λ c. c .part-end .ensures .low) (λ c. c .part-end .ensures .high)
-    (λ c κs. search needs) (λ c. search needs) returns returns-2 slice-aggregate-key (λ c κs. search needs) (λ c. search needs)
-    (λ c. spot c .0) (λ c. spot c .0) (λ c. spot c .1) (λ c κs. search needs) hold-requires (λ c. search needs) add-t27 returns-3
-    (λ c. search needs) (λ c κs. search needs) returns-4)
+    (λ c κs. search needs) (λ c. search needs) returns returns-2 slice-aggregate-key turn-together-requires returns-3
+    (λ c κs. search needs) returns-4)
