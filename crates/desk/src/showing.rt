@@ -112,8 +112,8 @@ fn put_list(out: &mut [u8], original: &[u8], copy: &[u8], list: &[u64], many: u6
     waiting
 }
 
-// Prints the lines of the original whose counterpart in the copy differs or is missing, and how many they are. By the list's contract it can
-// only be refused because it is short.
+// Prints the lines of the original whose counterpart in the copy differs or is missing, and how many they are. By the list's contract it
+// can only be refused because it is short.
 pub fn show_list(
     out: &mut [u8; output::SPACE],
     original: &[u8],

@@ -37,8 +37,12 @@ module _ (k s : List ℕ) (from to at n : ℕ) (c : Counting k s from to at n) w
 
   module _ (e : ℕ) (l : at < to) (h : at < length s) (p : PartEnd 10 s at e) where
     -- the next of the lines that are left is the one at `at`
-    onward : (d : ℕ) → ((ys : List Line) → occurrences k (lineAt s at e ∷ ys) ≡ d + occurrences k ys) → d ≤ 1 → Counting k s from to (e + 1) (n + d)
-    onward d f few = record { rest = λ xs b. go xs (c .rest xs b .lines) (c .rest xs b .between) (c .rest xs b .sum); few = omega (arith, c .few, p .low) }
+    onward : (d : ℕ) → ((ys : List Line) → occurrences k (lineAt s at e ∷ ys) ≡ d + occurrences k ys) → d ≤ 1
+        → Counting k s from to (e + 1) (n + d)
+    onward d f few = record {
+      rest = λ xs b. go xs (c .rest xs b .lines) (c .rest xs b .between) (c .rest xs b .sum);
+      few = omega (arith, c .few, p .low);
+    }
       where
         go : (xs ls : List Line) → Between s to at ls → n + occurrences k ls ≡ occurrences k xs → Rest k s to (e + 1) (n + d) xs
         go xs ls (here q) g = absurd (omega arith)

@@ -20,8 +20,8 @@ locate-determined a b e =
     (one-answer (a .answer) (b .answer) (ap (λ (w : Sought). w .number) e) (ap (λ (w : Sought). w .values) e))
     (ap (λ (w : Sought). w .place) e)
 
-pub part-determined : (original copy : RefT (List ℕ)) (p : Place) (r q : RefT (List ℕ)) → PartAt original copy p r → PartAt original copy p q
-    → SamePart r q
+pub part-determined : (original copy : RefT (List ℕ)) (p : Place) (r q : RefT (List ℕ)) → PartAt original copy p r
+    → PartAt original copy p q → SamePart r q
 part-determined original copy p r q a b = record {
   place = λ i. ((a .memory ∙ sym (b .memory)) i, (a .begins ∙ sym (b .begins)) i);
   bytes = a .bytes ∙ sym (b .bytes);

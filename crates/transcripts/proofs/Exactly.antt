@@ -1,5 +1,5 @@
--- What is listed is exactly the lines that differ or have no counterpart, each once, upward; nothing is listed exactly where every line with a
--- key has a counterpart with its bytes; and of a text against itself nothing is. The list is gone through line by line, with those before.
+-- What is listed is exactly the lines that differ or have no counterpart, each once, upward; nothing is listed exactly where every line
+-- with a key has a counterpart with its bytes; and of a text against itself nothing is. The lines are gone through with those before them.
 -- Assumes nothing.
 use Prim.Native.Nat.{ℕ, zero, suc, _+_, _≤_, _<_}
 use native.Mathlib.Omega.{arith}
@@ -97,7 +97,9 @@ module _ (o c : List ℕ) where
 
       go : (k : Option (List ℕ)) → 1 ≤ count n (numbers (headed c before x xs k))
       go none = h
-      go (some k) = pick (record { number = suc (length before); line = x; counterpart = counterpartOf c before k }) (differs x (counterpartOf c before k))
+      go (some k) =
+          pick (record { number = suc (length before); line = x; counterpart = counterpartOf c before k })
+          (differs x (counterpartOf c before k))
 
   -- a line that differs is listed
   listed-here : (x : Line) (xs before : List Line) (k : List ℕ) → keyOf (x .bytes) ≡ some k → differs x (counterpartOf c before k) ≡ true

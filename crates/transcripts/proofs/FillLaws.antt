@@ -47,7 +47,8 @@ module _ (copy : List ℕ) (before : List Line) (x : Line) (xs : List Line) wher
             | none ↦ listedBehind copy (before ++ (x ∷ [])) xs
             | some k ↦
                 let y : Option Line = counterpartOf copy before k in
-                cond (differs x y) (record { number = suc (length before); line = x; counterpart = y } ∷ listedBehind copy (before ++ (x ∷ [])) xs)
+                cond (differs x y)
+                (record { number = suc (length before); line = x; counterpart = y } ∷ listedBehind copy (before ++ (x ∷ [])) xs)
                 (listedBehind copy (before ++ (x ∷ [])) xs)
           ] ≡ headed o
       go none = refl
@@ -124,7 +125,9 @@ module _ {w : ℕ} {o c l₀ l : List ℕ} {at base other line put found : ℕ} 
   -- behind the last line
   pub filling-end : length o ≤ at → Fills w o c l₀ l found
   filling-end h =
-      let none : listedBehind c (f .before) (linesFrom o at) ≡ [] = ap (listedBehind c (f .before)) (from-none o at h) ∙ no-more c (f .before) in
+      let none : listedBehind c (f .before) (linesFrom o at) ≡ [] =
+      ap (listedBehind c (f .before)) (from-none o at h) ∙ no-more c (f .before)
+      in
       record {
         many = omega (arith, f .count, ap length none);
         few = omega (arith, f .few, f .past);

@@ -69,7 +69,8 @@ module _ (original copy key : List ℕ) (n : ℕ) (h : length key ≡ 0 → ⊥)
 
   pub in-original : (a e : ℕ) → At a e ≡ spotIn original
       → sought original copy key n ≡ record { number = 0; values = 0 ∷ []; place = record { mark = Original; begins = a; ends = e } }
-  in-original a e q = searches original copy key n h l ∙ found-at Original (occurrence key n (linesIn original)) a e _ (looked original (At a e) q)
+  in-original a e q =
+      searches original copy key n h l ∙ found-at Original (occurrence key n (linesIn original)) a e _ (looked original (At a e) q)
 
   module _ (m : Nowhere ≡ spotIn original) where
     passed : sought original copy key n ≡ foundOr Copy (occurrence key n (linesIn copy)) (refused 17)

@@ -51,7 +51,8 @@ width-fits w n m (inr (inl q)) a b = subst (λ (i : ℕ). n * i < 2 ^ 64) (sym q
 width-fits w n m (inr (inr q)) a b = subst (λ (i : ℕ). n * i < 2 ^ 64) (sym q) (omega arith)
 
 -- a list is short, or not
-filled-short : (n : ℕ) (figures list : List ℕ) → length list < length figures → filled n figures list ≡ answered (TooShort (length figures)) list
+filled-short : (n : ℕ) (figures list : List ℕ) → length list < length figures
+    → filled n figures list ≡ answered (TooShort (length figures)) list
 filled-short n figures list h =
     ap
     (λ (b : Bool). cond b (record { number = 0; values = n ∷ []; list = front figures list })
@@ -65,7 +66,8 @@ filled-long n figures list after h e =
     (λ (b : Bool). cond b (record { number = 0; values = n ∷ []; list = front figures list })
     (record { number = 12; values = length figures ∷ []; list = list }))
     (le-leb (length figures) (length list) h)
-    ∙ ap (λ (l : List ℕ). answered (Done n) l) (sym (wrote-front {l = list} {x = figures} {l′ = after} {n = 0 + length figures} (record { buffer = e; place = refl }) h))
+    ∙ ap (λ (l : List ℕ). answered (Done n) l)
+    (sym (wrote-front {l = list} {x = figures} {l′ = after} {n = 0 + length figures} (record { buffer = e; place = refl }) h))
 
 module _ (o c l l′ : List ℕ) (n w : ℕ) (v : Width w) (f : Fills 0 o c l l′ n) where
   -- counting writes nothing

@@ -40,9 +40,9 @@ outranks original copy copy′ key n x e =
     ap (λ (y : Option Line). at y copy) e ∙ sym (ap (λ (y : Option Line). at y copy′) e)
 
 -- what is handed back of a place that names a line of the text which a mark names
-handed : (original copy : RefT (List ℕ)) (p : Place) (r : RefT (List ℕ)) (m : Mark) (x : Line) → StandsIn (marked m (original .now) (copy .now)) x
-    → p ≡ record { mark = m; begins = x .begins; ends = x .ends } → PartAt original copy p r
-    → PartOf (marked m original copy) (x .begins) (x .ends) r
+handed : (original copy : RefT (List ℕ)) (p : Place) (r : RefT (List ℕ)) (m : Mark) (x : Line)
+    → StandsIn (marked m (original .now) (copy .now)) x → p ≡ record { mark = m; begins = x .begins; ends = x .ends }
+    → PartAt original copy p r → PartOf (marked m original copy) (x .begins) (x .ends) r
 handed original copy p r m x s e h =
     let q : Place = record { mark = m; begins = x .begins; ends = x .ends } in
     subst (λ (y : Place). PartOf (marked (y .mark) original copy) (y .begins) (y .ends) r)
@@ -66,8 +66,8 @@ module _ (original copy : RefT (List ℕ)) (key : List ℕ) (n : ℕ) (k : lengt
     bytes = same m s (handed original copy (r .located .place) (r .part) m x s (placed m e) (f .hands));
   }
     where
-      same : (m : Mark) → StandsIn (marked m (original .now) (copy .now)) x → PartOf (marked m original copy) (x .begins) (x .ends) (r .part)
-          → r .part .now ≡ x .bytes
+      same : (m : Mark) → StandsIn (marked m (original .now) (copy .now)) x
+          → PartOf (marked m original copy) (x .begins) (x .ends) (r .part) → r .part .now ≡ x .bytes
       same Original s p = p .bytes ∙ sym (s .bytes)
       same Copy s p = p .bytes ∙ sym (s .bytes)
 

@@ -28,7 +28,8 @@ module _ (s : List ℕ) (at e : ℕ) (h : at < length s) (p : PartEnd 10 s at e)
     key-of-line b q = ap (hasKey k) (sym line-is) ∙ sym q
 
     pub seek-past : (n : ℕ) → false ≡ hasKey k taken → behindOthers k n (linesFrom s at) ≡ behindOthers k n (linesFrom s (e + 1))
-    seek-past n q = ap (behindOthers k n) (from-next s at e h p) ∙ behind-miss k (lineAt s at e) (linesFrom s (e + 1)) n (key-of-line false q)
+    seek-past n q =
+        ap (behindOthers k n) (from-next s at e h p) ∙ behind-miss k (lineAt s at e) (linesFrom s (e + 1)) n (key-of-line false q)
 
     pub seek-here : true ≡ hasKey k taken → behindOthers k 0 (linesFrom s at) ≡ some (lineAt s at e)
     seek-here q = ap (behindOthers k 0) (from-next s at e h p) ∙ behind-hit k (lineAt s at e) (linesFrom s (e + 1)) (key-of-line true q)

@@ -1,5 +1,5 @@
--- What a turn comes to, by the way it went: a line without a key; the next line of the copy with a key; no line ahead; a counterpart that is
--- counted off.
+-- What a turn comes to, by the way it went: a line without a key; the next line of the copy with a key; no line ahead; a counterpart that
+-- is counted off.
 -- Assumes nothing.
 use Prim.Native.Nat.{ℕ, _+_, _-_, _≤_, _<_}
 use native.Mathlib.Omega.{arith}
@@ -23,7 +23,8 @@ use Rattle.transcripts.proofs.LineLaws.{part-taken}
 use Rattle.transcripts.proofs.KeyLaws.{key-is}
 use Rattle.transcripts.proofs.OccurrenceLaws.{count-none}
 use Rattle.transcripts.proofs.Standing.{OneStands, first-stands, behind-stands, held-is}
-use Rattle.transcripts.proofs.WayLaws.{counterpart-behind, stays, none-since, steps, passes, FirstIn, first-in, first-behind, keys-append}
+use Rattle.transcripts.proofs.WayLaws.{counterpart-behind, stays, none-since, steps, passes}
+use Rattle.transcripts.proofs.WayLaws.{FirstIn, first-in, first-behind, keys-append}
 
 -- a line at a spot
 pub record Spotted (y : Option Line) (a f : ℕ) : Type 0 where
@@ -74,7 +75,8 @@ module _ (o c : List ℕ) (at e : ℕ) (key : List ℕ) (l : KeyedLine o at e ke
   p = l .ends
 
   told : (before : List Line) (r : Turn) (y : Option Line) → counterpartOf c before key ≡ y
-      → _≡_ {A = Held} (record { listed = r .listed; begins = r .begins }) (record { listed = differs (lineAt o at e) y; begins = beginOf c y })
+      → _≡_ {A = Held} (record { listed = r .listed; begins = r .begins })
+      (record { listed = differs (lineAt o at e) y; begins = beginOf c y })
       → Tells c before (lineAt o at e) r (keyOf (slice at e o))
   told before r y k g =
       subst (Tells c before (lineAt o at e) r) (sym (l .key)) (

@@ -1,5 +1,5 @@
--- A walk over the original, line by line, with a place in the copy: the lines up to there go together, key by key, so what a line's counterpart
--- is can be read off the lines behind these places.
+-- A walk over the original, line by line, with a place in the copy: the lines up to there go together, key by key, so what a line's
+-- counterpart is can be read off the lines behind these places.
 -- Assumes nothing.
 use Prim.Native.Nat.{ℕ, zero, suc, _+_, _-_, _≤_, _<_}
 use native.Mathlib.Omega.{arith}
@@ -17,7 +17,8 @@ use Rattle.transcripts.specs.Inner.{linesFrom, lineAt, firstOr, firstKey
 use Rattle.transcripts.specs.Inner.{occurrences, behindOthers, Even, even, spent, OnWay}
 use Rattle.transcripts.proofs.LineLaws.{from-next, from-start}
 use Rattle.transcripts.proofs.KeyLaws.{has-none, has-some, key-is}
-use Rattle.transcripts.proofs.OccurrenceLaws.{count-none, count-append, behind-append, behind-miss, behind-hit, count-miss, count-hit}
+use Rattle.transcripts.proofs.OccurrenceLaws.{count-none, count-miss, count-hit, count-append}
+use Rattle.transcripts.proofs.OccurrenceLaws.{behind-miss, behind-hit, behind-append}
 use Rattle.transcripts.proofs.Standing.{by-lines}
 
 -- the same keys, so as many of each
@@ -46,7 +47,8 @@ pub keys-append : (xs ys : List Line) → keysIn (xs ++ ys) ≡ keysIn xs ++ key
 keys-append [] ys = refl
 keys-append (x ∷ xs) ys = go (keyOf (x .bytes)) (keys-append xs ys)
   where
-    go : (o : Option (List ℕ)) → keysIn (xs ++ ys) ≡ keysIn xs ++ keysIn ys → onKeys o (keysIn (xs ++ ys)) ≡ onKeys o (keysIn xs) ++ keysIn ys
+    go : (o : Option (List ℕ)) → keysIn (xs ++ ys) ≡ keysIn xs ++ keysIn ys
+        → onKeys o (keysIn (xs ++ ys)) ≡ onKeys o (keysIn xs) ++ keysIn ys
     go none e = e
     go (some k) e = ap (λ (ks : List (List ℕ)). k ∷ ks) e
 
@@ -238,7 +240,8 @@ first-in s = by-lines s (λ i xs. (y : Line) → firstKeyed xs ≡ some y → Fi
             }
 
 -- what has the first key is the first with that key
-pub first-behind : (k : List ℕ) (xs : List Line) (y : Line) → firstKeyed xs ≡ some y → hasKey k (y .bytes) ≡ true → behindOthers k 0 xs ≡ some y
+pub first-behind : (k : List ℕ) (xs : List Line) (y : Line) → firstKeyed xs ≡ some y → hasKey k (y .bytes) ≡ true
+    → behindOthers k 0 xs ≡ some y
 first-behind k [] y e h = let z : _≡_ {A = ℕ} 0 1 = cc in absurd (omega arith)
 first-behind k (x ∷ xs) y e h = go (keyOf (x .bytes)) refl e (first-behind k xs y)
   where

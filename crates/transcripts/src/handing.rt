@@ -1,5 +1,6 @@
-// A line handed back as a part of one of the two lent texts, with the answer and the mark beside it in one struct. The borrow checker covers
-// no function over a struct that holds a part, so this one is proved by hand; `locate` and `part` are its two steps, for callers that are covered.
+// A line handed back as a part of one of the two lent texts, with the answer and the mark beside it in one struct. The borrow checker
+// covers no function over a struct that holds a part, so this one is proved by hand; `locate` and `part` are its two steps, for callers
+// that are covered.
 ghost use mathlib.Core.Path.{_≡_};
 ghost use Rattle.transcripts.specs.Finding.{Finds};
 use super::finding::Located;

@@ -73,8 +73,8 @@ fn turn_apart(
     }
 }
 
-// The line original[at..end], where the lines up to here and those of the copy up to `other` go together. Where the next line of the copy with
-// a key has this line's, that is its counterpart, and both go on; where the key does not come any more, the original goes on alone.
+// The line original[at..end], where the lines up to here and those of the copy up to `other` go together. Where the next line of the copy
+// with a key has this line's, that is its counterpart, and both go on; where the key does not come any more, the original goes on alone.
 fn turn_together(
     original: &[u8],
     copy: &[u8],

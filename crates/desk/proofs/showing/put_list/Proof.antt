@@ -1,5 +1,5 @@
--- `desk::showing::put_list` is safe, ends, and leaves no more waiting than the buffer holds. The invariant: the buffer is as long as it came,
--- what waits fits it, and the place in the list is within it. The measure is the number of lines that are left. Assumes nothing.
+-- `desk::showing::put_list` is safe, ends, and leaves no more waiting than the buffer holds. The invariant: the buffer is as long as it
+-- came, what waits fits it, and the place in the list is within it. The measure is the number of lines that are left. Assumes nothing.
 use borrow.Author.Needs.{needs}
 use Prim.Native.Nat.{_≤_}
 use mathlib.Core.Path.{_≡_}

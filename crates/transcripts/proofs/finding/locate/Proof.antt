@@ -14,7 +14,8 @@ returns c =
 returns-2 : tie.Need-returns-2
 returns-2 c =
     let a = c .before .before .before .before .before .before .args in
-    ap told (c .refuse2 .ensures) ∙ sym (no-occurrence (a .original .now) (a .copy .now) (a .key .now) (a .occurrence) (c .before .if2 .taken))
+    ap told (c .refuse2 .ensures) ∙ sym (no-occurrence (a .original .now) (a .copy .now) (a .key .now) (a .occurrence)
+    (c .before .if2 .taken))
 
 -- behind both tests
 abbrev A : tie.Else2 → tie.Start

@@ -47,7 +47,8 @@ returns c =
     part-at (a .original) (a .copy) (a .place) (q .result) Original _ (q .ensures) (c .before .enum-told .given .1) (record {
       memory = refl;
       begins = omega arith;
-      bytes = part-taken (a .original .now) (q .result .begins) (q .result .ends) (low (a .original .now) (a .copy .now) (a .place) _ (q .ensures));
+      bytes = part-taken (a .original .now) (q .result .begins) (q .result .ends)
+          (low (a .original .now) (a .copy .now) (a .place) _ (q .ensures));
     })
 
 returns-2 : tie.Need-returns-2
@@ -57,7 +58,8 @@ returns-2 c =
     part-at (a .original) (a .copy) (a .place) (q .result) Copy _ (q .ensures) (c .before .enum-told2 .given .1) (record {
       memory = refl;
       begins = omega arith;
-      bytes = part-taken (a .copy .now) (q .result .begins) (q .result .ends) (low (a .original .now) (a .copy .now) (a .place) _ (q .ensures));
+      bytes = part-taken (a .copy .now) (q .result .begins) (q .result .ends)
+          (low (a .original .now) (a .copy .now) (a .place) _ (q .ensures));
     })
 
 pub part-spec : {M : Type 1} → statement M

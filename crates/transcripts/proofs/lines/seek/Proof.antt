@@ -55,10 +55,12 @@ loop-again c =
     let a = b .before .before .before .before .before .args in
     let q = c .before .has-key .ensures in
     l .inv ∙ elim (c .if1 .came) [
-      | inl v ↦ seek-on (a .s .now) (l .at) (b .part-end .result) (b .before .loop-test .taken) (b .part-end .ensures) (a .key .now) (l .others)
+      | inl v ↦ seek-on (a .s .now) (l .at) (b .part-end .result) (b .before .loop-test .taken) (b .part-end .ensures) (a .key .now)
+          (l .others)
           (sym (v .0 .taken) ∙ q) (omega (arith, v .1 .left))
           ∙ ap (λ (n : ℕ). behindOthers (a .key .now) n (linesFrom (a .s .now) (b .part-end .result + 1))) (sym (v .2))
-      | inr v ↦ seek-past (a .s .now) (l .at) (b .part-end .result) (b .before .loop-test .taken) (b .part-end .ensures) (a .key .now) (l .others)
+      | inr v ↦ seek-past (a .s .now) (l .at) (b .part-end .result) (b .before .loop-test .taken) (b .part-end .ensures) (a .key .now)
+          (l .others)
           (sym (v .0 .left) ∙ q)
           ∙ ap (λ (n : ℕ). behindOthers (a .key .now) n (linesFrom (a .s .now) (b .part-end .result + 1))) (sym (v .1))
     ]

@@ -29,8 +29,11 @@ put-figures-requires : tie.Need-put-figures-requires Inv-loop μ-loop
 put-figures-requires c κs =
     let t = c .before .before in
     let l = t .before .before .loop in
-    let s = t .before .before .before .before .before .before in
-    (s .pre .0, room (l .inv) (t .before .loop-test .taken) (t .take-turn .result) (t .take-turn .ensures) (c .before .if1 .taken) (s .pre .1) (s .pre .0))
+    let s = t .before .before .before .before .before .before in (
+      s .pre .0,
+      room (l .inv) (t .before .loop-test .taken) (t .take-turn .result) (t .take-turn .ensures) (c .before .if1 .taken)
+          (s .pre .1) (s .pre .0),
+    )
 
 add-found : tie.Need-add-found Inv-loop μ-loop
 add-found c =

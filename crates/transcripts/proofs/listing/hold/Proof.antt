@@ -42,7 +42,8 @@ returns-2 c =
     let to = g .0 .1 .0 in
     let l = slice (a .at) (a .end) (a .original .now) in
     ap (λ (b : Bool). record { listed = not b; begins = from })
-    (c .is-word .ensures ∙ ap (alike l) (part-taken (a .copy .now) from to (lies (a .copy .now) (a .spot) from to (s .pre .1 .1) (g .1) .0)))
+    (c .is-word .ensures ∙ ap (alike l) (part-taken (a .copy .now) from to
+    (lies (a .copy .now) (a .spot) from to (s .pre .1 .1) (g .1) .0)))
     ∙ ap (heldAt l (a .copy .now)) (sym (g .1))
 
 pub hold-spec : {M : Type 1} → statement M

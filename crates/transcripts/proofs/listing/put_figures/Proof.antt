@@ -21,14 +21,16 @@ three w (inr (inr e)) z o = e
 returns : tie.Need-returns
 returns c =
     let a = c .before .args in
-    subst (λ (w : ℕ). Wrote (a .list .now) (a .at) (take w (a .line ∷ a .begins ∷ a .other ∷ [])) (a .list .now) (a .at)) (sym (c .if1 .taken))
+    subst (λ (w : ℕ). Wrote (a .list .now) (a .at) (take w (a .line ∷ a .begins ∷ a .other ∷ [])) (a .list .now) (a .at))
+    (sym (c .if1 .taken))
     wrote-none
 
 returns-2 : tie.Need-returns-2
 returns-2 c =
     let a = c .before .before .args in
     let l = a .list .now in
-    subst (λ (w : ℕ). Wrote l (a .at) (take w (a .line ∷ a .begins ∷ a .other ∷ [])) (set l (a .at) (a .line)) (a .at + 1)) (sym (c .if2 .taken))
+    subst (λ (w : ℕ). Wrote l (a .at) (take w (a .line ∷ a .begins ∷ a .other ∷ [])) (set l (a .at) (a .line)) (a .at + 1))
+    (sym (c .if2 .taken))
     (record { buffer = refl; place = omega arith })
 
 -- three are put, and there is room for them

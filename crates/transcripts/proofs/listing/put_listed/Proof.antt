@@ -24,7 +24,8 @@ mul-needed c =
     let f = c .before .before in
     let s = f .before .before .before .before .before in
     record {
-      fits = width-fits (s .args .width) (f .fill .result) (length (s .args .original .now) + 1) (s .pre) (f .fill .ensures .few) (omega (arith, short s));
+      fits = width-fits (s .args .width) (f .fill .result) (length (s .args .original .now) + 1) (s .pre) (f .fill .ensures .few)
+          (omega (arith, short s));
     }
 
 returns : tie.Need-returns
@@ -32,7 +33,8 @@ returns c =
     let f = c .before .before .before in
     let s = f .before .before .before .before .before in
     let a = s .args in
-    told-short (a .original .now) (a .copy .now) (a .list .now) (f .fill .last .1 .1 .0) (f .fill .result) (a .width) (s .pre) (f .fill .ensures)
+    told-short (a .original .now) (a .copy .now) (a .list .now) (f .fill .last .1 .1 .0) (f .fill .result) (a .width) (s .pre)
+    (f .fill .ensures)
     (c .if1 .taken)
 
 fill-requires-2 : tie.Need-fill-requires-2
@@ -41,7 +43,8 @@ fill-requires-2 c κs =
     let s = f .before .before .before .before .before in
     let a = s .args in
     let room =
-    put-room (a .original .now) (a .copy .now) (a .list .now) (f .fill .last .1 .1 .0) (f .fill .result) (a .width) (s .pre) (f .fill .ensures)
+    put-room (a .original .now) (a .copy .now) (a .list .now) (f .fill .last .1 .1 .0) (f .fill .result) (a .width) (s .pre)
+    (f .fill .ensures)
     (c .before .if1 .left)
     in
     (s .pre, room)
@@ -53,7 +56,8 @@ returns-2 c =
     let f = h .before .before .before in
     let s = f .before .before .before .before .before in
     let a = s .args in
-    told-all (a .original .now) (a .copy .now) (a .list .now) (f .fill .last .1 .1 .0) (f .fill .result) (a .width) (s .pre) (f .fill .ensures)
+    told-all (a .original .now) (a .copy .now) (a .list .now) (f .fill .last .1 .1 .0) (f .fill .result) (a .width) (s .pre)
+    (f .fill .ensures)
     (g .fill2 .last .1 .1 .0) (g .fill2 .result) (h .if1 .left) (g .fill2 .ensures)
 
 pub put-listed-spec : {M : Type 1} → statement M

@@ -20,7 +20,8 @@ Ended c = c .before .before
 abbrev S : tie.After-part-end → tie.Start
 S c = c .before .before .before
 
-unkeyed : (c : tie.Then1) → keyOf (slice (S (Ended (c .before)) .args .at) (Ended (c .before) .part-end .result) (S (Ended (c .before)) .args .original .now)) ≡ none
+unkeyed : (c : tie.Then1) → keyOf (slice (S (Ended (c .before)) .args .at) (Ended (c .before) .part-end .result)
+    (S (Ended (c .before)) .args .original .now)) ≡ none
 unkeyed c =
     let k = c .before in
     let b = Ended k in
@@ -46,9 +47,11 @@ slice-aggregate-key : tie.Need-slice-aggregate-key
 slice-aggregate-key c = sym (length-take-le (c .before .before .part-end2 .result) _ (c .before .before .part-end2 .ensures .high))
 
 -- a line with a key
-line : (c : tie.Else1) → KeyedLine (S (Ended (c .before)) .args .original .now) (S (Ended (c .before)) .args .at) (Ended (c .before) .part-end .result)
+line : (c : tie.Else1) → KeyedLine (S (Ended (c .before)) .args .original .now) (S (Ended (c .before)) .args .at)
+    (Ended (c .before) .part-end .result)
     (take (c .before .part-end2 .result)
-    (take (Ended (c .before) .part-end .result - S (Ended (c .before)) .args .at) (drop (S (Ended (c .before)) .args .at) (S (Ended (c .before)) .args .original .now))))
+    (take (Ended (c .before) .part-end .result - S (Ended (c .before)) .args .at)
+    (drop (S (Ended (c .before)) .args .at) (S (Ended (c .before)) .args .original .now))))
 line c =
     let k = c .before in
     let b = Ended k in
@@ -56,7 +59,8 @@ line c =
     record {
       begins = S b .pre;
       ends = b .part-end .ensures;
-      key = some-key (a .original .now) (a .at) (b .part-end .result) (S b .pre) (b .part-end .ensures) (k .part-end2 .result) (k .part-end2 .ensures)
+      key = some-key (a .original .now) (a .at) (b .part-end .result) (S b .pre) (b .part-end .ensures) (k .part-end2 .result)
+          (k .part-end2 .ensures)
           (omega (arith, c .if1 .left, k .part-end2 .ensures .high));
     }
 

@@ -31,7 +31,8 @@ returns c =
           c .hold .ensures
           ∙ ap (heldAt (slice (a .at) (a .end) (a .original .now)) (a .copy .now))
           (c .before .seek .ensures
-          ∙ ap (λ (n : ℕ). spotOf (behindOthers (a .key .now) n (linesFrom (a .copy .now) (a .other)))) (c .before .before .count-key .ensures .right xs b));
+          ∙ ap (λ (n : ℕ). spotOf (behindOthers (a .key .now) n (linesFrom (a .copy .now) (a .other))))
+          (c .before .before .count-key .ensures .right xs b));
     }
 
 pub turn-apart-spec : {M : Type 1} → statement M

@@ -13,7 +13,8 @@ abbrev S : tie.After-first-keyed → tie.Start
 S c = c .before .before .before .before
 
 -- the next line of the copy with a key lies in it
-spot : (c : tie.After-known-told) → SpotIn (S (c .before .before .before) .args .copy .now) (At (c .before .next .given .0 .0) (c .before .next .given .0 .1 .0))
+spot : (c : tie.After-known-told) → SpotIn (S (c .before .before .before) .args .copy .now)
+    (At (c .before .next .given .0 .0) (c .before .next .given .0 .1 .0))
 spot c =
     let f = c .before .before .before in
     let a = S f .args in
