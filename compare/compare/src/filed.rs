@@ -168,7 +168,9 @@ const MOST_IN_ARGUMENT: usize = 120_000;
 fn all_wanted(prng: &mut Prng, pair: &Pair) -> Vec<Option<Wanted>> {
     let mut all = vec![None];
     for ask in finds(prng, pair, FINDS) {
-        if let Ask::Find { mut key, occurrence } = ask {
+        if let Ask::Find { mut key, mut occurrence } = ask {
+            // the program takes numbers of 19 digits at most
+            occurrence = occurrence.min(9_999_999_999_999_999_999);
             key.retain(|byte| *byte != 0);
             key.truncate(MOST_IN_ARGUMENT);
             all.push(Some((key, occurrence)));

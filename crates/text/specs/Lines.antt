@@ -4,13 +4,14 @@ use Prim.Native.Nat.{ℕ}
 use mathlib.Core.List.{List, [], _∷_}
 use Rattle.text.specs.Text.{parts}
 
--- the lines of a text: a last one without byte 10 counts
+-- parts less the last, where that is empty
 abbrev pub dropEmpty : List (List ℕ) → List (List ℕ)
 dropEmpty [] = []
 dropEmpty ([] ∷ []) = []
 dropEmpty ((x ∷ xs) ∷ []) = (x ∷ xs) ∷ []
 dropEmpty (l ∷ m ∷ ls) = l ∷ dropEmpty (m ∷ ls)
 
+-- the lines of a text: a last one without byte 10 counts
 unfoldable pub linesOf : List ℕ → List (List ℕ)
 linesOf s = dropEmpty (parts 10 s)
 
