@@ -161,19 +161,18 @@ pub fn fixed() -> Vec<(String, Pair)> {
     pairs.into_iter().map(pair).collect()
 }
 
-/// The most bytes of a key: the system takes an argument of no more than 128 KiB.
-const MOST_IN_ARGUMENT: usize = 120_000;
+/// What the program takes: arguments of so many bytes at most, and numbers of 19 digits.
+const MOST_IN_ARGUMENT: usize = 4_095;
+const MOST_OCCURRENCE: u64 = 9_999_999_999_999_999_999;
 
 /// The list, and some lines. No argument can hold byte 0.
 fn all_wanted(prng: &mut Prng, pair: &Pair) -> Vec<Option<Wanted>> {
     let mut all = vec![None];
     for ask in finds(prng, pair, FINDS) {
-        if let Ask::Find { mut key, mut occurrence } = ask {
-            // the program takes numbers of 19 digits at most
-            occurrence = occurrence.min(9_999_999_999_999_999_999);
+        if let Ask::Find { mut key, occurrence } = ask {
             key.retain(|byte| *byte != 0);
             key.truncate(MOST_IN_ARGUMENT);
-            all.push(Some((key, occurrence)));
+            all.push(Some((key, occurrence.min(MOST_OCCURRENCE))));
         }
     }
     all
