@@ -18,9 +18,9 @@ use Rattle.rules.specs.Engine.{beside}
 use Rattle.page.specs.Paging.{Written}
 use Rattle.console.specs.Console.{keyed}
 use Rattle.rules.specs.Answers as answers
-use Rattle.board.specs.Packed.{packedLength, packed, unpacked}
-use Rattle.board.specs.Board.{figuresLength, answering, isPacked, Boarded, notBoarded, boarded, soundly}
-use Rattle.board.proofs.OneForm.{filled-whole, is-length}
+use Rattle.packing.specs.Packed.{packedLength, packed, unpacked, isPacked}
+use Rattle.packing.proofs.OneForm.{filled-whole, is-length}
+use Rattle.board.specs.Board.{figuresLength, answering, Boarded, notBoarded, boarded, soundly}
 use Rattle.board.proofs.Answered.{answering-not}
 
 -- THE TEST OF SOUNDNESS

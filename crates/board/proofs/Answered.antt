@@ -19,7 +19,7 @@ use Rattle.rules.specs.declared.Answer.the-variants.{Done, Told, Waits, NoCalle
 use Rattle.rules.specs.declared.Answer.the-variants.{NoRoom, NotHolder, NotAllocated, AtCeiling, TooShort, NotUnderstood, NotSound, NotRead, InNeither}
 use Rattle.rules.specs.Answers.{number, values}
 use Rattle.rules.proofs.Answer.{the-type}
-use Rattle.board.specs.Packed.{inBytes}
+use Rattle.packing.specs.Packed.{inBytes}
 use Rattle.board.specs.Board.{figures, figuresLength, answering}
 
 -- the five numbers of an answer

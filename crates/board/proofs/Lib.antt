@@ -1,8 +1,3 @@
-pub mod Figures
-pub mod Fills
-pub mod Pieces
-pub mod Lossless
-pub mod OneForm
 pub mod Answered
 pub mod Agreed
 pub mod Determined

@@ -15,7 +15,7 @@ use Rattle.tables.specs.Calls.{Result, told}
 use Rattle.rules.specs.Engine.{front}
 use Rattle.rules.specs.Answers as answers
 use Rattle.reader.specs.Reading.{reading}
-use Rattle.board.specs.Packed.{packedLength, packed}
+use Rattle.packing.specs.Packed.{packedLength, packed}
 use Rattle.board.specs.Board.{figuresLength, answering, ReadBack, readBack}
 
 module _ (s tables buf : List ℕ) where

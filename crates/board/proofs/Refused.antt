@@ -8,9 +8,9 @@ use mathlib.Core.Bool.{Bool, true, false}
 use mathlib.Core.List.{List}
 use lib.Dec.{leb}
 use lib.ListN.{length}
-use Rattle.board.specs.Packed.{packed, unpacked}
-use Rattle.board.specs.Board.{figuresLength, isPacked, Boarded, AsGiven, boarded, longest, Ran, ran}
-use Rattle.board.proofs.OneForm.{packed-back}
+use Rattle.packing.specs.Packed.{packed, unpacked, isPacked}
+use Rattle.packing.proofs.OneForm.{packed-back}
+use Rattle.board.specs.Board.{figuresLength, Boarded, AsGiven, boarded, longest, Ran, ran}
 use Rattle.board.proofs.Agreed.{taken, by-form}
 use Rattle.board.proofs.Whole.{by-answer, by-size}
 use Rattle.console.proofs.Refusing.{keyed-kept}

@@ -2,12 +2,12 @@
 -- Assumes nothing.
 use Prim.Native.Nat.{ℕ, _-_}
 use mathlib.Core.Path.{_≡_}
-use mathlib.Core.Bool.{Bool, true, false, cond, _&&_}
+use mathlib.Core.Bool.{true, false, cond, _&&_}
 use mathlib.Core.List.{List, [], _∷_, _++_, map}
 use lib.ListN.{length, take, replicate}
-use lib.Dec.{leb, eqb}
+use lib.Dec.{leb}
 use Rattle.text.specs.Lines.{linesOf}
-use Rattle.lists.specs.Lists.{hit, alike, join}
+use Rattle.lists.specs.Lists.{hit, join}
 use Rattle.tables.specs.declared.Tables.{Tables}
 use Rattle.tables.specs.Tables.{smallest}
 use Rattle.tables.specs.Sound.{sound}
@@ -17,7 +17,7 @@ use Rattle.page.specs.Paging.{Written}
 use Rattle.reader.specs.Reading.{reading}
 use Rattle.console.specs.Console.{keyed}
 use Rattle.console.specs.Sheet.{lent, bytesFor, sheet}
-use Rattle.board.specs.Packed.{inBytes, packedLength, packed, unpacked}
+use Rattle.packing.specs.Packed.{inBytes, packedLength, packed, unpacked, isPacked}
 
 -- what is put of the output of some lines where n bytes are lent: that of each line as long as it fits
 unfoldable pub filled : Tables → List (List ℕ) → ℕ → List ℕ
@@ -60,10 +60,6 @@ ran s out buf =
       ]
       | false ↦ notRun 3 out buf
     ]
-
--- bytes are tables in packed form: they are what packing the tables that they say gives
-unfoldable pub isPacked : List ℕ → Bool
-isPacked s = eqb (length s) packedLength && alike (packed (unpacked s)) s
 
 -- A line keyed in on tables in bytes: the answer's number, the tables after it, the lent buffer, and the answer. 14, first, where the bytes
 -- are no tables or these are not sound; 12 where too few bytes are lent for the answer.

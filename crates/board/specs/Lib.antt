@@ -1,3 +1,2 @@
-pub mod Packed
 pub mod Board
 pub mod Desk

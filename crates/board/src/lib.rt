@@ -19,7 +19,6 @@
 // board_find are 0, then 0 for the original or 1 for the copy, and where the line begins and ends there; that of board_list is how many
 // lines it put, or, with 12, how many places these need.
 mod desk;
-mod pack;
 mod telling;
 
 ghost use mathlib.Core.Path.{_≡_};
@@ -76,10 +75,10 @@ pub extern "C" fn board_run(text: &[u8], out: &mut [u8], answer: &mut [u8]) -> u
 pub extern "C" fn board_sound(tables: &[u8]) -> u64
     ensures { λ r. ⌜ r ≡ soundly (now (tables .entry)) ⌝ }
 {
-    if !pack::is_packed(tables) {
+    if !packing::is_packed(tables) {
         return 0;
     }
-    let t = pack::tables_at(tables);
+    let t = packing::tables_at(tables);
     if t.is_sound() {
         return 1;
     }
@@ -98,10 +97,10 @@ pub extern "C" fn board_ask(
     ensures { λ r. ⌜ record { number = r; tables = now (tables .exit); page = now (page .exit); answer = now (answer .exit) }
         ≡ boarded (now (tables .entry)) (now (line .entry)) (now (page .entry)) (now (answer .entry)) ⌝ }
 {
-    if !pack::is_packed(tables) {
+    if !packing::is_packed(tables) {
         return telling::tell(answer, Answer::NotSound);
     }
-    let t = pack::tables_at(tables);
+    let t = packing::tables_at(tables);
     if answer.len() < telling::FIGURES_LENGTH {
         if t.is_sound() {
             return 12;
@@ -110,7 +109,7 @@ pub extern "C" fn board_ask(
     }
     let r = console::key_line(t, line, page);
     let after = r.tables;
-    pack::put_tables(tables, after);
+    packing::put_tables(tables, after);
     let told = r.answer;
     telling::tell(answer, told)
 }
@@ -125,12 +124,12 @@ pub extern "C" fn board_read(page: &[u8], tables: &mut [u8], answer: &mut [u8]) 
     if answer.len() < telling::FIGURES_LENGTH {
         return 12;
     }
-    if tables.len() < pack::PACKED_LENGTH {
+    if tables.len() < packing::PACKED_LENGTH {
         return telling::tell(answer, Answer::TooShort(1237));
     }
     let r = reader::read_page(page);
     let t = r.tables;
-    pack::put_tables(tables, t);
+    packing::put_tables(tables, t);
     let told = r.answer;
     telling::tell(answer, told)
 }

@@ -6,9 +6,8 @@ ghost use lib.ListN.{length, getD};
 ghost use Rattle.lists.specs.Lists.{join};
 ghost use Rattle.text.specs.Inner.{Wrote};
 ghost use Rattle.rules.specs.Answers.{number, values};
-ghost use Rattle.board.specs.Packed.{inBytes};
+ghost use Rattle.packing.specs.Packed.{inBytes};
 ghost use Rattle.board.specs.Board.{figures, figuresLength, answering};
-use super::pack;
 use rules::Answer;
 
 // The bytes of an answer.
@@ -44,18 +43,18 @@ fn put_five(buf: &mut [u8], at: usize, a: u64, b: u64, c: u64, d: u64, e: u64) -
     requires { ⌜ at + 40 ≤ length (now buf) ⌝ }
     ensures { λ r. ⌜ Wrote (now (buf .entry)) at (join (map (inBytes 8) (a ∷ b ∷ c ∷ d ∷ e ∷ []))) (now (buf .exit)) r ⌝ }
 {
-    let i = pack::put_long(buf, at, a);
-    let j = pack::put_long(buf, i, b);
-    let k = pack::put_long(buf, j, c);
-    let l = pack::put_long(buf, k, d);
-    pack::put_long(buf, l, e)
+    let i = packing::put_long(buf, at, a);
+    let j = packing::put_long(buf, i, b);
+    let k = packing::put_long(buf, j, c);
+    let l = packing::put_long(buf, k, d);
+    packing::put_long(buf, l, e)
 }
 
 pub(crate) fn put_figures(buf: &mut [u8], answer: Answer) -> usize
     requires { ⌜ figuresLength ≤ length (now buf) ⌝ }
     ensures { λ r. ⌜ Wrote (now (buf .entry)) 0 (figures (number answer) (values answer)) (now (buf .exit)) r ⌝ }
 {
-    let at = pack::put_long(buf, 0, console::number_of(answer));
+    let at = packing::put_long(buf, 0, console::number_of(answer));
     if let Answer::Told(t) = answer {
         return put_five(buf, at, t.day, t.hour, t.minute, t.second, t.hundredth);
     }
@@ -80,7 +79,7 @@ pub(crate) fn put_four(buf: &mut [u8], number: u64, a: u64, b: u64, c: u64, d: u
     requires { ⌜ figuresLength ≤ length (now buf) ⌝ }
     ensures { λ r. ⌜ Wrote (now (buf .entry)) 0 (figures number (a ∷ b ∷ c ∷ d ∷ [])) (now (buf .exit)) r ⌝ }
 {
-    let at = pack::put_long(buf, 0, number);
+    let at = packing::put_long(buf, 0, number);
     put_five(buf, at, a, b, c, d, 0)
 }
 

@@ -9,9 +9,8 @@ use borrow.Author.Tests.{not-true, not-false}
 use Rattle.records.proofs.Program as program
 use Rattle.records.proofs.Resource as resource
 use Rattle.tables.specs.Tables.{Arrays}
-use Rattle.board.specs.Packed.{packedLength, packed}
-use Rattle.board.specs.Board.{isPacked}
-use Rattle.board.proofs.OneForm.{named-each, packed-length, is-length}
+use Rattle.packing.specs.Packed.{packedLength, packed, isPacked}
+use Rattle.packing.proofs.OneForm.{named-each, packed-length, is-length}
 use Rattle.board.proofs.Agreed.{boarded-other, boarded-short, boarded-done}
 use Rattle.board.proofs.board_ask.Statement.{statement}
 use Rattle.board.proofs.board_ask.Tie as tie

@@ -7,8 +7,8 @@ use borrow.Author.Needs.{needs}
 use Rattle.records.proofs.Program as program
 use Rattle.records.proofs.Resource as resource
 use Rattle.tables.specs.Tables.{Arrays}
-use Rattle.board.specs.Packed.{packedLength, packed}
-use Rattle.board.proofs.OneForm.{named-each, packed-length}
+use Rattle.packing.specs.Packed.{packedLength, packed}
+use Rattle.packing.proofs.OneForm.{named-each, packed-length}
 use Rattle.board.proofs.ReadingBack.{read-not, read-short, read-done}
 use Rattle.board.proofs.board_read.Statement.{statement}
 use Rattle.board.proofs.board_read.Tie as tie

@@ -3,8 +3,8 @@ use mathlib.Core.Path.{_≡_, sym, _∙_}
 use mathlib.Core.Bool.{true, false}
 use borrow.Author.Needs.{needs}
 use borrow.Author.Tests.{not-true, not-false}
-use Rattle.board.specs.Board.{isPacked}
-use Rattle.board.proofs.OneForm.{is-length}
+use Rattle.packing.specs.Packed.{isPacked}
+use Rattle.packing.proofs.OneForm.{is-length}
 use Rattle.board.proofs.Agreed.{soundly-other, soundly-is}
 use Rattle.board.proofs.board_sound.Statement.{statement}
 use Rattle.board.proofs.board_sound.Tie as tie
