@@ -25,7 +25,7 @@ use Rattle.page.specs.Paging.{Written}
 use Rattle.console.specs.Line.{Line, bad, PAGE, asks, lineOf}
 use Rattle.console.specs.Console.{keyed}
 use Rattle.console.specs.Sheet.{bytesFor, lent, answerLine, shown, printed}
-use Rattle.blocks.specs.Blocks.{All, tablesAfter, Turn, turn, Turned, turned, turns}
+use Rattle.blocks.specs.Blocks.{All, keptAfter, tablesAfter, Turn, turn, Turned, turned, turns}
 use Rattle.blocks.proofs.Cuts.{linesEnded-next, lastBytes-next}
 use Rattle.blocks.proofs.Arriving.{printed-append, after-append}
 use Rattle.blocks.proofs.Going.{behind, over, turn-next, turn-full}
@@ -116,13 +116,13 @@ pub record Took (t : Tables) (s : List ℕ) (at n : ℕ) (x : Turn) : Type 0 whe
   pub some : pageRoom ≤ n → lines ≡ [] → linesEnded (parts 10 s) ≡ []
 
 took-none : (t : Tables) (s : List ℕ) (at n : ℕ) → (pageRoom ≤ n → linesEnded (parts 10 s) ≡ []) → Took t s at n (over t at)
-unfolding printed tablesAfter
+unfolding printed keptAfter
 took-none t s at n h =
     record { lines = []; past = 0; place = omega arith; split = refl; rest = refl; bytes = refl; tables = refl; some = λ b e. h b }
 
 took-line : (t : Tables) (s : List ℕ) (at n : ℕ) (l : List ℕ) (ls : List (List ℕ)) (x : Turn) (n′ : ℕ) → First s l ls
     → Took (keyed t l lent .tables) (drop (length l + 1) s) (at + length l + 1) n′ x → Took t s at n (behind (bytesFor t l) x)
-unfolding printed tablesAfter
+unfolding printed keptAfter
 took-line t s at n l ls x n′ f h =
     let s′ : List ℕ = drop (length l + 1) s in
     let far : drop (h .past) s′ ≡ drop (length l + 1 + h .past) s = drop-drop (h .past) (length l + 1) s in
@@ -275,7 +275,7 @@ pub record Onward (t₀ : Tables) (block : List ℕ) (t : Tables) (from : ℕ) :
   pub tables : t ≡ tablesAfter t₀ lines
 
 pub onward-start : (t : Tables) (block : List ℕ) → Onward t block t 0
-unfolding tablesAfter
+unfolding keptAfter
 onward-start t block = record { lines = []; split = refl; rest = refl; tables = refl }
 
 pub onward-none : {t₀ : Tables} {block : List ℕ} {t : Tables} {from : ℕ} → Onward t₀ block t from → linesEnded (parts 10 (drop from block)) ≡ []

@@ -16,11 +16,6 @@ use Rattle.rules.specs.Engine.{front}
 use Rattle.console.specs.Console.{keyed}
 use Rattle.console.specs.Sheet.{lent, bytesFor, printed}
 
--- the tables after some lines; what they print is `printed`
-unfoldable pub tablesAfter : Tables → List (List ℕ) → Tables
-tablesAfter t [] = t
-tablesAfter t (l ∷ ls) = tablesAfter (keyed t l lent .tables) ls
-
 -- One turn, from place `at` of a block on, with n bytes left of the lent buffer: line after line is
 -- printed for while `pageRoom` bytes are left.
 -- What comes of it: the tables, the place of the next line, and the bytes printed.
@@ -70,13 +65,45 @@ carried s from to =
       | false ↦ record { held = 0; block = s }
     ]
 
--- What is printed for a text that comes in blocks, from tables t on, `held` being what is held of an unfinished line. At the end of
--- the text a line without byte 10 counts.
-unfoldable pub arriving : Tables → List ℕ → List (List ℕ) → List ℕ
-arriving t held [] = printed t (dropEmpty (held ∷ []))
-arriving t held (b ∷ bs) =
-    let ls : List (List ℕ) = parts 10 (held ++ b) in
-    printed t (linesEnded ls) ++ arriving (tablesAfter t (linesEnded ls)) (take most (lastBytes ls)) bs
+-- Whoever takes the lines of a text one after another: what is kept after a line, and the bytes that are shown for it.
+pub record Taker : Type 1 where
+  pub Kept : Type 0
+  pub next : Kept → List ℕ → Kept
+  pub shows : Kept → List ℕ → List ℕ
+
+-- what is kept after a text, or a part of it, and what was shown for it
+pub record Taken (A : Type 0) : Type 0 where
+  pub kept : A
+  pub bytes : List ℕ
+
+module _ (K : Taker) where
+  unfoldable pub keptAfter : K .Kept → List (List ℕ) → K .Kept
+  keptAfter k [] = k
+  keptAfter k (l ∷ ls) = keptAfter (K .next k l) ls
+
+  unfoldable pub shownFor : K .Kept → List (List ℕ) → List ℕ
+  shownFor k [] = []
+  shownFor k (l ∷ ls) = K .shows k l ++ shownFor (K .next k l) ls
+
+  -- some lines, one after another
+  abbrev pub taken : K .Kept → List (List ℕ) → Taken (K .Kept)
+  taken k ls = record { kept = keptAfter k ls; bytes = shownFor k ls }
+
+  -- The same of a text that comes in blocks, `held` being what is held of an unfinished line. At the end of the text a line without
+  -- byte 10 counts.
+  unfoldable pub arriving : K .Kept → List ℕ → List (List ℕ) → Taken (K .Kept)
+  arriving k held [] = taken k (dropEmpty (held ∷ []))
+  arriving k held (b ∷ bs) =
+      let ls : List (List ℕ) = linesEnded (parts 10 (held ++ b)) in
+      let rest : Taken (K .Kept) = arriving (keptAfter k ls) (take most (lastBytes (parts 10 (held ++ b)))) bs in
+      record { kept = rest .kept; bytes = shownFor k ls ++ rest .bytes }
+
+-- `sheet`: it keeps the tables, and prints what a line prints
+abbrev pub onSheet : Taker
+onSheet = record { Kept = Tables; next = λ t l. keyed t l lent .tables; shows = bytesFor }
+
+abbrev pub tablesAfter : Tables → List (List ℕ) → Tables
+tablesAfter t ls = keptAfter onSheet t ls
 
 -- Turn after turn over one block, each into n emptied bytes, until one prints nothing; k turns at most
 unfoldable pub turns : ℕ → Tables → List ℕ → ℕ → ℕ → Turn

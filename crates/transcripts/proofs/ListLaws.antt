@@ -51,7 +51,7 @@ width-fits w n m (inr (inl q)) a b = subst (λ (i : ℕ). n * i < 2 ^ 64) (sym q
 width-fits w n m (inr (inr q)) a b = subst (λ (i : ℕ). n * i < 2 ^ 64) (sym q) (omega arith)
 
 -- a list is short, or not
-filled-short : (n : ℕ) (figures list : List ℕ) → length list < length figures
+pub filled-short : (n : ℕ) (figures list : List ℕ) → length list < length figures
     → filled n figures list ≡ answered (TooShort (length figures)) list
 filled-short n figures list h =
     ap
@@ -59,7 +59,7 @@ filled-short n figures list h =
     (record { number = 12; values = length figures ∷ []; list = list }))
     (lt-leb (length figures) (length list) h)
 
-filled-long : (n : ℕ) (figures list after : List ℕ) → length figures ≤ length list → after ≡ sets list 0 figures
+pub filled-long : (n : ℕ) (figures list after : List ℕ) → length figures ≤ length list → after ≡ sets list 0 figures
     → filled n figures list ≡ answered (Done n) after
 filled-long n figures list after h e =
     ap
