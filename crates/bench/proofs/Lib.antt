@@ -1,3 +1,4 @@
 pub mod Computed
 pub mod PagesComputed
 pub mod DesksComputed
+pub mod FollowsComputed

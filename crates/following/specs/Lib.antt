@@ -1,0 +1,3 @@
+pub mod Differences
+pub mod Following
+pub mod Promises

@@ -1,0 +1,5 @@
+pub mod ShownLaws
+pub mod RequestLaws
+pub mod PageLaws
+pub mod Arriving
+pub mod Determined
