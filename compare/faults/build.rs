@@ -37,13 +37,14 @@ fn make(out: &Path) -> Result<(), String> {
     }
     let mut together: Vec<(usize, Placed)> = Vec::new();
     let mut modules = module(out, "pub mod", "together");
-    let mut faults = String::new();
+    let (mut faults, mut all) = (String::new(), String::new());
     for (place, (list, patch)) in patches()?.iter().enumerate() {
         let number = place + 1;
         let shown = match list.as_str() {
             "pages.txt" => "OnPages",
             "desk.txt" => "OnTexts",
             "prints.txt" => "OnPaper",
+            "follow.txt" => "OnSheets",
             _ => "OnConsole",
         };
         let changes = changes(patch, &sources)?;
@@ -57,16 +58,20 @@ fn make(out: &Path) -> Result<(), String> {
             (0, alone)
         };
         let (name, what) = (&patch.name, &patch.what);
+        // Each is a constant of its own: one with all of them takes the compiler a minute.
+        all += &format!("FAULT_{number}, ");
         faults += &format!(
-            "Fault {{ name: {name:?}, what: {what:?}, choice: {choice}, \
+            "const FAULT_{number}: Fault = Fault {{ \
+             name: {name:?}, what: {what:?}, choice: {choice}, \
              shown: Shown::{shown}, \
              sheet: |input| choice::with({choice}, || {engine}::sheet(input)), \
              read: |input| choice::with({choice}, || told!({engine}, input)), \
-             desk: desk!({engine}, {choice}) }},\n"
+             desk: desk!({engine}, {choice}), \
+             follow: follow!({engine}, {choice}) }};\n"
         );
     }
     write(out, "together", &with_choices(&sources, &together), "use crate::choice;\n")?;
-    let text = format!("{modules}\npub const FAULTS: &[Fault] = &[\n{faults}];\n");
+    let text = format!("{modules}\n{faults}\npub const FAULTS: &[Fault] = &[{all}];\n");
     put(&out.join("engines.rs"), &text)
 }
 

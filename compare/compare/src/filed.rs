@@ -12,7 +12,7 @@ use faults::Print;
 use std::ffi::{OsStr, OsString};
 use std::fs;
 use std::os::unix::ffi::OsStrExt;
-use std::path::PathBuf;
+use std::path::{Path, PathBuf};
 use std::time::Duration;
 
 /// The pairs that `compare desk` takes unless it is told another count: two turns of kinds, and more.
@@ -33,14 +33,20 @@ pub enum Program {
     },
 }
 
-/// A folder for the two files, removed with what is in it at the end.
+/// A folder for the files of a run, removed with what is in it at the end.
 pub struct Folder(PathBuf);
 
 impl Folder {
-    pub fn new() -> Result<Folder, String> {
-        let path = std::env::temp_dir().join(format!("compare-desk-{}", std::process::id()));
+    /// For the runs of this program.
+    pub fn new(program: &str) -> Result<Folder, String> {
+        let name = format!("compare-{}-{}", program, std::process::id());
+        let path = std::env::temp_dir().join(name);
         fs::create_dir_all(&path).map_err(|error| format!("{}: {}", path.display(), error))?;
         Ok(Folder(path))
+    }
+
+    pub fn path(&self) -> &Path {
+        &self.0
     }
 
     fn put(&self, name: &str, text: &[u8]) -> Result<OsString, String> {

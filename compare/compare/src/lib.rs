@@ -1,5 +1,5 @@
-//! Scripts for the console, and the comparison of a `sheet` program with the engine on them; pages
-//! and pairs of texts, and the comparison of what is made of them.
+//! Scripts for the console, and the comparison of a `sheet` program with the engine on them; pages,
+//! pairs of texts and runs of sheets, and the comparison of what is made of them.
 //!
 //! | file | subject |
 //! |---|---|
@@ -25,6 +25,11 @@
 //! | `looking` | the comparison of a reading desk with the engine's, on pairs |
 //! | `tally` | how often what came up there |
 //! | `filed` | the comparison of a `desk` program with the engine, on pairs in files |
+//! | `sheets` | runs of sheets from a seed: a page, requests, the next page, and so on |
+//! | `slip` | pages in which one thing is another, and which are pages all the same |
+//! | `nooks` | fixed runs of sheets |
+//! | `following` | the comparison of a `follow` program with the engine, on runs of sheets in files |
+//! | `verdicts` | how often what came up there |
 //! | `other` | the program, or the wrong engine, that is compared |
 //! | `differ` | batches of scripts, and the first difference |
 //! | `shrink` | a shorter script that still fails |
@@ -38,10 +43,12 @@ pub mod corners;
 pub mod damage;
 pub mod differ;
 pub mod filed;
+pub mod following;
 pub mod forms;
 pub mod looking;
 pub mod make;
 pub mod miscopy;
+pub mod nooks;
 pub mod other;
 pub mod pages;
 pub mod prng;
@@ -49,12 +56,15 @@ pub mod profile;
 pub mod reading;
 pub mod report;
 pub mod script;
+pub mod sheets;
 pub mod shrink;
+pub mod slip;
 pub mod spoil;
 pub mod tally;
 pub mod tangle;
 pub mod texts;
 pub mod twist;
+pub mod verdicts;
 pub mod wish;
 
 use std::ops::Range;

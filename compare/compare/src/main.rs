@@ -3,6 +3,7 @@
 use comparer::asks::Ask;
 use comparer::differ::{self, shortest, Count, Failure};
 use comparer::filed::{self, Folder, Program, CI_FILED};
+use comparer::following::{self, CI_TRIPLES};
 use comparer::looking::{self, Trial, CI_PAIRS};
 use comparer::other::Other;
 use comparer::pages::{in_turn, turn, Pages};
@@ -11,6 +12,7 @@ use comparer::report::report;
 use comparer::script::generate;
 use comparer::tally;
 use comparer::texts::Pair;
+use comparer::verdicts;
 use comparer::{CI_LINES, CI_SEEDS};
 use engine::{sheet, Answer, Desk, Found, Value};
 use faults::{Fault, FAULTS};
@@ -28,9 +30,12 @@ const USAGE: &str = "usage:
   compare texts [--seed K] [--count N] [--fault NAME]
   compare desk [--seed K] [--count N] [--limit SECONDS] [--save FILE] -- PROGRAM [ARGS..]
   compare desk [--seed K] [--count N] [--save FILE] --fault NAME
+  compare follow [--seed K] [--count N] [--limit SECONDS] [--save FILE] -- PROGRAM [ARGS..]
+  compare follow [--seed K] [--count N] [--save FILE] --fault NAME
   compare faults
   compare sheet
   compare look ORIGINAL COPY [KEY OCCURRENCE]
+  compare after FIRST [REQUESTS NEXT ..]
   compare gen [--seed K] [--lines N]
   compare cases [--seeds A..B] [--lines N]
   compare readings [--seeds A..B] [--count N]
@@ -63,6 +68,9 @@ fn command() -> Result<u8, String> {
     if word == "look" {
         return look(&args.collect::<Vec<_>>());
     }
+    if word == "after" {
+        return print(&following::after(&args.collect::<Vec<_>>()));
+    }
     let text = |arg: OsString| arg.into_string().map_err(|_| USAGE.to_string());
     let rest = args.map(text).collect::<Result<Vec<String>, String>>()?;
     match text(word)?.as_str() {
@@ -70,6 +78,7 @@ fn command() -> Result<u8, String> {
         "pages" => pages(options(rest)?),
         "texts" => texts(options(rest)?),
         "desk" => desk(options(rest)?),
+        "follow" => follow(options(rest)?),
         "faults" => {
             let list = FAULTS.iter().map(|fault| format!("{:32}{}\n", fault.name, fault.what));
             print(list.collect::<String>().as_bytes())
@@ -216,7 +225,7 @@ fn desk(options: Options) -> Result<u8, String> {
         (Some(fault), true) => Program::Engine(fault.desk.print),
         (None, false) => {
             let (command, limit) = (options.program, options.limit);
-            Program::Command { command, limit, folder: Folder::new()? }
+            Program::Command { command, limit, folder: Folder::new("desk")? }
         }
         _ => return Err(USAGE.to_string()),
     };
@@ -237,6 +246,32 @@ fn desk(options: Options) -> Result<u8, String> {
             let file = format!("{}.{}", file, name);
             std::fs::write(&file, text).map_err(|error| format!("{}: {}", file, error))?;
         }
+    }
+    Ok(1)
+}
+
+/// A `follow` program, or a wrong engine in its place, on runs of sheets in files.
+fn follow(options: Options) -> Result<u8, String> {
+    let program = match (options.fault, options.program.is_empty()) {
+        (Some(fault), true) => following::Program::Engine(fault.follow),
+        (None, false) => {
+            let (command, limit) = (options.program, options.limit);
+            following::Program::Command { command, limit, folder: Folder::new("follow")? }
+        }
+        _ => return Err(USAGE.to_string()),
+    };
+    let (seed, count) = (options.seeds.start, options.count.unwrap_or(CI_TRIPLES));
+    let mut total = verdicts::Count::default();
+    let difference = match following::run(&program, seed, count, &mut total)? {
+        Some(difference) => following::shortened(&program, difference)?,
+        None => {
+            let said = format!("{} triples, {} runs: no difference\n", total.triples, total.runs);
+            return print((total.print() + &said).as_bytes());
+        }
+    };
+    print(following::report(&program, &difference)?.as_bytes())?;
+    if let Some(file) = options.save {
+        following::save(&difference, &file)?;
     }
     Ok(1)
 }

@@ -2,7 +2,7 @@
 
 use crate::absurd::{every_byte, fixed};
 use crate::pages::{Kind, Pages};
-use crate::report::shown;
+use crate::report::front;
 use engine::answer::NOT_READ;
 use engine::{Answer, Value};
 use std::collections::BTreeMap;
@@ -63,7 +63,7 @@ pub fn first_difference<'a>(
     None
 }
 
-/// The most lines of a page, and bytes of a line, that are shown.
+/// The most lines of a page that are shown.
 const MOST_SHOWN: usize = 400;
 
 pub fn report(difference: &Difference) -> String {
@@ -82,9 +82,7 @@ pub fn report(difference: &Difference) -> String {
 pub fn page_lines(page: &[u8]) -> Vec<String> {
     let mut lines = Vec::new();
     for (place, line) in page.split(|byte| *byte == b'\n').enumerate().take(MOST_SHOWN) {
-        let cut = &line[..line.len().min(MOST_SHOWN)];
-        let more = if cut.len() < line.len() { ".." } else { "" };
-        lines.push(format!("{:>3} {}{}", place + 1, shown(cut), more));
+        lines.push(format!("{:>3} {}", place + 1, front(line)));
     }
     if page.is_empty() || page.ends_with(b"\n") {
         lines.pop();

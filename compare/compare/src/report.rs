@@ -34,6 +34,45 @@ pub fn report(input: &[u8], got: &[u8]) -> String {
     text + &outputs(&sheet(input), got)
 }
 
+/// The same with no more than so many lines before the first in which they differ, and behind it,
+/// and with no more than the front of a long one.
+pub fn outputs_near(expected: &[u8], got: &[u8], near: usize) -> String {
+    let (right, wrong) = (lines(expected), lines(got));
+    let same = right.iter().zip(&wrong).take_while(|(a, b)| a == b).count();
+    let mut text = String::new();
+    for (title, all) in [("the engine prints", right), ("the other prints", wrong)] {
+        let _ = writeln!(text, "{}:", title);
+        let first = same.saturating_sub(near);
+        let shown = &all[first.min(all.len())..all.len().min(same + near + 1)];
+        tell_left_out(&mut text, all.len().min(first));
+        for (place, line) in (first..).zip(shown) {
+            let sign = if place == same { '>' } else { ' ' };
+            let _ = writeln!(text, "  {} {}", sign, front(line));
+        }
+        tell_left_out(&mut text, all.len().saturating_sub(same + near + 1));
+    }
+    if expected.ends_with(b"\n") != got.ends_with(b"\n") {
+        let _ = writeln!(text, "(one of them has no byte 10 at the end)");
+    }
+    text
+}
+
+fn tell_left_out(text: &mut String, count: usize) {
+    if count > 0 {
+        let _ = writeln!(text, "    ({} lines)", count);
+    }
+}
+
+/// The most bytes of a line that are shown.
+const MOST_SHOWN: usize = 400;
+
+/// A line in print, without what is too much of it.
+pub fn front(line: &[u8]) -> String {
+    let cut = &line[..line.len().min(MOST_SHOWN)];
+    let more = if cut.len() < line.len() { ".." } else { "" };
+    shown(cut) + more
+}
+
 /// The first line in which the two differ is marked in both.
 pub fn outputs(expected: &[u8], got: &[u8]) -> String {
     let (right, wrong) = (lines(expected), lines(got));

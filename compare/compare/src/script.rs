@@ -1,5 +1,5 @@
-//! A whole script from a seed. The generator keeps an engine beside it, so that most lines mean
-//! something in the state they meet.
+//! A whole script from a seed, and lines that go on from tables. The generator keeps an engine
+//! beside it, so that most lines mean something in the state they meet.
 
 use crate::prng::Prng;
 use crate::profile::{Profile, Topic};
@@ -33,6 +33,18 @@ pub fn generate(seed: u64, lines: usize) -> Vec<u8> {
         script.pop();
     }
     script
+}
+
+/// So many lines that go on from these tables, which obey them.
+pub fn going_on(prng: &mut Prng, engine: &mut Engine, count: usize) -> Vec<Vec<u8>> {
+    let profile = Profile::new(prng);
+    let mut lines = Vec::new();
+    for _ in 0..count {
+        let line = next_line(prng, &profile, engine);
+        print_line(engine, &line);
+        lines.push(line);
+    }
+    lines
 }
 
 fn opening(prng: &mut Prng, profile: &Profile) -> Vec<String> {

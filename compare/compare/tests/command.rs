@@ -102,19 +102,76 @@ fn desk() {
     assert_eq!(output.status.code(), Some(1));
 }
 
+/// `compare after` is a `follow` program.
+#[test]
+fn follow() {
+    let output = compare(&["follow", "--count", "30", "--", COMPARE, "after"], b"");
+    assert_eq!(output.status.code(), Some(0));
+    let text = String::from_utf8_lossy(&output.stdout).to_string();
+    assert!(text.starts_with("runs  ") && text.contains("\nfollows  "), "{}", text);
+    assert!(text.ends_with(" runs: no difference\n"), "{}", text);
+    let output = compare(&["follow", "--count", "1", "--", "echo", "answer=0,value=0"], b"");
+    assert_eq!(output.status.code(), Some(1));
+    let text = String::from_utf8_lossy(&output.stdout).to_string();
+    assert!(
+        text.contains("the engine prints:\n  > ") && text.contains("\n  > answer=0,value=0 "),
+        "{}",
+        text
+    );
+    let output = compare(&["follow", "--fault", "page-printed"], b"");
+    assert_eq!(output.status.code(), Some(1));
+    // An engine that is wrong elsewhere alone.
+    let output = compare(&["follow", "--count", "1", "--fault", "copy-preferred"], b"");
+    assert_eq!(output.status.code(), Some(0));
+}
+
+/// The files of a difference, names that are no text, and what is none.
+#[test]
+fn after() {
+    let folder = std::env::temp_dir().join(format!("compare-after-{}", std::process::id()));
+    std::fs::create_dir_all(&folder).expect("a folder");
+    let saved = folder.join("saved").display().to_string();
+    compare(&["follow", "--save", &saved, "--fault", "refused-ends-the-run"], b"");
+    let [first, requests, next] = [1, 2, 3].map(|place| format!("{}.{}", saved, place));
+    let missing = folder.join(OsStr::from_bytes(b"\xff\x01"));
+    let said = |names: &[&OsStr]| {
+        let run = Command::new(COMPARE).arg("after").args(names).output();
+        let run = run.expect("the command ends");
+        assert_eq!(run.status.code(), Some(0));
+        run.stdout
+    };
+    let run = said(&[&first, &requests, &next].map(OsStr::new));
+    let [alone, none] = [said(&[OsStr::new(&first)]), said(&[missing.as_os_str()])];
+    let directory = said(&[folder.as_os_str()]);
+    std::fs::remove_dir_all(&folder).expect("the folder goes");
+    let run = String::from_utf8_lossy(&run).to_string();
+    let begins = format!("{}: answer=0,value=0\n1: ", first);
+    assert!(run.starts_with(&begins) && run.contains(" (refused: "), "{}", run);
+    assert_eq!(alone, format!("{}: answer=0,value=0\n", first).into_bytes());
+    let name = folder.display().to_string();
+    let expected = [name.as_bytes(), b"/\xff?: cannot be read: no such file\n"].concat();
+    assert_eq!(none, expected);
+    assert_eq!(directory, format!("{}: cannot be read: a directory\n", name).into_bytes());
+    let usage = b"usage: follow FIRST.page [REQUESTS NEXT.page ...]\n";
+    assert_eq!((said(&[]), said(&[OsStr::new("x"); 2])), (usage.to_vec(), usage.to_vec()));
+}
+
 /// Whether the program agrees, differs, or cannot be started.
 #[test]
 fn no_folder_is_left() {
     let folder = std::env::temp_dir().join(format!("compare-left-{}", std::process::id()));
     std::fs::create_dir_all(&folder).expect("a folder");
-    for (status, program) in [(0, &[COMPARE, "look"][..]), (1, &["echo"]), (2, &["./no-such"])] {
-        let run = Command::new(COMPARE)
-            .args(["desk", "--count", "2", "--"])
-            .args(program)
-            .env("TMPDIR", &folder)
-            .output();
-        assert_eq!(run.expect("the command ends").status.code(), Some(status));
-        assert_eq!(std::fs::read_dir(&folder).expect("a folder").count(), 0);
+    for (command, itself) in [("desk", "look"), ("follow", "after")] {
+        for (status, program) in [(0, &[COMPARE, itself][..]), (1, &["echo"]), (2, &["./no-such"])]
+        {
+            let run = Command::new(COMPARE)
+                .args([command, "--count", "2", "--"])
+                .args(program)
+                .env("TMPDIR", &folder)
+                .output();
+            assert_eq!(run.expect("the command ends").status.code(), Some(status));
+            assert_eq!(std::fs::read_dir(&folder).expect("a folder").count(), 0);
+        }
     }
     std::fs::remove_dir_all(&folder).expect("the folder goes");
 }
@@ -148,6 +205,8 @@ fn not_run() {
         &["run"][..],
         &["desk"],
         &["desk", "--", "./no-such-program"],
+        &["follow"],
+        &["follow", "--", "./no-such-program"],
         &["look", "./no-such-text", "./no-such-text"],
         &["look"],
         &["run", "--", "./no-such-program"],

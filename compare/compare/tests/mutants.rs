@@ -1,6 +1,6 @@
 //! Every wrong engine is told from the right one within the seeds of the CI, but for those that show
-//! on tables put by hand alone (`faults/tests/hand.rs`), on pages (`pages.rs`) and on pairs of texts
-//! (`texts.rs`).
+//! on tables put by hand alone (`faults/tests/hand.rs`), on pages (`pages.rs`), on pairs of texts
+//! (`texts.rs`) and on runs of sheets (`follow.rs`).
 
 use comparer::differ::{begins_fresh, differs, fixed_inputs, run, shortest, Count, Failure};
 use comparer::other::Other;

@@ -96,7 +96,7 @@ impl<'a> Desk<'a> {
 
     /// "in the original's order, each line whose counterpart in the copy (same key, same occurrence)
     /// differs or is missing", with that counterpart.
-    fn differing(&self) -> Vec<(&Line<'a>, Option<&Line<'a>>)> {
+    pub fn differing(&self) -> Vec<(&Line<'a>, Option<&Line<'a>>)> {
         let mut differing = Vec::new();
         for (place, line) in &self.original {
             let other = self.copy.get(place);

@@ -14,11 +14,13 @@
 //! | `page`, `line`, `sheet` | The page and the console line |
 //! | `read` | a page read back: request (i) |
 //! | `desk` | a line found, and lines that differ, in two texts: request (xii) |
+//! | `follow` | whether the next sheet can follow: the program `follow` |
 //! | `raw`, `sound` | the tables as a caller could hand them in, and when they are sound |
 
 pub mod answer;
 pub mod desk;
 pub mod exec;
+pub mod follow;
 pub mod line;
 pub mod numbers;
 pub mod operator;
@@ -33,6 +35,7 @@ pub mod waking;
 
 pub use answer::{Answer, Outcome, Value};
 pub use desk::{Desk, Found, Mark};
+pub use follow::{follow, File};
 pub use line::{parse, Request};
 pub use numbers::Kind;
 pub use raw::Raw;

@@ -15,6 +15,8 @@ pub enum Shown {
     OnTexts,
     /// Its desk is right, but not what the program prints of it.
     OnPaper,
+    /// Its `follow` is wrong.
+    OnSheets,
 }
 
 /// A wrong engine.
@@ -32,6 +34,7 @@ pub struct Fault {
     /// What it reads from a page, in print: the answer, and the tables.
     pub read: fn(&[u8]) -> (String, String),
     pub desk: InPrint,
+    pub follow: Follow,
 }
 
 /// The calls of an engine's reading desk on two texts, the original's and the copy's; what they say
@@ -48,6 +51,19 @@ pub struct InPrint {
 
 /// Two texts, and perhaps a key with its occurrence, in; what `desk` prints out.
 pub type Print = fn(&[u8], &[u8], Option<(&[u8], u64)>) -> Vec<u8>;
+
+/// A file as an engine's `follow` is given it: its name, what was read of it, and the number of the
+/// error by which the rest was not.
+pub type Given<'a> = (&'a [u8], &'a [u8], Option<i32>);
+
+/// What an engine's `follow` says.
+#[derive(Clone, Copy)]
+pub struct Follow {
+    /// The files of its arguments in, what it prints out.
+    pub print: fn(&[Given]) -> Vec<u8>,
+    /// A sheet and the page that was written, or any two texts, in; the lines that it shows out.
+    pub differences: fn(&[u8], &[u8]) -> Vec<u8>,
+}
 
 /// A reading by one of the engines, whose types are all different.
 macro_rules! told {
@@ -71,6 +87,22 @@ macro_rules! desk {
             },
             print: |original, copy, asked| {
                 choice::with($choice, || $engine::Desk::new(original, copy).print(asked))
+            },
+        }
+    };
+}
+
+/// The `follow` of one of the engines, in the same way.
+macro_rules! follow {
+    ($engine:ident, $choice:expr) => {
+        Follow {
+            print: |files| {
+                let file = |&(name, bytes, failed)| $engine::File { name, bytes, failed };
+                let files: Vec<_> = files.iter().map(file).collect();
+                choice::with($choice, || $engine::follow(&files))
+            },
+            differences: |sheet, written| {
+                choice::with($choice, || $engine::follow::differences(sheet, written))
             },
         }
     };
@@ -100,6 +132,9 @@ pub fn together_reads(page: &[u8]) -> (String, String) {
 
 /// The desk of the engine of all that are built together, with nothing chosen.
 pub const TOGETHER_DESK: InPrint = desk!(together, 0);
+
+/// The `follow` of the same.
+pub const TOGETHER_FOLLOW: Follow = follow!(together, 0);
 
 impl Fault {
     pub fn by_name(name: &str) -> Option<Fault> {

@@ -3,7 +3,7 @@
 use edit::change::{apply, Change};
 use edit::files::{files, name, read};
 use mutate::sites::changes;
-use mutate::trial::{Shop, Verdict, OFF_THE_CONSOLE, ON_PAGES, ON_TEXTS};
+use mutate::trial::{Shop, Verdict, OFF_THE_CONSOLE, ON_PAGES, ON_SHEETS, ON_TEXTS};
 use std::path::{Path, PathBuf};
 use std::process::ExitCode;
 
@@ -106,7 +106,7 @@ fn try_all(engine: &Path, folder: &Path, all: &[(String, String, Change)]) -> Re
         }
     }
     let unbuilt = shop.together(&within)?;
-    for file in ["lib.rs", OFF_THE_CONSOLE[0], ON_PAGES[0], ON_TEXTS[0]] {
+    for file in ["lib.rs", OFF_THE_CONSOLE[0], ON_PAGES[0], ON_TEXTS[0], ON_SHEETS[0]] {
         if shop.verdict(file, 0)? != Verdict::Survives {
             return Err(String::from("the engine as it is does not pass"));
         }

@@ -2,8 +2,11 @@
 
 use comparer::asks::Ask;
 use comparer::differ::everything;
+use comparer::following;
 use comparer::looking::{fixed_trials, trials, CI_PAIRS, ENGINE};
+use comparer::nooks;
 use comparer::reading::{engine_reads, pages, CI_PAGES};
+use comparer::sheets::Runs;
 use comparer::texts::Pair;
 use comparer::{CI_LINES, CI_SEEDS};
 
@@ -18,11 +21,12 @@ pub struct Program {
 }
 
 /// All of them: that of the console first.
-pub fn programs() -> [Program; 3] {
+pub fn programs() -> [Program; 4] {
     [
         Program { name: "sheet", source: SHEET, inputs: everything(CI_SEEDS, CI_LINES) },
         Program { name: "reads", source: READS, inputs: vec![all_pages()] },
         Program { name: "looks", source: LOOKS, inputs: vec![all_pairs()] },
+        Program { name: "follows", source: FOLLOWS, inputs: vec![all_runs()] },
     ]
 }
 
@@ -147,6 +151,62 @@ fn all_pairs() -> (Vec<u8>, Vec<u8>) {
             };
             output.extend(said.bytes());
         }
+    }
+    (input, output)
+}
+
+/// Runs of sheets in, and out what the engine's `follow` prints on each, as one number. Before the
+/// files of a run stands how many they are, behind each of them 0, or the error's number and 1.
+const FOLLOWS: &str = "use std::io::{Read, Write};
+fn word(rest: &mut &[u8]) -> u64 {
+    let (front, back) = rest.split_at(8);
+    *rest = back;
+    u64::from_le_bytes(front.try_into().expect(\"eight bytes\"))
+}
+fn bytes<'a>(rest: &mut &'a [u8]) -> &'a [u8] {
+    let size = word(rest) as usize;
+    let (front, back) = rest.split_at(size);
+    *rest = back;
+    front
+}
+fn mixed(bytes: &[u8]) -> u64 {
+    let mixed = |sum: u64, byte: &u8| (sum ^ u64::from(*byte)).wrapping_mul(0x100000001b3);
+    bytes.iter().fold(0xcbf29ce484222325, mixed)
+}
+fn main() {
+    let mut input = Vec::new();
+    std::io::stdin().lock().read_to_end(&mut input).expect(\"input\");
+    let mut output = Vec::new();
+    let mut rest = &input[..];
+    while !rest.is_empty() {
+        let mut files = Vec::new();
+        for _ in 0..word(&mut rest) {
+            let (name, text) = (bytes(&mut rest), bytes(&mut rest));
+            let failed = word(&mut rest).checked_sub(1).map(|error| error as i32);
+            files.push(engine::File { name, bytes: text, failed });
+        }
+        output.extend(format!(\"{}\\n\", mixed(&engine::follow(&files))).bytes());
+    }
+    std::io::stdout().lock().write_all(&output).expect(\"output\");
+}
+";
+
+/// How many runs of one seed there are before the fixed ones.
+const RUNS: usize = 150;
+
+/// Runs of sheets as the comparer makes them, in one input.
+fn all_runs() -> (Vec<u8>, Vec<u8>) {
+    let (mut input, mut output) = (Vec::new(), Vec::new());
+    for run in Runs::new(1).take(RUNS).chain(nooks::fixed()) {
+        put(&mut input, run.sheets.len() as u64);
+        let given = run.given();
+        for (name, text, failed) in &given {
+            put_bytes(&mut input, name);
+            put_bytes(&mut input, text);
+            put(&mut input, failed.map_or(0, |error| error as u64 + 1));
+        }
+        let printed = (following::ENGINE.print)(&given);
+        output.extend(format!("{}\n", mixed(&printed)).bytes());
     }
     (input, output)
 }

@@ -23,9 +23,11 @@ pub enum Verdict {
 /// The sources that no console line comes to: the tables as a caller could hand them in.
 pub const OFF_THE_CONSOLE: [&str; 2] = ["raw.rs", "sound.rs"];
 
-/// The sources that no console line comes to, but every page that is read, or every pair of texts.
+/// The sources that no console line comes to, but every page that is read, every pair of texts, or
+/// every run of sheets.
 pub const ON_PAGES: [&str; 1] = ["read.rs"];
 pub const ON_TEXTS: [&str; 1] = ["desk.rs"];
+pub const ON_SHEETS: [&str; 1] = ["follow.rs"];
 
 /// How long one run may take; the right engine takes a second.
 const LIMIT: Duration = Duration::from_secs(15);
@@ -54,7 +56,7 @@ const ENGINE: &str = "--extern=engine=libengine.rlib";
 /// A folder in which engines are built.
 pub struct Shop {
     folder: PathBuf,
-    programs: [Program; 3],
+    programs: [Program; 4],
 }
 
 impl Shop {
@@ -193,10 +195,11 @@ impl Shop {
         if OFF_THE_CONSOLE.contains(&file) {
             return Ok(false);
         }
-        let [console, on_pages, on_texts] = &self.programs;
+        let [console, on_pages, on_texts, on_sheets] = &self.programs;
         let program = match file {
             _ if ON_PAGES.contains(&file) => on_pages,
             _ if ON_TEXTS.contains(&file) => on_texts,
+            _ if ON_SHEETS.contains(&file) => on_sheets,
             _ => console,
         };
         let other = Other::Program { command: self.command(program.name, number), limit: LIMIT };
