@@ -77,6 +77,7 @@ pub record Taken (A : Type 0) : Type 0 where
   pub bytes : List ℕ
 
 module _ (K : Taker) where
+  -- what is kept after some lines; and what is shown for them
   unfoldable pub keptAfter : K .Kept → List (List ℕ) → K .Kept
   keptAfter k [] = k
   keptAfter k (l ∷ ls) = keptAfter (K .next k l) ls
@@ -102,6 +103,7 @@ module _ (K : Taker) where
 abbrev pub onSheet : Taker
 onSheet = record { Kept = Tables; next = λ t l. keyed t l lent .tables; shows = bytesFor }
 
+-- the tables after some lines; what these print is `printed`
 abbrev pub tablesAfter : Tables → List (List ℕ) → Tables
 tablesAfter t ls = keptAfter onSheet t ls
 

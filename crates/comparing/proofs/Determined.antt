@@ -1,5 +1,5 @@
--- The contracts of `show_verdict` determine what is handed back and what the lent buffer is after it: two outcomes that satisfy
--- one are equal.
+-- The contract of `show_verdict` determines what is handed back and what the lent buffer is after it: two outcomes that satisfy it are
+-- equal.
 -- Assumes nothing.
 use mathlib.Core.Path.{_≡_}
 use mathlib.Core.List.{List}

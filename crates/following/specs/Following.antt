@@ -3,11 +3,10 @@
 use Prim.Native.Nat.{ℕ}
 use mathlib.Core.Path.{_≡_}
 use mathlib.Core.Bool.{cond}
-use mathlib.Core.List.{List, [], _∷_}
+use mathlib.Core.List.{List}
 use lib.ListN.{getD}
 use lib.Dec.{eqb}
 use Rattle.lists.specs.Lists.{alike}
-use Rattle.text.specs.Lines.{linesOf}
 use Rattle.tables.specs.declared.Tables.{Tables}
 use Rattle.tables.specs.Tables.{plain}
 use Rattle.tables.specs.Calls.{Result}
@@ -55,11 +54,7 @@ briefly (noNext n) = tell.NoNext n
 briefly follows = tell.Follows
 briefly (doesNot ds) = tell.DoesNotFollow
 
--- step after step: each goes on from the page that was given
+-- a step: a file of requests, and the next page
 pub record Step : Type 0 where
   pub requests : List ℕ
   pub next : List ℕ
-
-unfoldable pub verdicts : List ℕ → List Step → List Verdict
-verdicts first [] = []
-verdicts first (s ∷ ss) = verdict first (linesOf (s .requests)) (s .next) ∷ verdicts (s .next) ss
