@@ -48,11 +48,11 @@ unfoldable pub whyOf : ℕ → ℕ → Why
 whyOf kind n =
     cond (eqb kind 0) Nothing (cond (eqb kind 1) (Tracks n) (cond (eqb kind 2) (Son (n % 256)) (cond (eqb kind 3) (Lock (n % 256)) Number)))
 
--- a record in 28 bytes: used, name, priority, state, why, due, interval
+-- a record in 29 bytes: used, name, priority, state, why, due, interval, mark
 unfoldable pub packProgram : Program → List ℕ
 packProgram r =
     (hit (r .used) ∷ r .name) ++ inBytes 2 (r .priority) ++ (r .state ∷ kindOf (r .why) ∷ [])
-    ++ inBytes 2 (countOf (r .why)) ++ inBytes 8 (r .due) ++ inBytes 8 (r .interval)
+    ++ inBytes 2 (countOf (r .why)) ++ inBytes 8 (r .due) ++ inBytes 8 (r .interval) ++ (hit (r .suspend) ∷ [])
 
 unfoldable pub programAt : List ℕ → ℕ → Program
 programAt s o = record {
@@ -63,6 +63,7 @@ programAt s o = record {
   why = whyOf (getD s (o + 9) 0) (figureAt 2 s (o + 10));
   due = figureAt 8 s (o + 12);
   interval = figureAt 8 s (o + 20);
+  suspend = ltb 0 (getD s (o + 28) 0);
 }
 
 -- a resource number in 2 bytes: owner, lock
@@ -86,7 +87,7 @@ abbrev pub programsPlace : ℕ
 programsPlace = 341
 
 abbrev pub packedLength : ℕ
-packedLength = 1237
+packedLength = 1269
 
 -- clock, tracks, system's tracks, numbers; holders; resources; links; records
 unfoldable pub packed : Tables → List ℕ
@@ -100,7 +101,7 @@ unfoldable pub unpacked : List ℕ → Tables
 unfolding programAt
 unpacked s = record {
   ledger = record {
-    programs = map (λ i. programAt s (programsPlace + 28 * i)) (from 0 mostPrograms);
+    programs = map (λ i. programAt s (programsPlace + 29 * i)) (from 0 mostPrograms);
     clock = record { ticks = figureAt 8 s 0 };
     tracks = tableAt (figureAt 2 s 8) (figureAt 2 s 10) (take mostTracks (drop holdersPlace s));
     numbers = record { count = getD s 12 0; resources = map (λ i. resourceAt s (resourcesPlace + 2 * i)) (from 0 mostNumbers) };

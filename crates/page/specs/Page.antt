@@ -73,6 +73,9 @@ dueKey = "due"
 abbrev pub intervalKey : String
 intervalKey = "interval"
 
+abbrev pub suspendKey : String
+suspendKey = "suspend"
+
 abbrev pub chainKey : String
 chainKey = "chain"
 
@@ -99,12 +102,15 @@ chained = scheduled ∷ general ∷ disc ∷ suspended ∷ []
 abbrev pub keyOfChain : ℕ → List ℕ
 keyOfChain s = text chainKey ++ decimal s
 
--- THE WORDS that values have: the first line's, the last line's, for none, for global, and before the number of each reason
+-- THE WORDS that values have: the first line's, the last line's, a mark's, for none, for global, and before the number of each reason
 abbrev pub firstWord : String
 firstWord = "rte2"
 
 abbrev pub lastWord : String
 lastWord = "page"
+
+abbrev pub markWord : String
+markWord = "1"
 
 abbrev pub dash : String
 dash = "-"
@@ -157,12 +163,17 @@ headLines clock T S R n = paired headKeys (text firstWord ∷ decimal clock ∷ 
 unfoldable pub usedIn : List Program → List ℕ
 usedIn ps = keep (λ p. recordAt ps p .used) all
 
+-- `suspend=1` where the mark stands, otherwise no line
+abbrev pub markLine : Bool → List Line
+markLine there = cond there (line suspendKey (text markWord) ∷ []) []
+
 abbrev pub recorded : ℕ → Program → List Line
 recorded p r =
     let timer : Bool = ltb 0 (r .due) in
     paired recordKeys
     (decimal p ∷ bare (r .name) ∷ decimal (r .priority) ∷ decimal (r .state) ∷ reason (r .why) ∷ orDash timer (r .due)
     ∷ orDash timer (r .interval) ∷ [])
+    ++ markLine (r .suspend)
 
 unfoldable pub recordLines : List Program → List Line
 recordLines ps = join (map (λ p. recorded p (recordAt ps p)) (usedIn ps))

@@ -60,6 +60,7 @@ narrowRecord r = record {
   why = narrowWhy (r .why);
   due = r .due;
   interval = r .interval;
+  suspend = r .suspend;
 }
 
 abbrev pub narrowResource : records.Resource → records.Resource

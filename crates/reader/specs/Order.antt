@@ -9,7 +9,7 @@ use mathlib.Core.Option.{Option, none, some}
 use Rattle.lists.specs.Lists.{alike}
 use Rattle.text.specs.Text.{text, behind}
 use Rattle.records.specs.Names.{nameOf}
-use Rattle.page.specs.Page.{headKeys, recordKeys, heldKey, numberKey, endKey, chained, keyOfChain, firstWord, lastWord}
+use Rattle.page.specs.Page.{headKeys, recordKeys, suspendKey, heldKey, numberKey, endKey, chained, keyOfChain, firstWord, lastWord, markWord}
 use Rattle.reader.specs.Shapes.{there, otherwise, figure, figureOrDash, reasonOf, listed, runIn, numbered}
 
 -- a kind of line: its key, and whether a value has its shape
@@ -40,6 +40,9 @@ recordForms =
     formed recordKeys
     (isFigure ∷ (λ v. there (nameOf v)) ∷ isFigure ∷ isFigure ∷ (λ v. there (reasonOf v)) ∷ isFigureOrDash ∷ isFigureOrDash ∷ [])
 
+abbrev pub markForm : Form
+markForm = form suspendKey (λ v. alike v (text markWord))
+
 abbrev pub chainForms : List Form
 chainForms = map (λ s. record { key = keyOfChain s; shape = λ v. there (listed v) }) chained
 
@@ -56,6 +59,7 @@ endForm = form endKey (λ v. alike v (text lastWord))
 pub data Place : Type 0 where
   heading : List Form → Place  -- lines of the head come
   recording : List Form → ℕ → Place  -- lines of a record, and then so many records
+  marking : ℕ → Place  -- the mark of the record just read, or what may stand behind it: so many records
   chaining : List Form → Place  -- chains
   holding : Place  -- tracks that are held, as many as there are; or what may stand behind them
   numbering : Place  -- numbers, as many as there are; or the last line
@@ -66,13 +70,13 @@ abbrev pub chainsAhead : List Form → Place
 chainsAhead [] = holding
 chainsAhead (f ∷ fs) = chaining (f ∷ fs)
 
--- n records come, and then the chains; these lines of a record, and then n records
+-- n records come, and then the chains; these lines of a record, its mark if it has one, and then n records
 abbrev pub recordsAhead : ℕ → Place
 recordsAhead zero = chainsAhead chainForms
 recordsAhead (suc n) = recording recordForms n
 
 abbrev pub recordAhead : List Form → ℕ → Place
-recordAhead [] n = recordsAhead n
+recordAhead [] n = marking n
 recordAhead (f ∷ fs) n = recording (f ∷ fs) n
 
 -- a kind of line that may come, and where the reader stands behind it, by its value
@@ -83,15 +87,23 @@ pub record Choice : Type 0 where
 abbrev pub choice : Form → Place → Choice
 choice f p = record { kind = f; then = λ v. p }
 
+-- the first of these kinds, and then the others; what may come where n records do: the first line of one, or of the chains
+abbrev pub inTurn : List Form → (List Form → Place) → List Choice
+inTurn [] next = []
+inTurn (f ∷ fs) next = choice f (next fs) ∷ []
+
+abbrev pub ofRecords : ℕ → List Choice
+ofRecords zero = inTurn chainForms chainsAhead
+ofRecords (suc n) = inTurn recordForms (λ fs. recordAhead fs n)
+
 -- the kinds that may come: the records as many as the head's last line says
 abbrev pub mayCome : Place → List Choice
 mayCome (heading []) = []
 mayCome (heading (f ∷ [])) = record { kind = f; then = λ v. recordsAhead (otherwise 0 (figure v)) } ∷ []
 mayCome (heading (f ∷ g ∷ fs)) = choice f (heading (g ∷ fs)) ∷ []
-mayCome (recording [] n) = []
-mayCome (recording (f ∷ fs) n) = choice f (recordAhead fs n) ∷ []
-mayCome (chaining []) = []
-mayCome (chaining (f ∷ fs)) = choice f (chainsAhead fs) ∷ []
+mayCome (recording fs n) = inTurn fs (λ gs. recordAhead gs n)
+mayCome (marking n) = choice markForm (recordsAhead n) ∷ ofRecords n
+mayCome (chaining fs) = inTurn fs chainsAhead
 mayCome holding = choice heldForm holding ∷ choice numberForm numbering ∷ choice endForm ended ∷ []
 mayCome numbering = choice numberForm numbering ∷ choice endForm ended ∷ []
 mayCome ended = []
@@ -124,6 +136,7 @@ behindAll ended n [] = 0
 behindAll ended n (c ∷ cs) = n
 behindAll (heading fs) n l = n
 behindAll (recording fs k) n l = n
+behindAll (marking k) n l = n
 behindAll (chaining fs) n l = n
 behindAll holding n l = n
 behindAll numbering n l = n

@@ -3,12 +3,12 @@
 -- Assumes nothing.
 use Prim.Native.Nat.{ℕ, zero, suc, _-_}
 use Prim.Native.String.{String}
-use mathlib.Core.Bool.{true, cond, _&&_}
+use mathlib.Core.Bool.{Bool, true, false, cond, _&&_}
 use mathlib.Core.List.{List, [], _∷_}
 use mathlib.Core.Option.{none, some}
 use lib.ListN.{length, set, take, drop}
 use lib.Dec.{leb, ltb}
-use Rattle.lists.specs.Lists.{upTo}
+use Rattle.lists.specs.Lists.{hit, upTo, alike}
 use Rattle.text.specs.Text.{text}
 use Rattle.records.specs.declared.Program.{Program}
 use Rattle.records.specs.declared.Why.the-variants.{Nothing}
@@ -21,7 +21,7 @@ use Rattle.rules.specs.Book.{Book, put, withClock, withHolders, withResources, 
 use Rattle.rules.specs.Rules.{sizes}
 use Rattle.rules.specs.Keeper.{lists, State}
 use Rattle.page.specs.Page.{clockKey, tracksKey, systemKey, numbersKey, programsKey, idKey, nameKey, priorityKey, stateKey, whyKey, dueKey}
-use Rattle.page.specs.Page.{intervalKey, headKeys, recordKeys, heldKey, numberKey, chained, keyOfChain}
+use Rattle.page.specs.Page.{intervalKey, suspendKey, markWord, headKeys, recordKeys, heldKey, numberKey, chained, keyOfChain}
 use Rattle.reader.specs.Shapes.{otherwise, figure, figureOrDash, reasonOf, listed, runIn, Numbered, numbered}
 use Rattle.reader.specs.Order.{valueBehind}
 
@@ -49,9 +49,14 @@ started clock T S R =
 abbrev pub headIn : List (List ℕ) → State lists
 headIn ls = started (figureOf clockKey ls) (figureOf tracksKey ls) (figureOf systemKey ls) (figureOf numbersKey ls)
 
--- a record, by its lines
-abbrev pub recordIn : List (List ℕ) → Program
-recordIn ls = record {
+-- whether the first of some lines is a mark
+abbrev pub markedBy : List (List ℕ) → Bool
+markedBy [] = false
+markedBy (l ∷ ls) = elim (valueBehind (text suspendKey) l) [ some v ↦ alike v (text markWord) | none ↦ false ]
+
+-- a record, by its lines, and whether a mark stands behind them
+abbrev pub recordIn : List (List ℕ) → Bool → Program
+recordIn ls there = record {
   used = true;
   name = otherwise [] (nameOf (valueOf nameKey ls));
   priority = figureOf priorityKey ls;
@@ -59,6 +64,7 @@ recordIn ls = record {
   why = otherwise Nothing (reasonOf (valueOf whyKey ls));
   due = otherwise 0 (figureOrDash (valueOf dueKey ls));
   interval = otherwise 0 (figureOrDash (valueOf intervalKey ls));
+  suspend = there;
 }
 
 abbrev pub withRecord : ℕ → Program → State lists → State lists
@@ -109,7 +115,8 @@ unfolding chainsSaid
 recordsSaid zero a ls = chainsSaid chained a ls
 recordsSaid (suc n) a ls =
     let own : List (List ℕ) = take (length recordKeys) ls in
-    recordsSaid n (withRecord (figureOf idKey own) (recordIn own) a) (drop (length recordKeys) ls)
+    let rest : List (List ℕ) = drop (length recordKeys) ls in
+    recordsSaid n (withRecord (figureOf idKey own) (recordIn own (markedBy rest)) a) (drop (hit (markedBy rest)) rest)
 
 -- all of them
 unfoldable pub said : List (List ℕ) → State lists

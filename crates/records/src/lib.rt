@@ -9,12 +9,17 @@ ghost use lib.Seq.{slice};
 ghost use Rattle.limits.specs.Limits.{mostNumbers};
 ghost use Rattle.lists.specs.Lists.{alike, any, every, first, from};
 ghost use Rattle.records.specs.Names.{letter, digit, blank, legal, nameOf};
-ghost use Rattle.records.specs.Records.{unused, newcomer, inState, withPriority, withTimer, find, lowestUnused};
+ghost use Rattle.records.specs.Records.{unused, newcomer, inState, withPriority, withTimer, withMark, inWait, waitOver};
+ghost use Rattle.records.specs.Records.{find, lowestUnused};
 ghost use Rattle.records.specs.Numbers.{free, resources, tableOf, numberAt, withNumber, concerns, without};
 ghost use Rattle.records.specs.Inner.{named, Fit, Within};
+use limits::DISC;
 use limits::DORMANT;
+use limits::GENERAL;
 use limits::MOST_NUMBERS;
 use limits::MOST_PROGRAMS;
+use limits::SCHEDULED;
+use limits::SUSPENDED;
 
 // Why a program waits: for tracks, how many; for its son, or for a lock, which; or for any number.
 pub enum Why {
@@ -25,7 +30,8 @@ pub enum Why {
     Number,
 }
 
-// A record. It has a timer exactly where due is not 0.
+// A record. It has a timer exactly where due is not 0. The mark `suspend` sends a program that waits to the suspended ones once its wait is
+// over.
 pub struct Program {
     pub used: bool,
     pub name: [u8; 5],
@@ -34,6 +40,7 @@ pub struct Program {
     pub why: Why,
     pub due: u64,
     pub interval: u64,
+    pub suspend: bool,
 }
 
 // A resource number: its owner is 0 where it is free, a program, or GLOBAL; its lock is 0 where it is clear, or a program.
@@ -179,6 +186,7 @@ pub fn unused_record() -> Program
         why: Why::Nothing,
         due: 0,
         interval: 0,
+        suspend: false,
     }
 }
 
@@ -194,6 +202,7 @@ pub fn newcomer(name: [u8; 5], priority: u16) -> Program
         why: Why::Nothing,
         due: 0,
         interval: 0,
+        suspend: false,
     }
 }
 
@@ -220,6 +229,7 @@ impl Program {
             why,
             due: self.due,
             interval: self.interval,
+            suspend: false,
         }
     }
 
@@ -237,6 +247,33 @@ impl Program {
         self.interval = interval;
         self
     }
+
+    pub fn with_mark(mut self) -> Program
+        ensures { λ r. ⌜ r ≡ withMark self ⌝ }
+    {
+        self.suspend = true;
+        self
+    }
+
+    // Its wait is over: scheduled, or suspended where its mark stood.
+    pub fn wait_over(self) -> Program
+        ensures { λ r. ⌜ r ≡ waitOver self ⌝ }
+    {
+        if self.suspend {
+            return self.in_state(SUSPENDED, Why::Nothing);
+        }
+        self.in_state(SCHEDULED, Why::Nothing)
+    }
+}
+
+// Whether a program in that state waits.
+pub fn in_wait(state: u8) -> bool
+    ensures { λ r. ⌜ r ≡ inWait state ⌝ }
+{
+    if state == GENERAL {
+        return true;
+    }
+    state == DISC
 }
 
 impl Resource {

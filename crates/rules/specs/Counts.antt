@@ -6,9 +6,9 @@ use mathlib.Core.Bool.{_&&_, _||_}
 use mathlib.Core.List.{List, [], _∷_}
 use lib.ListN.{length}
 use lib.Dec.{eqb}
-use Rattle.limits.specs.Limits.{dormant, scheduled, general, disc}
+use Rattle.limits.specs.Limits.{dormant, scheduled, suspended}
 use Rattle.lists.specs.Lists.{count, keep}
-use Rattle.records.specs.Records.{all}
+use Rattle.records.specs.Records.{all, inWait}
 use Rattle.tracks.specs.Tracks.{nobody}
 use Rattle.rules.specs.Book.{Book, stateOf}
 
@@ -16,10 +16,10 @@ use Rattle.rules.specs.Book.{Book, stateOf}
 unfoldable pub freeTracks : Book → ℕ
 freeTracks b = count nobody (b .holders)
 
--- programs that waited before, in state 3 or 5, and are scheduled after
+-- programs that waited before, in state 3 or 5, and are scheduled after, or suspended
 unfoldable pub awoken : Book → Book → ℕ
 unfolding all
-awoken b c = length (keep (λ p. (eqb (stateOf b p) general || eqb (stateOf b p) disc) && eqb (stateOf c p) scheduled) all)
+awoken b c = length (keep (λ p. inWait (stateOf b p) && (eqb (stateOf c p) scheduled || eqb (stateOf c p) suspended)) all)
 
 -- programs that were dormant before, and are scheduled after
 unfoldable pub roused : Book → Book → ℕ

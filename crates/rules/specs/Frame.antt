@@ -10,8 +10,7 @@ use mathlib.Core.List.{List, []}
 use Rattle.limits.specs.Limits.{scheduled, general, disc}
 use Rattle.lists.specs.Lists.{count}
 use Rattle.records.specs.declared.Program.{Program}
-use Rattle.records.specs.declared.Why.the-variants.{Nothing}
-use Rattle.records.specs.Records.{Known, find, lowestUnused, inState}
+use Rattle.records.specs.Records.{Known, find, lowestUnused, waitOver}
 use Rattle.rules.specs.Book.{whyOf}
 use Rattle.rules.specs.Requests.{Order, Call, EXEC9, EXEC10, EXEC12, Request, FRESH, LOAD, operator, TICK, running}
 use Rattle.rules.specs.Plans.{Release, View, awaits, eventsOf, releaseOf}
@@ -39,7 +38,7 @@ pub data Concerned (v : View) (q : Request) (x : ℕ) : Type 0 where
   anew : eventsOf v (plan v q) ≢ [] → (T S R : ℕ) → q ≡ FRESH T S R → Concerned v q x
   woken : Woken v (releaseOf (plan v q)) x → Concerned v q x
 
--- a record that stays, or whose program is scheduled
+-- a record that stays, or whose program's wait is over
 pub data Stirred (r s : Program) : Type 0 where
   stays : s ≡ r → Stirred r s
-  wakes : s ≡ inState scheduled Nothing r → Stirred r s
+  wakes : s ≡ waitOver r → Stirred r s

@@ -8,12 +8,11 @@ use lib.Dec.{leb, eqb}
 use Rattle.limits.specs.Limits.{dormant, scheduled, suspended, states}
 use Rattle.lists.specs.Lists.{keep, insertBy, insert, remove, upTo}
 use Rattle.records.specs.declared.Program.{Program}
-use Rattle.records.specs.declared.Why.{Why}
 use Rattle.records.specs.declared.Why.the-variants.{Nothing}
-use Rattle.records.specs.Records.{known, all, unused, newcomer, inState, withPriority, withTimer}
-use Rattle.rules.specs.Book.{Book, at, stateOf, prioOf, whyOf, put, withClock, withHolders, withResources, freshBook}
+use Rattle.records.specs.Records.{known, all, unused, newcomer, inState, waitOver, withPriority, withTimer, withMark}
+use Rattle.rules.specs.Book.{Book, at, stateOf, prioOf, put, withClock, withHolders, withResources, freshBook}
 use Rattle.rules.specs.Requests.{Request}
-use Rattle.rules.specs.Plans.{Deed, becomes, wakes, priced, loaded, unloaded, timed, Event, on, clocked, held, numbered, renewed}
+use Rattle.rules.specs.Plans.{Deed, becomes, wakes, priced, loaded, unloaded, timed, marked, Event, on, clocked, held, numbered, renewed}
 use Rattle.rules.specs.Plans.{Plan, View, eventsOf}
 use Rattle.rules.specs.Rules.{plan}
 
@@ -74,25 +73,24 @@ module _ (K : Keeper) where
     kept = cond (eqb (stateOf (t .book) p) dormant) (t .kept) (K .left p (stateOf (t .book) p) (t .kept));
   }
 
-  -- p, which stands in no chain, takes state s for reason w, and enters its chain
-  abbrev pub enter : ℕ → ℕ → Why → State → State
-  enter p s w t =
-      let b : Book = put p (inState s w (at (t .book) p)) (t .book) in
-      record { book = b; kept = cond (eqb s dormant) (t .kept) (K .entered b p s (t .kept)) }
+  -- p, which stands in no chain, has record r from now on, and enters the chain of its state
+  abbrev pub enter : ℕ → Program → State → State
+  enter p r t =
+      let b : Book = put p r (t .book) in
+      record { book = b; kept = cond (eqb (r .state) dormant) (t .kept) (K .entered b p (r .state) (t .kept)) }
 
   -- p's record is replaced
   abbrev pub amend : ℕ → Program → State → State
   amend p r t = record { book = put p r (t .book); kept = t .kept }
 
   unfoldable pub act : ℕ → Deed → State → State
-  act p (becomes s w) t = enter p s w (leave p t)
-  act p wakes t = enter p scheduled Nothing (leave p t)
-  act p (priced n) t =
-      let u = leave p t in
-      enter p (stateOf (t .book) p) (whyOf (t .book) p) (amend p (withPriority n (at (u .book) p)) u)
+  act p (becomes s w) t = enter p (inState s w (at (t .book) p)) (leave p t)
+  act p wakes t = enter p (waitOver (at (t .book) p)) (leave p t)
+  act p (priced n) t = enter p (withPriority n (at (t .book) p)) (leave p t)
   act p (loaded nm n) t = amend p (newcomer nm n) (leave p t)
   act p unloaded t = amend p unused (leave p t)
   act p (timed d i) t = amend p (withTimer d i (at (t .book) p)) t
+  act p marked t = amend p (withMark (at (t .book) p)) t
 
   abbrev pub fresh : ℕ → ℕ → ℕ → State
   fresh T S R = record { book = freshBook T S R; kept = K .none }

@@ -14,8 +14,8 @@ use Rattle.records.specs.declared.Why.the-variants.{Nothing, Tracks, Son, Lock,
 use Rattle.rules.specs.Book.{Book, whyOf}
 
 -- What may happen to a program's record: it takes a state for a reason, leaving its chain and entering
--- the new one; its wait is over and it is scheduled; it is priced anew, leaving its chain and entering
--- it again; it is loaded; it is made unused; its timer is set, or goes where the due is 0.
+-- the new one; its wait is over, and it goes where its mark says; it is priced anew, leaving its chain and
+-- entering it again; it is loaded; it is made unused; its timer is set, or goes where the due is 0; its mark is set.
 pub data Deed : Type 0 where
   becomes : ℕ → Why → Deed
   wakes : Deed
@@ -23,6 +23,7 @@ pub data Deed : Type 0 where
   loaded : List ℕ → ℕ → Deed
   unloaded : Deed
   timed : ℕ → ℕ → Deed
+  marked : Deed
 
 -- what may happen: a deed of a program, another clock, other holders of tracks, other resource numbers, fresh tables of T, S and R
 pub data Event : Type 0 where
@@ -95,7 +96,7 @@ fromGeneral v R = keep (λ q. awaits R (whyOf (v .book) q)) (remove (R .ended) (
 unfoldable pub woken : View → Release → List ℕ
 woken v R = fromDisc v R ++ fromGeneral v R
 
--- the woken enter the scheduled chain one by one
+-- the woken leave their chains one by one, each for the scheduled chain or, where its mark stands, for that of the suspended
 abbrev pub wake : List ℕ → List Event
 wake qs = map (λ q. on q wakes) qs
 

@@ -14,13 +14,13 @@ use Rattle.records.specs.declared.Resource.{Resource}
 use Rattle.records.specs.declared.Why.{Why}
 use Rattle.records.specs.declared.Why.the-variants.{Nothing, Tracks, Son, Lock, Number}
 use Rattle.records.specs.Names.{legal}
-use Rattle.records.specs.Records.{all, find, lowestUnused}
+use Rattle.records.specs.Records.{all, inWait, find, lowestUnused}
 use Rattle.records.specs.Numbers.{globally, numberAt, withNumber, concerns, without}
 use Rattle.tracks.specs.Tracks.{nobody, everybody, run, lowest, filled, replaced}
 use Rattle.rules.specs.Book.{Book, at, stateOf, prioOf}
 use Rattle.rules.specs.Requests.{Order, RU, SS, GO, PR, OF, Call, EXEC4, EXEC15, EXEC5, EXEC16, EXEC5ALL, EXEC6, EXEC7, EXEC11}
 use Rattle.rules.specs.Requests.{EXEC9, EXEC10, EXEC12, ALLOC, LOCK, CLEAR, FREE, Request, FRESH, LOAD, operator, TICK, running}
-use Rattle.rules.specs.Plans.{becomes, priced, loaded, unloaded, timed, Event, on, clocked, held, numbered, renewed, Release, Plan}
+use Rattle.rules.specs.Plans.{becomes, priced, loaded, unloaded, timed, marked, Event, on, clocked, held, numbered, renewed, Release, Plan}
 use Rattle.rules.specs.Plans.{refused, done, releasing, waiting, View, woken, need, either, found}
 
 -- the program of that name: 3 where the name is not legal, 4 where there is none
@@ -72,7 +72,10 @@ allowed (OF k) = eqb k 1 || eqb k 8
 -- what the operator asks of program p
 unfoldable pub order : View → Order → ℕ → Plan
 order v RU p = inside v p dormant (done (0 ∷ []) (on p (becomes scheduled Nothing) ∷ []))
-order v SS p = inside v p scheduled (done (0 ∷ []) (on p (becomes suspended Nothing) ∷ []))
+order v SS p =
+    either (inWait (stateOf (v .book) p))
+    (either (at (v .book) p .suspend) (done (0 ∷ []) []) (done (0 ∷ []) (on p marked ∷ [])))
+    (inside v p scheduled (done (0 ∷ []) (on p (becomes suspended Nothing) ∷ [])))
 order v GO p = inside v p suspended (done (0 ∷ []) (on p (becomes scheduled Nothing) ∷ []))
 order v (PR n) p = done (prioOf (v .book) p ∷ []) (on p (priced n) ∷ [])
 order v (OF k) p =

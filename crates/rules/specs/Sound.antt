@@ -14,7 +14,7 @@ use Rattle.clock.specs.Clock.{ceiling, farthest}
 use Rattle.records.specs.declared.Why.{Why}
 use Rattle.records.specs.declared.Why.the-variants.{Nothing, Tracks, Son, Lock, Number}
 use Rattle.records.specs.Names.{legal}
-use Rattle.records.specs.Records.{Known, known, unused}
+use Rattle.records.specs.Records.{Known, known, unused, inWait}
 use Rattle.records.specs.Numbers.{globally, numberAt}
 use Rattle.tracks.specs.Tracks.{system}
 use Rattle.rules.specs.Book.{Book, at, stateOf, prioOf, whyOf, holderOf}
@@ -29,7 +29,7 @@ pub record Names (b : Book) : Type 0 where
   pub lawful : (p : ℕ) → Known p → at b p .used ≡ true → legal (at b p .name) ≡ true
   pub distinct : (p q : ℕ) → Known p → Known q → at b p .used ≡ true → at b q .used ≡ true → at b p .name ≡ at b q .name → p ≡ q
 
--- unused records hold zeros, as do due and interval without a timer
+-- unused records hold zeros and no mark, and due and interval are zeros without a timer
 pub record Zeros (b : Book) : Type 0 where
   pub empty : (p : ℕ) → Known p → at b p .used ≡ false → at b p ≡ unused
   pub timeless : (p : ℕ) → Known p → at b p .due ≡ 0 → at b p .interval ≡ 0
@@ -53,6 +53,10 @@ suits b p s Number = eqb s general
 pub record Whys (b : Book) : Type 0 where
   pub fitting : (p : ℕ) → Known p → suits b p (stateOf b p) (whyOf b p) ≡ true
   pub once : (p q k : ℕ) → Known p → Known q → whyOf b p ≡ Son k → whyOf b q ≡ Son k → p ≡ q
+
+-- the mark stands only in states 3 and 5
+pub record Marks (b : Book) : Type 0 where
+  pub waiters : (p : ℕ) → Known p → at b p .suspend ≡ true → inWait (stateOf b p) ≡ true
 
 -- the system holds just the tracks below S
 pub record System (b : Book) : Type 0 where
@@ -102,6 +106,7 @@ pub record Sound (a : State lists) : Type 0 where
   pub zeros : Zeros (a .book)
   pub chains : Chains (a .book) (a .kept)
   pub whys : Whys (a .book)
+  pub marks : Marks (a .book)
   pub system : System (a .book)
   pub users : Users (a .book)
   pub unlocked : Unlocked (a .book)

@@ -13,7 +13,7 @@ use Rattle.records.specs.declared.Resource.{Resource}
 use Rattle.records.specs.declared.Why.{Why}
 use Rattle.records.specs.declared.Why.the-variants.{Nothing, Tracks, Son, Lock, Number}
 use Rattle.records.specs.Names.{legal}
-use Rattle.records.specs.Records.{known, missing, unused}
+use Rattle.records.specs.Records.{known, missing, unused, inWait}
 use Rattle.records.specs.Numbers.{globally, free}
 use Rattle.tracks.specs.Tracks.{nobody, system}
 use Rattle.rules.specs.Book.{Book, at, prioOf}
@@ -44,10 +44,11 @@ sonOf (Son k) = k
 sonOf (Lock r) = 0
 sonOf Number = 0
 
--- the record holds zeros
+-- the record holds zeros and no mark
 abbrev pub zeros : Program → Bool
 zeros r =
     alike (r .name) (unused .name) && eqb (r .priority) 0 && eqb (r .state) 0 && nothing (r .why) && eqb (r .due) 0 && eqb (r .interval) 0
+    && not (r .suspend)
 
 unfoldable pub testNames : Book → Bool
 testNames b =
@@ -71,6 +72,9 @@ unfoldable pub testWhys : Book → Bool
 testWhys b =
     programs b λ p r. suits b p (r .state) (r .why)
     && (eqb (sonOf (r .why)) 0 || programs b λ q s. eqb p q || not (eqb (sonOf (r .why)) (sonOf (s .why))))
+
+unfoldable pub testMarks : Book → Bool
+testMarks b = programs b λ p r. not (r .suspend) || inWait (r .state)
 
 unfoldable pub testSystem : Book → Bool
 testSystem b = tracks b λ i h. Bool·beq (ltb i (b .system)) (eqb h system)

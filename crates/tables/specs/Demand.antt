@@ -9,9 +9,9 @@ use lib.Dec.{eqb}
 use Rattle.limits.specs.Limits as limits
 use Rattle.records.specs.declared.Program.{Program}
 use Rattle.records.specs.declared.Why.the-variants.{Nothing, Son}
-use Rattle.records.specs.Records.{Known, find, inState, withTimer}
+use Rattle.records.specs.Records.{Known, find, inState, waitOver, withTimer}
 use Rattle.tracks.specs.Tracks.{LowestRun}
-use Rattle.rules.specs.Book.{at, stateOf, whyOf}
+use Rattle.rules.specs.Book.{at, whyOf}
 use Rattle.rules.specs.Requests.{OF, EXEC5, EXEC16, EXEC5ALL, EXEC6, CLEAR, FREE, operator, TICK, running}
 use Rattle.rules.specs.Claims.{NoRun, Gained}
 use Rattle.rules.specs.Counts.{Freed, awoken, roused}
@@ -50,12 +50,11 @@ pub record Counted (t : Tables) : Type 0 where
   pub freeing : (r : ℕ) → asked t (running (FREE r)) .number ≡ 0 → ValueAwoken t (asked t (running (FREE r)))
   pub tick : asked t TICK .number ≡ 0 → ValueRoused t (asked t TICK)
 
--- A program removed while another waits for it: the program of that name is removed by OF 8, and f waited for it as its son. f is scheduled
--- and waits for nothing, the name is free, and no why names the record.
+-- A program removed while another waits for it: the program of that name is removed by OF 8, and f waited for it as its son. f's wait is
+-- over, the name is free, and no why names the record.
 pub record Removed (t : Tables) (nm : List ℕ) (f : ℕ) : Type 0 where
   pub done : asked t (operator (OF 8) nm) .number ≡ 0
-  pub scheduled : stateOf (plain (asked t (operator (OF 8) nm) .tables) .book) f ≡ limits.scheduled
-  pub idle : whyOf (plain (asked t (operator (OF 8) nm) .tables) .book) f ≡ Nothing
+  pub over : at (plain (asked t (operator (OF 8) nm) .tables) .book) f ≡ waitOver (at (plain t .book) f)
   pub unnamed : find (plain (asked t (operator (OF 8) nm) .tables) .book .programs) nm ≡ 0
   pub unawaited : (q : ℕ) → Known q → whyOf (plain (asked t (operator (OF 8) nm) .tables) .book) q ≢ Son (find (plain t .book .programs) nm)
 

@@ -2,8 +2,9 @@
 -- tables"); and the test of it that computes.
 -- Assumes nothing.
 use mathlib.Core.Bool.{Bool, _&&_}
-use Rattle.rules.specs.Sound.{Names, Zeros, Chains, Whys, System, Users, Unlocked, Limits, Dues}
-use Rattle.rules.specs.Test.{testNames, testZeros, testChains, testWhys, testSystem, testUsers, testUnlocked, testLimits, testDues}
+use Rattle.rules.specs.Sound.{Names, Zeros, Chains, Whys, Marks, System, Users, Unlocked, Limits, Dues}
+use Rattle.rules.specs.Test.{testNames, testZeros, testChains, testWhys, testMarks, testSystem, testUsers, testUnlocked}
+use Rattle.rules.specs.Test.{testLimits, testDues}
 use Rattle.chains.specs.Links.{Links, testLinks}
 use Rattle.ledger.specs.Ledger.{Blank, testBlank}
 use Rattle.tables.specs.declared.Tables.{Tables}
@@ -11,10 +12,11 @@ use Rattle.tables.specs.Tables.{plain}
 
 pub record Sound (t : Tables) : Type 0 where
   pub names : Names (plain t .book)  -- names are legal and distinct
-  pub zeros : Zeros (plain t .book)  -- unused records hold zeros, as do due and interval without a timer
+  pub zeros : Zeros (plain t .book)  -- unused records hold zeros and no mark; due and interval are zeros without a timer
   pub chains : Chains (plain t .book) (plain t .kept)  -- each chain holds just the programs of its state, once, priorities never falling
   pub links : Links (t .links)  -- other links zero
   pub whys : Whys (plain t .book)  -- each why fits its state, and no son is awaited twice
+  pub marks : Marks (plain t .book)  -- the mark stands only in states 3 and 5
   pub system : System (plain t .book)  -- the system holds just the tracks below S
   pub users : Users (plain t .book)  -- programs that hold, own or lock are used
   pub unlocked : Unlocked (plain t .book)  -- a free number has no lock
@@ -25,5 +27,5 @@ pub record Sound (t : Tables) : Type 0 where
 unfoldable pub sound : Tables → Bool
 sound t =
     testNames (plain t .book) && testZeros (plain t .book) && testChains (plain t .book) (plain t .kept) && testLinks (t .links)
-    && testWhys (plain t .book) && testSystem (plain t .book) && testUsers (plain t .book) && testUnlocked (plain t .book)
-    && testBlank (t .ledger) && testLimits (plain t .book) && testDues (plain t .book)
+    && testWhys (plain t .book) && testMarks (plain t .book) && testSystem (plain t .book) && testUsers (plain t .book)
+    && testUnlocked (plain t .book) && testBlank (t .ledger) && testLimits (plain t .book) && testDues (plain t .book)
