@@ -88,7 +88,7 @@ numberKey = "number"
 abbrev pub endKey : String
 endKey = "end"
 
--- the head's and a record's, as they come on the page
+-- the head's, and those that every record has, as they come on the page
 abbrev pub headKeys : List String
 headKeys = pageKey ∷ clockKey ∷ tracksKey ∷ systemKey ∷ numbersKey ∷ programsKey ∷ []
 

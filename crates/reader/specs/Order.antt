@@ -59,7 +59,7 @@ endForm = form endKey (λ v. alike v (text lastWord))
 pub data Place : Type 0 where
   heading : List Form → Place  -- lines of the head come
   recording : List Form → ℕ → Place  -- lines of a record, and then so many records
-  marking : ℕ → Place  -- the mark of the record just read, or what may stand behind it: so many records
+  marking : Place → Place  -- the mark of the record just read, or what may come at that place
   chaining : List Form → Place  -- chains
   holding : Place  -- tracks that are held, as many as there are; or what may stand behind them
   numbering : Place  -- numbers, as many as there are; or the last line
@@ -76,7 +76,7 @@ recordsAhead zero = chainsAhead chainForms
 recordsAhead (suc n) = recording recordForms n
 
 abbrev pub recordAhead : List Form → ℕ → Place
-recordAhead [] n = marking n
+recordAhead [] n = marking (recordsAhead n)
 recordAhead (f ∷ fs) n = recording (f ∷ fs) n
 
 -- a kind of line that may come, and where the reader stands behind it, by its value
@@ -87,23 +87,16 @@ pub record Choice : Type 0 where
 abbrev pub choice : Form → Place → Choice
 choice f p = record { kind = f; then = λ v. p }
 
--- the first of these kinds, and then the others; what may come where n records do: the first line of one, or of the chains
-abbrev pub inTurn : List Form → (List Form → Place) → List Choice
-inTurn [] next = []
-inTurn (f ∷ fs) next = choice f (next fs) ∷ []
-
-abbrev pub ofRecords : ℕ → List Choice
-ofRecords zero = inTurn chainForms chainsAhead
-ofRecords (suc n) = inTurn recordForms (λ fs. recordAhead fs n)
-
 -- the kinds that may come: the records as many as the head's last line says
 abbrev pub mayCome : Place → List Choice
 mayCome (heading []) = []
 mayCome (heading (f ∷ [])) = record { kind = f; then = λ v. recordsAhead (otherwise 0 (figure v)) } ∷ []
 mayCome (heading (f ∷ g ∷ fs)) = choice f (heading (g ∷ fs)) ∷ []
-mayCome (recording fs n) = inTurn fs (λ gs. recordAhead gs n)
-mayCome (marking n) = choice markForm (recordsAhead n) ∷ ofRecords n
-mayCome (chaining fs) = inTurn fs chainsAhead
+mayCome (recording [] n) = []
+mayCome (recording (f ∷ fs) n) = choice f (recordAhead fs n) ∷ []
+mayCome (marking p) = choice markForm p ∷ mayCome p
+mayCome (chaining []) = []
+mayCome (chaining (f ∷ fs)) = choice f (chainsAhead fs) ∷ []
 mayCome holding = choice heldForm holding ∷ choice numberForm numbering ∷ choice endForm ended ∷ []
 mayCome numbering = choice numberForm numbering ∷ choice endForm ended ∷ []
 mayCome ended = []
@@ -136,7 +129,7 @@ behindAll ended n [] = 0
 behindAll ended n (c ∷ cs) = n
 behindAll (heading fs) n l = n
 behindAll (recording fs k) n l = n
-behindAll (marking k) n l = n
+behindAll (marking p) n l = n
 behindAll (chaining fs) n l = n
 behindAll holding n l = n
 behindAll numbering n l = n

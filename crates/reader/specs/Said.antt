@@ -8,7 +8,7 @@ use mathlib.Core.List.{List, [], _∷_}
 use mathlib.Core.Option.{none, some}
 use lib.ListN.{length, set, take, drop}
 use lib.Dec.{leb, ltb}
-use Rattle.lists.specs.Lists.{hit, upTo, alike}
+use Rattle.lists.specs.Lists.{hit, upTo}
 use Rattle.text.specs.Text.{text}
 use Rattle.records.specs.declared.Program.{Program}
 use Rattle.records.specs.declared.Why.the-variants.{Nothing}
@@ -21,9 +21,9 @@ use Rattle.rules.specs.Book.{Book, put, withClock, withHolders, withResources, 
 use Rattle.rules.specs.Rules.{sizes}
 use Rattle.rules.specs.Keeper.{lists, State}
 use Rattle.page.specs.Page.{clockKey, tracksKey, systemKey, numbersKey, programsKey, idKey, nameKey, priorityKey, stateKey, whyKey, dueKey}
-use Rattle.page.specs.Page.{intervalKey, suspendKey, markWord, headKeys, recordKeys, heldKey, numberKey, chained, keyOfChain}
+use Rattle.page.specs.Page.{intervalKey, headKeys, recordKeys, heldKey, numberKey, chained, keyOfChain}
 use Rattle.reader.specs.Shapes.{otherwise, figure, figureOrDash, reasonOf, listed, runIn, Numbered, numbered}
-use Rattle.reader.specs.Order.{valueBehind}
+use Rattle.reader.specs.Order.{markForm, valueBehind}
 
 -- the value of the line of that key among some lines; a number there
 unfoldable pub valueOf : String → List (List ℕ) → List ℕ
@@ -52,11 +52,11 @@ headIn ls = started (figureOf clockKey ls) (figureOf tracksKey ls) (figureOf sys
 -- whether the first of some lines is a mark
 abbrev pub markedBy : List (List ℕ) → Bool
 markedBy [] = false
-markedBy (l ∷ ls) = elim (valueBehind (text suspendKey) l) [ some v ↦ alike v (text markWord) | none ↦ false ]
+markedBy (l ∷ ls) = elim (valueBehind (markForm .key) l) [ some v ↦ markForm .shape v | none ↦ false ]
 
 -- a record, by its lines, and whether a mark stands behind them
 abbrev pub recordIn : List (List ℕ) → Bool → Program
-recordIn ls there = record {
+recordIn ls mark = record {
   used = true;
   name = otherwise [] (nameOf (valueOf nameKey ls));
   priority = figureOf priorityKey ls;
@@ -64,7 +64,7 @@ recordIn ls there = record {
   why = otherwise Nothing (reasonOf (valueOf whyKey ls));
   due = otherwise 0 (figureOrDash (valueOf dueKey ls));
   interval = otherwise 0 (figureOrDash (valueOf intervalKey ls));
-  suspend = there;
+  suspend = mark;
 }
 
 abbrev pub withRecord : ℕ → Program → State lists → State lists

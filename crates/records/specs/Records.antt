@@ -47,7 +47,7 @@ inState s w r = record {
   suspend = false;
 }
 
--- another priority, another timer, the mark
+-- another priority, another timer, the mark as it was; and the mark set
 abbrev pub withPriority : ℕ → Program → Program
 withPriority n r = record {
   used = r .used;

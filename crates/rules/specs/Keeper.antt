@@ -73,7 +73,7 @@ module _ (K : Keeper) where
     kept = cond (eqb (stateOf (t .book) p) dormant) (t .kept) (K .left p (stateOf (t .book) p) (t .kept));
   }
 
-  -- p, which stands in no chain, has record r from now on, and enters the chain of its state
+  -- p, which stands in no chain, has record r from now on, and enters the chain of its state unless it is dormant
   abbrev pub enter : ℕ → Program → State → State
   enter p r t =
       let b : Book = put p r (t .book) in

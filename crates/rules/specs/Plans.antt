@@ -14,8 +14,8 @@ use Rattle.records.specs.declared.Why.the-variants.{Nothing, Tracks, Son, Lock,
 use Rattle.rules.specs.Book.{Book, whyOf}
 
 -- What may happen to a program's record: it takes a state for a reason, leaving its chain and entering
--- the new one; its wait is over, and it goes where its mark says; it is priced anew, leaving its chain and
--- entering it again; it is loaded; it is made unused; its timer is set, or goes where the due is 0; its mark is set.
+-- the new one; its wait is over: it is scheduled, or suspended where its mark stands; it is priced anew,
+-- leaving its chain and entering it again; it is loaded; it is made unused; its timer is set, or goes where the due is 0; its mark is set.
 pub data Deed : Type 0 where
   becomes : ℕ → Why → Deed
   wakes : Deed

@@ -69,7 +69,7 @@ allowed GO = true
 allowed (PR n) = upTo 1 lastPriority n
 allowed (OF k) = eqb k 1 || eqb k 8
 
--- what the operator asks of program p
+-- what the operator asks of program p; SS of one that waits sets its mark, if that does not stand yet
 unfoldable pub order : View → Order → ℕ → Plan
 order v RU p = inside v p dormant (done (0 ∷ []) (on p (becomes scheduled Nothing) ∷ []))
 order v SS p =

@@ -51,7 +51,7 @@ pub record Counted (t : Tables) : Type 0 where
   pub tick : asked t TICK .number ≡ 0 → ValueRoused t (asked t TICK)
 
 -- A program removed while another waits for it: the program of that name is removed by OF 8, and f waited for it as its son. f's wait is
--- over, the name is free, and no why names the record.
+-- over, so that it is scheduled, or suspended where its mark stood; the name is free, and no why names the record.
 pub record Removed (t : Tables) (nm : List ℕ) (f : ℕ) : Type 0 where
   pub done : asked t (operator (OF 8) nm) .number ≡ 0
   pub over : at (plain (asked t (operator (OF 8) nm) .tables) .book) f ≡ waitOver (at (plain t .book) f)

@@ -5,20 +5,19 @@
 -- Assumes nothing.
 use Prim.Native.Nat.{ℕ, suc, _+_, _≤_}
 use native.Mathlib.Omega.{arith}
-use native.Mathlib.Decide.{decLe}
+use native.Mathlib.Decide.{ℕ-discrete, decLe}
 use mathlib.Core.Path.{_≡_, refl, sym, ap, _∙_}
-use mathlib.Core.Logic.{_≢_}
-use mathlib.Core.Bool.{Bool, true, false, cond, _&&_, _||_}
+use mathlib.Core.Bool.{Bool, true, false, cond, _&&_}
 use mathlib.Core.List.{List, [], _∷_, map}
 use lib.ListN.{length}
 use lib.Dec.{eqb}
-use borrow.Author.Tests.{eqb-false, eq-eqb, ne-eqb}
+use borrow.Author.Tests.{eqb-true, eqb-false, eq-eqb, ne-eqb}
 use Rattle.lists.specs.Lists.{hit, count, keep, remove, join}
 use Rattle.lists.proofs.Laws.{same-refl, same-ne, same-le, same-eq, count-remove, count-remove-le, count-keep, keep-in, keep-le}
 use Rattle.lists.proofs.Tests.{clash}
 use Rattle.records.specs.declared.Resource.{Resource}
 use Rattle.records.specs.declared.Why.the-variants.{Nothing}
-use Rattle.records.specs.Records.{Known, all}
+use Rattle.records.specs.Records.{Known, all, inWait}
 use Rattle.rules.specs.Book.{Book, at, stateOf, whyOf}
 use Rattle.rules.specs.Requests.{EXEC6, CLEAR, FREE, TICK, running}
 use Rattle.rules.specs.Plans.{becomes, Event, on, clocked, numbered, Plan, releasing, View, valuesOf}
@@ -31,7 +30,7 @@ use Rattle.rules.proofs.shared.Places.{known-or, none-other, all-one, a
 use Rattle.rules.proofs.shared.Finding.{head-in}
 use Rattle.rules.proofs.shared.Ordering.{general-alone}
 use Rattle.rules.proofs.shared.Deeds.{turned-each, step-turned}
-use Rattle.rules.proofs.counts.Rising.{Rise, none, clocks, numbers, wake-rises, tick-rises, rise-in, rise-out}
+use Rattle.rules.proofs.counts.Rising.{Rise, up, runs, none, clocks, numbers, wake-rises, tick-rises, rise-in, rise-out}
 use Rattle.rules.proofs.shared.Walk.{IfDone, not-done, by-need, by-either, by-caller, by-allocated}
 use Rattle.rules.proofs.shared.Settling.{settle}
 use Rattle.rules.proofs.counts.Freed.{off-frees, own-frees, global-frees, each-frees}
@@ -72,29 +71,34 @@ keep-keep f g (q ∷ qs) = go (f q) (keep-keep f g qs)
     go true ih = ap (λ (l : List ℕ). cond (g q) (q ∷ l) l) ih
     go false ih = ih
 
--- PROGRAMS: those who rise, each once and having passed a test that none in state 1 passes, are those
--- who passed it and are in state 1 after
-risen : (t : State lists) → length (t .book .programs) ≡ 32 → (es : List Event) (c : List ℕ) → Rise es c → (f : ℕ → Bool)
-    → ((x : ℕ) → 1 ≤ count x c → Known x × (count x c ≤ 1) × (f x ≡ true)) → ((x : ℕ) → Known x → f x ≡ true → stateOf (t .book) x ≢ 1)
-    → length c ≡ length (keep (λ x. f x && eqb (stateOf (play lists es t .book) x) 1) all)
-risen t L es c r f g n = tally (λ x. f x && eqb (after x) 1) c (λ x h. g x h .0) (λ x X. go x X (f x) refl (decLe 1 (count x c)))
+-- PROGRAMS: those who rise to one of the states U, each once and having passed a test that none in such a state passes, are those
+-- who passed it and are in such a state after
+risen : (U : ℕ → Bool) (t : State lists) → length (t .book .programs) ≡ 32 → (es : List Event) (c : List ℕ) → Rise U es c → (f : ℕ → Bool)
+    → ((x : ℕ) → 1 ≤ count x c → Known x × (count x c ≤ 1) × (f x ≡ true))
+    → ((x : ℕ) → Known x → f x ≡ true → U (stateOf (t .book) x) ≡ false)
+    → length c ≡ length (keep (λ x. f x && U (stateOf (play lists es t .book) x)) all)
+risen U t L es c r f g n = tally (λ x. f x && U (after x)) c (λ x h. g x h .0) (λ x X. go x X (f x) refl (decLe 1 (count x c)))
   where
     after : ℕ → ℕ
     after x = stateOf (play lists es t .book) x
 
-    go : (x : ℕ) → Known x → (b : Bool) → f x ≡ b → Dec (1 ≤ count x c) → count x c ≡ hit (b && eqb (after x) 1)
-    go x X true e (yes h) = omega (arith, g x h .1, ap hit (eq-eqb (after x) 1 (rise-in lists x X r t L h)))
+    go : (x : ℕ) → Known x → (b : Bool) → f x ≡ b → Dec (1 ≤ count x c) → count x c ≡ hit (b && U (after x))
+    go x X true e (yes h) = omega (arith, g x h .1, ap hit (rise-in lists U x X r t L h))
     go x X false e (yes h) = clash (g x h .2) e
-    go x X true e (no h) =
-        omega (arith, h, ap hit (ne-eqb (after x) 1 (λ k. n x X e (sym (rise-out lists x X r t L (omega (arith, h))) ∙ k))))
+    go x X true e (no h) = omega (arith, h, ap hit (ap U (rise-out lists U x X r t L (omega (arith, h))) ∙ n x X e))
     go x X false e (no h) = omega (arith, h)
 
--- who waits is not in state 1, nor who sleeps
-waits-not-1 : (s : ℕ) → (eqb s 3 || eqb s 5) ≡ true → s ≢ 1
-waits-not-1 s e i = clash e (rw i)
+-- who waits is in neither of states 1 and 6, and who sleeps is not in state 1
+waits-not-up : (s : ℕ) → inWait s ≡ true → up s ≡ false
+waits-not-up s e = go (ℕ-discrete s 3) (ℕ-discrete s 5)
+  where
+    go : Dec (s ≡ 3) → Dec (s ≡ 5) → up s ≡ false
+    go (yes i) d = rw i
+    go (no m) (yes i) = rw i
+    go (no m) (no n) = clash e (rw (ne-eqb s 3 m, ne-eqb s 5 n))
 
-sleeps-not-1 : (s : ℕ) → eqb s 0 ≡ true → s ≢ 1
-sleeps-not-1 s e i = clash e (rw i)
+sleeps-not-1 : (s : ℕ) → eqb s 0 ≡ true → runs s ≡ false
+sleeps-not-1 s e = rw (eqb-true s 0 e)
 
 module _ (a : State lists) (S : Sound a) where
   abbrev v : View
@@ -113,13 +117,13 @@ module _ (a : State lists) (S : Sound a) where
   woken-known : (R : Release) → R .tracks ≡ 0 → (x : ℕ) → 1 ≤ count x (woken v R) → Known x
   woken-known R e x h = S .chains .within 3 x (omega arith) (omega arith) (omega (arith, woken-few R e x))
 
-  -- they are the programs that waited in a and are scheduled after the events, if t, in which these begin, has
-  -- none in state 1 that was not so in a
-  woken-awoken : (R : Release) → R .tracks ≡ 0 → (t : State lists) (es : List Event) → Rise es (woken v R) → length (t .book .programs) ≡ 32
-      → ((x : ℕ) → Known x → stateOf (t .book) x ≡ 1 → stateOf (a .book) x ≡ 1)
+  -- they are the programs that waited in a and are scheduled or suspended after the events, if in t, in which these begin, none is so that
+  -- waited in a
+  woken-awoken : (R : Release) → R .tracks ≡ 0 → (t : State lists) (es : List Event) → Rise up es (woken v R) → length (t .book .programs) ≡ 32
+      → ((x : ℕ) → Known x → inWait (stateOf (a .book) x) ≡ true → up (stateOf (t .book) x) ≡ false)
       → length (woken v R) ≡ awoken (a .book) (play lists es t .book)
   unfolding awoken
-  woken-awoken R e t es r L f = risen t L es (woken v R) r (λ x. eqb (stateOf (a .book) x) 3 || eqb (stateOf (a .book) x) 5)
+  woken-awoken R e t es r L f = risen up t L es (woken v R) r (λ x. inWait (stateOf (a .book) x))
       (λ x h.
       let X = woken-known R e x h in
       let m = S .chains .member 3 x (omega arith) (omega arith) X in (
@@ -127,7 +131,7 @@ module _ (a : State lists) (S : Sound a) where
         omega (arith, woken-few R e x, same-le (stateOf (a .book) x) 3),
         rw (eq-eqb (stateOf (a .book) x) 3 (same-eq (stateOf (a .book) x) 3 (omega (arith, woken-few R e x)))),
       ))
-      (λ x X w k. waits-not-1 (stateOf (a .book) x) w (f x X k))
+      f
 
   abbrev Wakes : Plan → Type 0
   Wakes x = valuesOf x ≡ awoken (a .book) (play lists (eventsOf v x) a .book) ∷ []
@@ -136,15 +140,15 @@ module _ (a : State lists) (S : Sound a) where
   none-awoken : 0 ≡ awoken (a .book) (a .book)
   unfolding awoken
   none-awoken =
-      risen a (S .shape .programs) [] [] none (λ x. eqb (stateOf (a .book) x) 3 || eqb (stateOf (a .book) x) 5)
-      (λ x h. absurd (omega arith)) (λ x X. waits-not-1 (stateOf (a .book) x))
+      risen up a (S .shape .programs) [] [] none (λ x. inWait (stateOf (a .book) x))
+      (λ x h. absurd (omega arith)) (λ x X. waits-not-up (stateOf (a .book) x))
 
   -- numbers are altered, and the woken wake
   numbers-wake : (m : List Resource) (R : Release) → R .tracks ≡ 0 → Wakes (releasing (length (woken v R) ∷ []) (numbered m ∷ []) R)
   numbers-wake m R e =
       ap (λ (n : ℕ). n ∷ [])
       (woken-awoken R e a (numbered m ∷ wake (woken v R)) (numbers (wake-rises (woken v R) (woken-known R e))) (S .shape .programs)
-      (λ x X k. k))
+      (λ x X. waits-not-up (stateOf (a .book) x)))
 
   ending-wakes : IfDone Wakes (asks lists a (running EXEC6))
   unfolding plan call endsIn
@@ -157,7 +161,8 @@ module _ (a : State lists) (S : Sound a) where
             (numbers (wake-rises (woken v (ends v c 0)) (woken-known (ends v c 0) refl)))
             (step-turned lists c C (becomes 0 Nothing) a (S .shape .programs) .long)
             (turned-each (step-turned lists c C (becomes 0 Nothing) a (S .shape .programs))
-            (λ x r. r .state ≡ 1 → stateOf (a .book) x ≡ 1) (λ k. absurd (omega arith)) (λ x X n k. k)));
+            (λ x r. inWait (stateOf (a .book) x) ≡ true → up (r .state) ≡ false) (λ k. refl)
+            (λ x X n. waits-not-up (stateOf (a .book) x))));
       })
 
   clearing-wakes : (r : ℕ) → IfDone Wakes (asks lists a (running (CLEAR r)))
@@ -195,7 +200,7 @@ module _ (a : State lists) (S : Sound a) where
   unfolding roused
   tick-roused =
       ap length (sym (keep-keep (dueAt b) sleeps all))
-      ∙ risen a (S .shape .programs) ticking risers (clocks (tick-rises b (keep (dueAt b) all) due-known)) sleeps
+      ∙ risen runs a (S .shape .programs) ticking risers (clocks (tick-rises b (keep (dueAt b) all) due-known)) sleeps
       (λ x h.
       let k = keep-in sleeps x (keep (dueAt b) all) h in
       (due-known x (k .1), riser-once x, k .0))

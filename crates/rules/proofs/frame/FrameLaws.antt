@@ -1,34 +1,32 @@
--- The frame (demand 3): no request but FRESH alters the record of a program that it does not concern, and one that is only
--- woken changes in state and why alone.
+-- The frame (demand 3): no request but FRESH alters the record of a program that it does not concern, of any state, sound or not, under
+-- any keeper; and the wait of one that is only woken is over.
 -- Events name their program, so an event leaves every other record; and whom the events of a plan name
 -- is known from the walk over the rules.
--- Of any state, sound or not, under any keeper. Assumes nothing.
-use Prim.Native.Nat.{ℕ, _-_, _≤_}
+-- Assumes nothing.
+use Prim.Native.Nat.{ℕ, _≤_}
 use native.Mathlib.Omega.{arith}
-use native.Mathlib.Decide.{ℕ-discrete, decLe}
+use native.Mathlib.Decide.{decLe}
 use mathlib.Core.Path.{_≡_, refl, sym, ap, _∙_, subst}
 use mathlib.Core.Logic.{_≢_}
 use mathlib.Core.Bool.{Bool, true, false, cond}
 use mathlib.Core.List.{List, [], _∷_}
-use lib.ListN.{length, getD}
-use lib.Seq.{getD-set-same, set-out}
-use Rattle.records.specs.declared.Program.{Program}
-use Rattle.records.specs.declared.Why.the-variants.{Nothing}
-use Rattle.records.specs.Records.{Known, known, missing, inState}
-use Rattle.rules.specs.Book.{at, put}
+use lib.ListN.{length}
+use Rattle.lists.specs.Lists.{count}
+use Rattle.records.specs.Records.{Known, known, waitOver}
+use Rattle.rules.specs.Book.{at}
 use Rattle.rules.specs.Requests.{Request, FRESH}
-use Rattle.rules.specs.Plans.{Deed, wakes as waking, Event, on, clocked, held, numbered, renewed, releaseOf, eventsOf}
-use Rattle.rules.specs.Keeper.{Keeper, State, act, step, play, view, asks, after}
+use Rattle.rules.specs.Plans.{Deed, Event, on, clocked, held, numbered, renewed, releaseOf, wake, eventsOf}
+use Rattle.rules.specs.Plans as plans
+use Rattle.rules.specs.Keeper.{Keeper, lists, State, act, step, play, view, asks, after}
+use Rattle.rules.specs.Sound.{Sound}
 use Rattle.rules.specs.Frame.{Party, Concerned, party, anew, woken, Stirred, stays, wakes}
 use Rattle.rules.proofs.shared.Places.{known-true, at-other}
-use Rattle.rules.proofs.shared.Deeds.{made, act-put, step-put}
-use Rattle.rules.proofs.shared.Parts.{Upon, upon-map, By, as-party, as-woken, plan-of}
-
-stirred-on : (r s u : Program) → Stirred r s → Stirred s u → Stirred r u
-stirred-on r s u (stays e) (stays f) = stays (f ∙ e)
-stirred-on r s u (stays e) (wakes f) = wakes (f ∙ ap (inState 1 Nothing) e)
-stirred-on r s u (wakes e) (stays f) = wakes (f ∙ e)
-stirred-on r s u (wakes e) (wakes f) = wakes (f ∙ ap (inState 1 Nothing) e)
+use Rattle.rules.proofs.shared.Deeds.{made, act-put}
+use Rattle.rules.proofs.shared.Parts.{Upon, upon-map, By, as-party, as-woken, ownOf, in-two, play-append, Of, plan-of}
+use Rattle.rules.proofs.keepers.Alike.{play-alike}
+use Rattle.rules.proofs.keepers.Notes.{chained-alike}
+use Rattle.rules.proofs.soundness.Keeping.{strict, before}
+use Rattle.rules.proofs.soundness.Waking.{Woke, woke, woken-callable, woken-once}
 
 module _ (K : Keeper) (x : ℕ) (X : Known x) where
   -- events about others leave a record alone
@@ -41,47 +39,14 @@ module _ (K : Keeper) (x : ℕ) (X : Known x) where
           ∙ at-other (t .book) p (known-true p h) (made d (at (t .book) p)) x X n
       go false h = refl
 
-  -- what each event leaves of the record, all of them leave
-  play-along : (Q : Program → Program → Type 0) → ((r : Program) → Q r r) → ((r s u : Program) → Q r s → Q s u → Q r u)
-      → (U : ℕ → Deed → Type 0)
-      → ((p : ℕ) (d : Deed) (t : State K) → U p d → Q (at (t .book) x) (at (step K (on p d) t .book) x))
-      → (es : List Event) → Upon U ⊥ es → (t : State K) → Q (at (t .book) x) (at (play K es t .book) x)
+  play-frame : (es : List Event) → Upon (λ p d. p ≢ x) ⊥ es → (t : State K) → at (play K es t .book) x ≡ at (t .book) x
   unfolding step
-  play-along Q i j U f [] u t = i (at (t .book) x)
-  play-along Q i j U f (on p d ∷ es) u t = j _ _ _ (f p d t (u .0)) (play-along Q i j U f es (u .1) (step K (on p d) t))
-  play-along Q i j U f (clocked c ∷ es) u t = play-along Q i j U f es u (step K (clocked c) t)
-  play-along Q i j U f (held h ∷ es) u t = play-along Q i j U f es u (step K (held h) t)
-  play-along Q i j U f (numbered r ∷ es) u t = play-along Q i j U f es u (step K (numbered r) t)
-  play-along Q i j U f (renewed T S R ∷ es) u t = absurd (u .0)
-
-  play-frame : (P : ℕ → Type 0) → (P x → ⊥) → (es : List Event) → Upon (λ p d. P p) ⊥ es → (t : State K)
-      → at (play K es t .book) x ≡ at (t .book) x
-  play-frame P n =
-      play-along (λ r s. s ≡ r) (λ r. refl) (λ r s u e f. f ∙ e) (λ p d. P p) (λ p d t h. on-frame p d t (λ e. n (subst P (sym e) h)))
-
-  -- a waking, also where the records are too few
-  woken-stirred : (t : State K) → Stirred (at (t .book) x) (at (step K (on x waking) t .book) x)
-  woken-stirred t =
-      subst (λ (u : State K). Stirred (at (t .book) x) (at (u .book) x)) (sym (step-put K x X waking t))
-      (go (decLe (length (t .book .programs)) (x - 1)))
-    where
-      r : Program
-      r = made waking (at (t .book) x)
-
-      go : Dec (length (t .book .programs) ≤ x - 1) → Stirred (at (t .book) x) (at (put x r (t .book)) x)
-      go (yes h) = stays (ap (λ (ps : List Program). getD ps (x - 1) missing) (set-out (t .book .programs) (x - 1) r h))
-      go (no h) = wakes (getD-set-same (t .book .programs) (x - 1) r missing (omega (arith, h)))
-
-  on-stirred : (p : ℕ) (d : Deed) (t : State K) → (p ≡ x → d ≡ waking) → Stirred (at (t .book) x) (at (step K (on p d) t .book) x)
-  on-stirred p d t h = go (ℕ-discrete p x)
-    where
-      go : Dec (p ≡ x) → Stirred (at (t .book) x) (at (step K (on p d) t .book) x)
-      go (no n) = stays (on-frame p d t (λ e. n (sym e)))
-      go (yes e) = rw (e, h e) (woken-stirred t)
-
-  play-stirred : (es : List Event) → Upon (λ p d. p ≡ x → d ≡ waking) ⊥ es → (t : State K)
-      → Stirred (at (t .book) x) (at (play K es t .book) x)
-  play-stirred = play-along Stirred (λ r. stays refl) stirred-on (λ p d. p ≡ x → d ≡ waking) on-stirred
+  play-frame [] u t = refl
+  play-frame (on p d ∷ es) u t = play-frame es (u .1) (step K (on p d) t) ∙ on-frame p d t (λ e. u .0 (sym e))
+  play-frame (clocked c ∷ es) u t = play-frame es u (step K (clocked c) t)
+  play-frame (held h ∷ es) u t = play-frame es u (step K (held h) t)
+  play-frame (numbered r ∷ es) u t = play-frame es u (step K (numbered r) t)
+  play-frame (renewed T S R ∷ es) u t = absurd (u .0)
 
 -- a list that has a first is not empty
 some-happen : (e : Event) (es : List Event) → (e ∷ es) ≢ []
@@ -98,12 +63,12 @@ module _ (K : Keeper) (t : State K) (q : Request) (x : ℕ) (X : Known x) where
   Renews = (T : ℕ) × (S : ℕ) × (R : ℕ) × (q ≡ FRESH T S R)
 
   -- whom the events of the plan are about
-  walked : Upon (By (view K t) (λ p d. Has p) (releaseOf (asks K t q))) Renews (eventsOf (view K t) (asks K t q))
-  walked = plan-of (λ p d. Has p) Renews (view K t) q (record { fresh = λ T S R e. (T, S, R, e); party = λ p l h d. h }) .events
+  parts : Of (λ p d. Has p) Renews (view K t) (asks K t q)
+  parts = plan-of (λ p d. Has p) Renews (view K t) q (record { fresh = λ T S R e. (T, S, R, e); party = λ p l h d. h })
 
   -- THE FRAME
   pub frame : (Whom x → ⊥) → at (after K t q .book) x ≡ at (t .book) x
-  frame n = go (eventsOf (view K t) (asks K t q)) refl walked
+  frame n = go (eventsOf (view K t) (asks K t q)) refl (parts .events)
     where
       go : (es : List Event) → eventsOf (view K t) (asks K t q) ≡ es
           → Upon (By (view K t) (λ p d. Has p) (releaseOf (asks K t q))) Renews es
@@ -111,8 +76,9 @@ module _ (K : Keeper) (t : State K) (q : Request) (x : ℕ) (X : Known x) where
       go [] i u = refl
       go (e ∷ es) i u =
           let some : eventsOf (view K t) (asks K t q) ≢ [] = λ j. some-happen e es (sym i ∙ j) in
-          play-frame K x X Whom n (e ∷ es)
-          (upon-map (By (view K t) (λ p d. Has p) (releaseOf (asks K t q))) (λ p d. Whom p) Renews ⊥ (concerned some)
+          play-frame K x X (e ∷ es)
+          (upon-map (By (view K t) (λ p d. Has p) (releaseOf (asks K t q))) (λ p d. p ≢ x) Renews ⊥
+          (λ p d h i. n (subst Whom i (concerned some p d h)))
           (λ f. n (anew some (f .0) (f .1) (f .2) (f .3))) (e ∷ es) u) t
         where
           concerned : eventsOf (view K t) (asks K t q) ≢ [] → (p : ℕ) (d : Deed)
@@ -120,15 +86,44 @@ module _ (K : Keeper) (t : State K) (q : Request) (x : ℕ) (X : Known x) where
           concerned some p d (as-party h) = party some h
           concerned some p d (as-woken e w) = woken w
 
-  -- of one that has nothing to do with the request, and so may only be woken
-  module _ (old : (T S R : ℕ) → q ≢ FRESH T S R) (apart : Has x → ⊥) where
-    pub stirred : Stirred (at (t .book) x) (at (after K t q .book) x)
-    stirred =
-        play-stirred K x X (eventsOf (view K t) (asks K t q))
-        (upon-map (By (view K t) (λ p d. Has p) (releaseOf (asks K t q))) (λ p d. p ≡ x → d ≡ waking) Renews ⊥ others
-        (λ f. old (f .0) (f .1) (f .2) (f .3))
-        (eventsOf (view K t) (asks K t q)) walked) t
-      where
-        others : (p : ℕ) (d : Deed) → By (view K t) (λ p d. Has p) (releaseOf (asks K t q)) p d → p ≡ x → d ≡ waking
-        others p d (as-party h) e = absurd (apart (subst Has e h))
-        others p d (as-woken w k) e = w
+  -- what happens before the wakings leaves one that has nothing to do with the request
+  pub own-frame : ((T S R : ℕ) → q ≢ FRESH T S R) → (Has x → ⊥) → at (play K (ownOf (asks K t q)) t .book) x ≡ at (t .book) x
+  own-frame old apart =
+      play-frame K x X (ownOf (asks K t q))
+      (upon-map (λ p d. Has p) (λ p d. p ≢ x) Renews ⊥ (λ p d h e. apart (subst Has e h)) (λ f. old (f .0) (f .1) (f .2) (f .3))
+      (ownOf (asks K t q)) (parts .own)) t
+
+-- Of sound states, in which nobody wakes twice: one that has nothing to do with the request is woken, or its record stays.
+module _ (a : State lists) (S : Sound a) (q : Request) (x : ℕ) (X : Known x) (old : (T B R : ℕ) → q ≢ FRESH T B R)
+    (apart : Party (view lists a) x q → ⊥) where
+  abbrev risers : List ℕ
+  risers = plans.woken (view lists a) (releaseOf (asks lists a q))
+
+  abbrev u : State lists
+  u = play lists (ownOf (asks lists a q)) a
+
+  long : length (u .book .programs) ≡ 32
+  long =
+      play-alike (ownOf (asks lists a q)) a _ (chained-alike a (S .shape .programs) (S .shape .chains) (S .chains)) .noted .long
+
+  woke-risers : Woke risers (u .book .programs) (play lists (wake risers) u .book .programs)
+  woke-risers = woke risers u long (λ z h. woken-callable (strict a) a (before a S) (releaseOf (asks lists a q)) z h .0)
+
+  two : at (after lists a q .book) x ≡ at (play lists (wake risers) u .book) x
+  two = ap (λ (es : List Event). at (play lists es a .book) x) (in-two (view lists a) (asks lists a q))
+      ∙ ap (λ (b : State lists). at (b .book) x) (play-append lists (ownOf (asks lists a q)) (wake risers) a)
+
+  same : at (u .book) x ≡ at (a .book) x
+  same = own-frame lists a q x X old apart
+
+  -- woken, it goes where its mark says, and the mark is gone
+  pub woken-over : 1 ≤ count x risers → at (after lists a q .book) x ≡ waitOver (at (a .book) x)
+  woken-over h =
+      two ∙ woke-risers .over x (omega (arith, h, woken-once (strict a) a (before a S) (releaseOf (asks lists a q)) x)) ∙ ap waitOver same
+
+  pub stirred : Stirred (at (a .book) x) (at (after lists a q .book) x)
+  stirred = go (decLe 1 (count x risers))
+    where
+      go : Dec (1 ≤ count x risers) → Stirred (at (a .book) x) (at (after lists a q .book) x)
+      go (yes h) = wakes (woken-over h)
+      go (no h) = stays (two ∙ woke-risers .rest x X (omega (arith, h)) ∙ same)

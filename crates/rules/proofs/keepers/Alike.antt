@@ -16,12 +16,11 @@ use Rattle.lists.specs.Lists.{same, insert, remove, upTo}
 use Rattle.lists.proofs.Laws.{same-ne}
 use Rattle.lists.proofs.Tests.{upTo-true}
 use Rattle.records.specs.declared.Program.{Program}
-use Rattle.records.specs.declared.Why.{Why}
 use Rattle.records.specs.declared.Why.the-variants.{Nothing}
-use Rattle.records.specs.Records.{Known, known, unused, inState, withPriority, withTimer, newcomer}
-use Rattle.rules.specs.Book.{Book, at, stateOf, prioOf, whyOf, put, withClock, withHolders, withResources, freshBook}
+use Rattle.records.specs.Records.{Known, known, unused, inState, waitOver, withPriority, withTimer, withMark, newcomer}
+use Rattle.rules.specs.Book.{Book, at, stateOf, prioOf, put, withClock, withHolders, withResources, freshBook}
 use Rattle.rules.specs.Requests.{Request}
-use Rattle.rules.specs.Plans.{Deed, becomes, wakes, priced, loaded, unloaded, timed, Event, on, clocked, held}
+use Rattle.rules.specs.Plans.{Deed, becomes, wakes, priced, loaded, unloaded, timed, marked, Event, on, clocked, held}
 use Rattle.rules.specs.Plans.{numbered, renewed, numberOf, valuesOf, eventsOf}
 use Rattle.rules.specs.Rules.{plan}
 use Rattle.rules.specs.Keeper.{lists, Entries, entries, sorted, State, leave, enter, amend, act, step, play, view, asks, after, fresh}
@@ -76,18 +75,20 @@ module _ (p : ℕ) (P : Known p) where
     states : (z : ℕ) → Known z → z ≢ p → stateOf (put p r (a .book)) z ≡ stateOf (a .book) z
     states = state-other (a .book) (A .noted .long) p P r
 
-    priorities : r .priority ≡ prioOf (a .book) p → (z : ℕ) → Known z → prioOf (put p r (a .book)) z ≡ prioOf (a .book) z
-    priorities h = turned-each turned (λ z q. q .priority ≡ prioOf (a .book) z) h (λ z Z n. refl)
+    -- of those in chains
+    priorities : (stateOf (a .book) p ≢ 0 → r .priority ≡ prioOf (a .book) p) → (z : ℕ) → Known z → stateOf (a .book) z ≢ 0
+        → prioOf (put p r (a .book)) z ≡ prioOf (a .book) z
+    priorities h = turned-each turned (λ z q. stateOf (a .book) z ≢ 0 → q .priority ≡ prioOf (a .book) z) h (λ z Z n m. refl)
 
     -- of the same state
     pub amend-alike : r .state ≡ stateOf (a .book) p → (stateOf (a .book) p ≢ 0 → r .priority ≡ prioOf (a .book) p)
         → Alike (amend lists p r a) (amend entries p r (beside a e))
     amend-alike h k =
         edit-alike a e (put p r (a .book)) A (turned .long) (turned-each turned (λ z q. q .state ≡ stateOf (a .book) z) h (λ z Z n. refl))
-        (turned-each turned (λ z q. stateOf (a .book) z ≢ 0 → q .priority ≡ prioOf (a .book) z) k (λ z Z n m. refl))
+        (priorities k)
 
-    -- of the same priority, and the chain of state x is another: p is in no other chain, before and after
-    chain-alike : (x : ℕ) (c : List ℕ) (e′ : Entries) → r .priority ≡ prioOf (a .book) p
+    -- of the same priority if p was in a chain, and the chain of state x is another: p is in no other chain, before and after
+    chain-alike : (x : ℕ) (c : List ℕ) (e′ : Entries) → (stateOf (a .book) p ≢ 0 → r .priority ≡ prioOf (a .book) p)
         → ((s : ℕ) → 1 ≤ s → s ≢ x → (stateOf (a .book) p ≢ s) × (r .state ≢ s))
         → Noted (put p r (a .book)) e′ → ((z : ℕ) → z ≢ p → e′ .entry z ≡ e .entry z)
         → (1 ≤ x → x < 7 → Fits (put p r (a .book)) (e′ .entry) x c)
@@ -109,7 +110,7 @@ module _ (p : ℕ) (P : Known p) where
             (fits-edit (a .book) (put p r (a .book)) (e .entry) (e′ .entry) s (getD (a .kept) s []) (A .fits s l h)
             (turned-each turned (λ z q. same (q .state) s ≡ same (stateOf (a .book) z) s)
             (same-ne (r .state) s (out s l n .1) ∙ sym (same-ne (stateOf (a .book) p) s (out s l n .0))) (λ z Z m. refl))
-            (λ z Z j. priorities pr z Z) (λ z Z j. old z (λ i. out s l n .0 (ap (stateOf (a .book)) (sym i) ∙ j))))
+            (λ z Z j. priorities pr z Z (λ i. omega (arith, i, j))) (λ z Z j. old z (λ i. out s l n .0 (ap (stateOf (a .book)) (sym i) ∙ j))))
 
   -- p leaves
   pub leave-alike : (a : State lists) (e : Entries) → Alike a (beside a e) → Alike (leave lists p a) (leave entries p (beside a e))
@@ -129,23 +130,26 @@ module _ (p : ℕ) (P : Known p) where
           (record { book = put p r (a .book); kept = cond d e e })
       go true i = amend-alike a e r A (sym (eqb-true s 0 i)) (λ n. refl)
       go false i =
-          chain-alike a e r A s (remove p (getD (a .kept) s [])) e refl (λ x l n. (λ j. n (sym j), λ j. omega (arith, j)))
+          chain-alike a e r A s (remove p (getD (a .kept) s [])) e (λ n. refl) (λ x l n. (λ j. n (sym j), λ j. omega (arith, j)))
           (record {
             long = turned a e r A .long;
             early = A .noted .early;
             apart = λ y z Y Z h k. A .noted .apart y z Y Z (was y Y h) (was z Z k);
           }) (λ z n. refl)
-          (λ l h. fits-remove (a .book) (put p r (a .book)) p P (states a e r A) (priorities a e r A refl) (e .entry) s
-          (getD (a .kept) s []) (A .fits s l h) refl
+          (λ l h. fits-remove (a .book) (put p r (a .book)) p P (states a e r A) (priorities a e r A (λ n. refl)) (e .entry) s
+          (getD (a .kept) s []) l (A .fits s l h) refl
           (λ w. eqb-false s 0 i (sym w ∙ state-same (a .book) (A .noted .long) p P r)))
 
-  -- p, dormant, enters
-  pub enter-alike : (s : ℕ) (w : Why) (a : State lists) (e : Entries) → Alike a (beside a e) → stateOf (a .book) p ≡ 0
-      → Alike (enter lists p s w a) (enter entries p s w (beside a e))
-  enter-alike s w a e A D = go (eqb s 0) refl
+  -- p, dormant, enters, whatever its record is from now on
+  pub enter-alike : (r : Program) (a : State lists) (e : Entries) → Alike a (beside a e) → stateOf (a .book) p ≡ 0
+      → Alike (enter lists p r a) (enter entries p r (beside a e))
+  enter-alike r a e A D = go (eqb s 0) refl
     where
-      r : Program
-      r = inState s w (at (a .book) p)
+      s : ℕ
+      s = r .state
+
+      awake : stateOf (a .book) p ≢ 0 → r .priority ≡ prioOf (a .book) p
+      awake n = absurd (n D)
 
       b : Book
       b = put p r (a .book)
@@ -179,12 +183,12 @@ module _ (p : ℕ) (P : Known p) where
       go : (d : Bool) → eqb s 0 ≡ d
           → Alike (record { book = b; kept = cond d (a .kept) (set (a .kept) s (insert (prioOf b) p (getD (a .kept) s []))) })
           (record { book = b; kept = cond d e e′ })
-      go true i = amend-alike a e r A (eqb-true s 0 i ∙ sym D) (λ n. refl)
+      go true i = amend-alike a e r A (eqb-true s 0 i ∙ sym D) awake
       go false i =
-          chain-alike a e r A s (insert (prioOf b) p (getD (a .kept) s [])) e′ refl (λ x l n. (λ j. omega (arith, j, D), λ j. n (sym j)))
+          chain-alike a e r A s (insert (prioOf b) p (getD (a .kept) s [])) e′ awake (λ x l n. (λ j. omega (arith, j, D), λ j. n (sym j)))
           (record { long = turned a e r A .long; early = early; apart = apart }) old
-          (λ l h. fits-insert (a .book) b p P (states a e r A) (priorities a e r A refl) (e .entry) (e′ .entry) s (getD (a .kept) s [])
-          (A .fits s l h)
+          (λ l h. fits-insert (a .book) b p P (states a e r A) (priorities a e r A awake) (e .entry) (e′ .entry) s (getD (a .kept) s [])
+          l (A .fits s l h)
           (λ v. omega (arith, v, D)) (state-same (a .book) (A .noted .long) p P r) old (λ z. omega (arith, new, A .noted .early z)))
 
   -- p is dormant once it has left
@@ -199,8 +203,8 @@ module _ (p : ℕ) (P : Known p) where
     abbrev f : Entries
     f = leave entries p (beside a e) .kept
 
-    shift-alike : (s : ℕ) (w : Why) → Alike (enter lists p s w u) (enter entries p s w (beside u f))
-    shift-alike s w = enter-alike s w u f (leave-alike a e A) (left-state a (A .noted .long))
+    shift-alike : (r : Program) → Alike (enter lists p r u) (enter entries p r (beside u f))
+    shift-alike r = enter-alike r u f (leave-alike a e A) (left-state a (A .noted .long))
 
     put-alike : (r : Program) → r .state ≡ 0 → Alike (amend lists p r u) (amend entries p r (beside u f))
     put-alike r z =
@@ -209,16 +213,13 @@ module _ (p : ℕ) (P : Known p) where
 
     pub act-alike : (d : Deed) → Alike (act lists p d a) (act entries p d (beside a e))
     unfolding act
-    act-alike (becomes s w) = shift-alike s w
-    act-alike wakes = shift-alike 1 Nothing
-    act-alike (priced n) =
-        let r : Program = withPriority n (at (u .book) p) in
-        let z : r .state ≡ 0 = left-state a (A .noted .long) in
-        enter-alike (stateOf (a .book) p) (whyOf (a .book) p) (amend lists p r u) f (put-alike r z)
-        (state-same (u .book) (leave-alike a e A .noted .long) p P r ∙ z)
+    act-alike (becomes s w) = shift-alike (inState s w (at (a .book) p))
+    act-alike wakes = shift-alike (waitOver (at (a .book) p))
+    act-alike (priced n) = shift-alike (withPriority n (at (a .book) p))
     act-alike (loaded nm n) = put-alike (newcomer nm n) refl
     act-alike unloaded = put-alike unused refl
     act-alike (timed d i) = amend-alike a e (withTimer d i (at (a .book) p)) A refl (λ k. refl)
+    act-alike marked = amend-alike a e (withMark (at (a .book) p)) A refl (λ k. refl)
 
 -- fresh tables
 pub fresh-alike : (T S R : ℕ) → Alike (fresh lists T S R) (fresh entries T S R)

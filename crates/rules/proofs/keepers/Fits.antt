@@ -64,17 +64,24 @@ module _ (b b′ : Book) (en en′ : ℕ → ℕ) (s : ℕ) (c : List ℕ) (F : 
   }
 
 module _ (b b′ : Book) (p : ℕ) (P : Known p) (O : (z : ℕ) → Known z → z ≢ p → stateOf b′ z ≡ stateOf b z)
-    (Q : (z : ℕ) → Known z → prioOf b′ z ≡ prioOf b z) where
-  pub fits-remove : (en : ℕ → ℕ) (s : ℕ) (c : List ℕ) → Fits b en s c → stateOf b p ≡ s → stateOf b′ p ≢ s → Fits b′ en s (remove p c)
-  fits-remove en s c F h k = record {
+    (Q : (z : ℕ) → Known z → stateOf b z ≢ 0 → prioOf b′ z ≡ prioOf b z) where
+  -- who stands in a chain keeps its priority
+  priced-same : (en : ℕ → ℕ) (s : ℕ) (c : List ℕ) → 1 ≤ s → Fits b en s c → (x : ℕ) → 1 ≤ count x c → prioOf b′ x ≡ prioOf b x
+  priced-same en s c l F x i = Q x (F .within x i) (λ z. omega (arith, z, fits-state b en s c F x i))
+
+  pub fits-remove : (en : ℕ → ℕ) (s : ℕ) (c : List ℕ) → 1 ≤ s → Fits b en s c → stateOf b p ≡ s → stateOf b′ p ≢ s
+      → Fits b′ en s (remove p c)
+  fits-remove en s c o F h k = record {
     member = λ z Z. at z Z (ℕ-discrete z p);
     within = λ z l. F .within z (omega (arith, count-remove-le z p c));
     ascends = remove-ascending (Before (prioOf b′) en) p c (ascending-map (Before (prioOf b) en) (Before (prioOf b′) en) c
-        (λ x y i j r.
-        (omega (arith, Q x (F .within x i), Q y (F .within y j)), λ l. r .1 (omega (arith, Q x (F .within x i), Q y (F .within y j)))))
+        (λ x y i j r. (omega (arith, same-price x i, same-price y j), λ l. r .1 (omega (arith, same-price x i, same-price y j))))
         (F .ascends));
   }
     where
+      same-price : (x : ℕ) → 1 ≤ count x c → prioOf b′ x ≡ prioOf b x
+      same-price = priced-same en s c o F
+
       there : 1 ≤ count p c
       there = omega (arith, F .member p P, ap (λ (x : ℕ). same x s) h, same-refl s)
 
@@ -83,19 +90,22 @@ module _ (b b′ : Book) (p : ℕ) (P : Known p) (O : (z : ℕ) → Known z → 
           rw e (omega (arith, count-remove p p c there, same-refl p, F .member p P, same-le (stateOf b p) s, same-ne (stateOf b′ p) s k))
       at z Z (no n) = omega (arith, count-remove z p c there, same-ne z p n, F .member z Z, ap (λ (x : ℕ). same x s) (O z Z n))
 
-  pub fits-insert : (en en′ : ℕ → ℕ) (s : ℕ) (c : List ℕ) → Fits b en s c → stateOf b p ≢ s → stateOf b′ p ≡ s
+  pub fits-insert : (en en′ : ℕ → ℕ) (s : ℕ) (c : List ℕ) → 1 ≤ s → Fits b en s c → stateOf b p ≢ s → stateOf b′ p ≡ s
       → ((z : ℕ) → z ≢ p → en′ z ≡ en z) → ((z : ℕ) → en z < en′ p) → Fits b′ en′ s (insert (prioOf b′) p c)
-  fits-insert en en′ s c F h k f g = record {
+  fits-insert en en′ s c o F h k f g = record {
     member = λ z Z. omega (arith, count-insert (prioOf b′) z p c, at z Z (ℕ-discrete z p));
     within = λ z l. inn z (ℕ-discrete z p) (omega (arith, count-insert (prioOf b′) z p c));
     ascends = insert-ascending (prioOf b′) en′ p c (λ r i. omega (arith, f r (ne r i), g r))
         (ascending-map (Before (prioOf b) en) (Before (prioOf b′) en′) c
         (λ x y i j r. (
-          omega (arith, Q x (F .within x i), Q y (F .within y j)),
-          λ l. omega (arith, f x (ne x i), f y (ne y j), r .1 (omega (arith, Q x (F .within x i), Q y (F .within y j)))),
+          omega (arith, same-price x i, same-price y j),
+          λ l. omega (arith, f x (ne x i), f y (ne y j), r .1 (omega (arith, same-price x i, same-price y j))),
         )) (F .ascends));
   }
     where
+      same-price : (x : ℕ) → 1 ≤ count x c → prioOf b′ x ≡ prioOf b x
+      same-price = priced-same en s c o F
+
       ne : (x : ℕ) → 1 ≤ count x c → x ≢ p
       ne x i e = omega (arith, rw e at i, F .member p P, same-ne (stateOf b p) s h)
 

@@ -6,60 +6,52 @@ use native.Mathlib.Decide.{ℕ-discrete}
 use mathlib.Core.Path.{_≡_, refl, sym, ap, _∙_, subst}
 use mathlib.Core.Logic.{_≢_}
 use mathlib.Core.List.{List, [], _∷_}
-use lib.ListN.{length, getD, set}
+use lib.ListN.{length, set}
 use Rattle.records.specs.declared.Program.{Program}
 use Rattle.records.specs.declared.Why.the-variants.{Nothing}
-use Rattle.records.specs.Records.{Known, recordAt, missing, unused, newcomer, inState, withPriority, withTimer}
+use Rattle.records.specs.Records.{Known, recordAt, unused, newcomer, inState, waitOver, withPriority, withTimer, withMark}
 use Rattle.rules.specs.Book.{Book, at, put, altered}
-use Rattle.rules.specs.Plans.{Deed, becomes, wakes, priced, loaded, unloaded, timed, on}
+use Rattle.rules.specs.Plans.{Deed, becomes, wakes, priced, loaded, unloaded, timed, marked, on}
 use Rattle.rules.specs.Keeper.{Keeper, State, act, step}
 use Rattle.rules.proofs.shared.Places.{known-is, at-same, at-other, put-long}
 
 -- the record after a deed
 abbrev pub made : Deed → Program → Program
 made (becomes s w) r = inState s w r
-made wakes r = inState 1 Nothing r
+made wakes r = waitOver r
 made (priced n) r = withPriority n r
 made (loaded nm n) r = newcomer nm n
 made unloaded r = unused
 made (timed d i) r = withTimer d i r
+made marked r = withMark r
 
--- a record made of the one just put
-set-again : (ps : List Program) (i : ℕ) (r : Program) (f : Program → Program)
-    → set (set ps i r) i (f (getD (set ps i r) i missing)) ≡ set ps i (f r)
-set-again [] i r f = refl
-set-again (x ∷ xs) zero r f = refl
-set-again (x ∷ xs) (suc i) r f = ap (λ (ys : List Program). x ∷ ys) (set-again xs i r f)
+-- a record put where one was just put
+set-again : (ps : List Program) (i : ℕ) (r s : Program) → set (set ps i r) i s ≡ set ps i s
+set-again [] i r s = refl
+set-again (x ∷ xs) zero r s = refl
+set-again (x ∷ xs) (suc i) r s = ap (λ (ys : List Program). x ∷ ys) (set-again xs i r s)
 
 module _ (K : Keeper) (p : ℕ) where
   -- the state with other records and another order kept
   abbrev with : State K → K .Kept → List Program → State K
   with t k ps = record { book = altered (t .book) ps (t .book .clock) (t .book .holders) (t .book .resources); kept = k }
 
-  -- p leaves its chain, and a record is made of the one that it has then
-  abbrev once-more : State K → K .Kept → (Program → Program) → State K
-  once-more t k f =
-      let ps : List Program = set (t .book .programs) (p - 1) (inState 0 Nothing (at (t .book) p)) in
-      with t k (set ps (p - 1) (f (getD ps (p - 1) missing)))
-
-  left-made : (t : State K) (k : K .Kept) (f : Program → Program)
-      → once-more t k f ≡ with t k (set (t .book .programs) (p - 1) (f (inState 0 Nothing (at (t .book) p))))
-  left-made t k f = ap (with t k) (set-again (t .book .programs) (p - 1) (inState 0 Nothing (at (t .book) p)) f)
+  -- p leaves its chain, and has another record
+  left-made : (t : State K) (k : K .Kept) (r : Program)
+      → with t k (set (set (t .book .programs) (p - 1) (inState 0 Nothing (at (t .book) p))) (p - 1) r)
+      ≡ with t k (set (t .book .programs) (p - 1) r)
+  left-made t k r = ap (with t k) (set-again (t .book .programs) (p - 1) (inState 0 Nothing (at (t .book) p)) r)
 
   pub act-put : (d : Deed) (t : State K)
       → act K p d t ≡ record { book = put p (made d (at (t .book) p)) (t .book); kept = act K p d t .kept }
   unfolding act
-  act-put (becomes s w) t = left-made t _ (inState s w)
-  act-put wakes t = left-made t _ (inState 1 Nothing)
-  act-put (priced n) t =
-      let s = at (t .book) p .state in
-      let w = at (t .book) p .why in
-      ap (λ (u : State K). with t (act K p (priced n) t .kept)
-      (set (u .book .programs) (p - 1) (inState s w (getD (u .book .programs) (p - 1) missing)))) (left-made t (t .kept) (withPriority n))
-      ∙ ap (with t _) (set-again (t .book .programs) (p - 1) (withPriority n (inState 0 Nothing (at (t .book) p))) (inState s w))
-  act-put (loaded nm n) t = left-made t _ (λ r. newcomer nm n)
-  act-put unloaded t = left-made t _ (λ r. unused)
+  act-put (becomes s w) t = left-made t _ (inState s w (at (t .book) p))
+  act-put wakes t = left-made t _ (waitOver (at (t .book) p))
+  act-put (priced n) t = left-made t _ (withPriority n (at (t .book) p))
+  act-put (loaded nm n) t = left-made t _ (newcomer nm n)
+  act-put unloaded t = left-made t _ unused
   act-put (timed d i) t = refl
+  act-put marked t = refl
 
   -- the same of an event
   pub step-act : Known p → (d : Deed) (t : State K) → step K (on p d) t ≡ act K p d t
@@ -69,11 +61,6 @@ module _ (K : Keeper) (p : ℕ) where
   pub step-put : Known p → (d : Deed) (t : State K)
       → step K (on p d) t ≡ record { book = put p (made d (at (t .book) p)) (t .book); kept = act K p d t .kept }
   step-put P d t = step-act P d t ∙ act-put d t
-
--- a waking comes to this
-pub wakes-becomes : (K : Keeper) (p : ℕ) (t : State K) → step K (on p wakes) t ≡ step K (on p (becomes 1 Nothing)) t
-unfolding step act
-wakes-becomes K p t = refl
 
 -- the records of the second list are those of the first, but program p's is r
 pub record Turned (p : ℕ) (r : Program) (ps qs : List Program) : Type 0 where

@@ -5,9 +5,9 @@
 -- Assumes nothing.
 use Prim.Native.Nat.{ℕ, _≤_}
 use native.Mathlib.Omega.{arith}
-use mathlib.Core.Path.{_≡_, refl}
+use mathlib.Core.Path.{_≡_, refl, sym, ap, _∙_}
 use mathlib.Core.Bool.{Bool, true, false, cond}
-use mathlib.Core.List.{List, [], _∷_, _++_, map}
+use mathlib.Core.List.{List, [], _∷_, _++_, append-nil, map}
 use lib.Dec.{eqb}
 use borrow.Author.Tests.{ltb-true}
 use Rattle.lists.specs.Lists.{count, keep, upTo, join}
@@ -22,11 +22,12 @@ use Rattle.rules.specs.Requests.{EXEC10, EXEC12, ALLOC, LOCK, CLEAR, FRE
 use Rattle.rules.specs.Plans.{Deed, becomes, wakes, timed, unloaded, Event, on, clocked, held, numbered, renewed, Plan, refused, done}
 use Rattle.rules.specs.Plans.{releasing, waiting, nothing, releaseOf, View, eventsOf, Release, woken, wake}
 use Rattle.rules.specs.Rules.{waits, dismissed, order, dueAt, ticked, takes, gives, call, head, plan}
+use Rattle.rules.specs.Keeper.{Keeper, State, step, play}
 use Rattle.rules.specs.Frame.{Party, calls, takes-name, ordered, son, started, due, Woken, tracks-freed, reason-gone}
 use Rattle.rules.specs.Frame as party
 use Rattle.rules.proofs.shared.Places.{all-in}
 use Rattle.rules.proofs.shared.Walk.{Refuses, by-need, by-either, by-found, by-named, by-inside, by-allocated, by-caller, by-waits}
-use Rattle.rules.proofs.shared.Ordering.{woken-from}
+use Rattle.rules.proofs.shared.Ordering.{woken-none, woken-from}
 
 -- what each event does is of a kind: P of a deed of a program, F of fresh tables
 abbrev pub Upon : (ℕ → Deed → Type 0) → Type 0 → List Event → Type 0
@@ -51,6 +52,23 @@ pub data By (v : View) (P : ℕ → Deed → Type 0) (R : Release) (p : ℕ) (d 
   as-party : P p d → By v P R p d
   as-woken : d ≡ wakes → Woken v R p → By v P R p d
 
+-- the events of a plan but its wakings; its events are these, and then the wakings
+abbrev pub ownOf : Plan → List Event
+ownOf (refused a v) = []
+ownOf (done vs es) = es
+ownOf (releasing vs es R) = es
+ownOf (waiting s es) = es
+
+pub in-two : (v : View) (x : Plan) → eventsOf v x ≡ ownOf x ++ wake (woken v (releaseOf x))
+in-two v (refused a y) = ap wake (sym (woken-none v))
+in-two v (done vs es) = sym (ap (λ (c : List ℕ). es ++ wake c) (woken-none v) ∙ append-nil es)
+in-two v (releasing vs es R) = refl
+in-two v (waiting s es) = sym (ap (λ (c : List ℕ). es ++ wake c) (woken-none v) ∙ append-nil es)
+
+pub play-append : (K : Keeper) (es fs : List Event) (t : State K) → play K (es ++ fs) t ≡ play K fs (play K es t)
+play-append K [] fs t = refl
+play-append K (e ∷ es) fs t = play-append K es fs (step K e t)
+
 -- a refusal's number is one of 2 to 11
 abbrev pub Listed : Plan → Type 0
 Listed (refused a v) = upTo 2 11 a ≡ true
@@ -60,6 +78,7 @@ Listed (waiting s es) = Unit {0}
 
 pub record Of (P : ℕ → Deed → Type 0) (F : Type 0) (v : View) (x : Plan) : Type 0 where
   pub events : Upon (By v P (releaseOf x)) F (eventsOf v x)
+  pub own : Upon P F (ownOf x)
   pub number : Listed x
 
 -- what is asked holds of those who have to do with the request
@@ -110,19 +129,20 @@ module _ (P : ℕ → Deed → Type 0) (F : Type 0) (v : View) where
   of-party R = upon-map P (By v P R) F F (λ p d. as-party) (λ f. f)
 
   of-done : (vs : List ℕ) (es : List Event) → Upon P F es → Of P F v (done vs es)
-  of-done vs es u = record { events = of-party nothing es u; number = tt }
+  of-done vs es u = record { events = of-party nothing es u; own = u; number = tt }
 
   of-waiting : (s : ℕ) (es : List Event) → Upon P F es → Of P F v (waiting s es)
-  of-waiting s es u = record { events = of-party nothing es u; number = tt }
+  of-waiting s es u = record { events = of-party nothing es u; own = u; number = tt }
 
   of-releasing : (vs : List ℕ) (es : List Event) (R : Release) → Upon P F es → Of P F v (releasing vs es R)
   of-releasing vs es R u = record {
     events = upon-append (By v P R) F es (wake (woken v R)) (of-party R es u) (upon-wake R (woken v R) (woken-waits v R));
+    own = u;
     number = tt;
   }
 
   fails : Refuses (Of P F v)
-  fails = record { listed = λ a n l. record { events = tt; number = l } }
+  fails = record { listed = λ a n l. record { events = tt; own = tt; number = l } }
 
   of-waits : (c w s : ℕ) (y : Why) → ((d : Deed) → P c d) → Of P F v (waits c w s y)
   of-waits c w s y h = by-waits fails _ _ _ _ (of-waiting _ _ (h _, tt))
@@ -139,7 +159,9 @@ module _ (P : ℕ → Deed → Type 0) (F : Type 0) (v : View) where
   order-of : (o : Order) (p : ℕ) → ((d : Deed) → P p d) → Of P F v (order v o p)
   unfolding order
   order-of RU p h = by-inside fails _ _ _ _ (λ s. of-done _ _ (h _, tt))
-  order-of SS p h = by-inside fails _ _ _ _ (λ s. of-done _ _ (h _, tt))
+  order-of SS p h =
+      by-either fails _ _ _ (λ w. by-either fails _ _ _ (λ m. of-done _ _ tt) (of-done _ _ (h _, tt)))
+      (by-inside fails _ _ _ _ (λ s. of-done _ _ (h _, tt)))
   order-of GO p h = by-inside fails _ _ _ _ (λ s. of-done _ _ (h _, tt))
   order-of (PR n) p h = of-done _ _ (h _, tt)
   order-of (OF k) p h = of-releasing _ _ _ (upon-append P F (dismissed k p) _ (upon-dismissed k p h) tt)

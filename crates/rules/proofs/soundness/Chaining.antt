@@ -13,12 +13,10 @@ use borrow.Author.Tests.{eqb-false}
 use Rattle.lists.specs.Lists.{same, count, insert, remove, Ascending}
 use Rattle.lists.proofs.Laws.{same-eq}
 use Rattle.records.specs.declared.Program.{Program}
-use Rattle.records.specs.declared.Why.{Why}
-use Rattle.records.specs.declared.Why.the-variants.{Nothing}
-use Rattle.records.specs.Records.{Known, recordAt, withPriority}
-use Rattle.rules.specs.Book.{at, stateOf, prioOf, whyOf}
-use Rattle.rules.specs.Plans.{Deed, becomes, wakes, priced, loaded, unloaded, timed}
-use Rattle.rules.specs.Keeper.{lists, entries, State, leave, enter, amend, act}
+use Rattle.records.specs.Records.{Known, recordAt, inState, waitOver, withPriority}
+use Rattle.rules.specs.Book.{at, stateOf, prioOf}
+use Rattle.rules.specs.Plans.{Deed, becomes, wakes, priced, loaded, unloaded, timed, marked}
+use Rattle.rules.specs.Keeper.{lists, entries, State, leave, enter, act}
 use Rattle.rules.specs.Sound.{Chains}
 use Rattle.rules.proofs.keepers.Alike.{Alike, act-alike}
 use Rattle.rules.proofs.keepers.Notes.{notes, alike-chained, chained-alike}
@@ -67,19 +65,20 @@ spared s k c e = go (eqb s 0) refl
 leave-dormant : (p : ℕ) (a : State lists) → getD (a .kept) 0 [] ≡ [] → getD (leave lists p a .kept) 0 [] ≡ []
 leave-dormant p a = spared (stateOf (a .book) p) (a .kept) (remove p (getD (a .kept) (stateOf (a .book) p) []))
 
-enter-dormant : (p s : ℕ) (w : Why) (a : State lists) → getD (a .kept) 0 [] ≡ [] → getD (enter lists p s w a .kept) 0 [] ≡ []
-enter-dormant p s w a = spared s (a .kept) (insert (prioOf (enter lists p s w a .book)) p (getD (a .kept) s []))
+shift-dormant : (p : ℕ) (r : Program) (a : State lists) → getD (a .kept) 0 [] ≡ [] → getD (enter lists p r (leave lists p a) .kept) 0 [] ≡ []
+shift-dormant p r a e =
+    let u : State lists = leave lists p a in
+    spared (r .state) (u .kept) (insert (prioOf (enter lists p r u .book)) p (getD (u .kept) (r .state) [])) (leave-dormant p a e)
 
 act-dormant : (p : ℕ) (d : Deed) (a : State lists) → getD (a .kept) 0 [] ≡ [] → getD (act lists p d a .kept) 0 [] ≡ []
 unfolding act
-act-dormant p (becomes s w) a e = enter-dormant p s w (leave lists p a) (leave-dormant p a e)
-act-dormant p wakes a e = enter-dormant p 1 Nothing (leave lists p a) (leave-dormant p a e)
-act-dormant p (priced n) a e =
-    enter-dormant p (stateOf (a .book) p) (whyOf (a .book) p)
-    (amend lists p (withPriority n (at (leave lists p a .book) p)) (leave lists p a)) (leave-dormant p a e)
+act-dormant p (becomes s w) a e = shift-dormant p (inState s w (at (a .book) p)) a e
+act-dormant p wakes a e = shift-dormant p (waitOver (at (a .book) p)) a e
+act-dormant p (priced n) a e = shift-dormant p (withPriority n (at (a .book) p)) a e
 act-dormant p (loaded nm n) a e = leave-dormant p a e
 act-dormant p unloaded a e = leave-dormant p a e
 act-dormant p (timed d i) a e = e
+act-dormant p marked a e = e
 
 module _ (p : ℕ) (P : Known p) where
   pub act-order : (d : Deed) (a : State lists) → InOrder a → InOrder (act lists p d a)

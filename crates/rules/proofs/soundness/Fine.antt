@@ -19,7 +19,7 @@ use Rattle.records.specs.declared.Resource.{Resource}
 use Rattle.records.specs.declared.Why.{Why}
 use Rattle.records.specs.declared.Why.the-variants.{Nothing, Tracks, Son, Lock, Number}
 use Rattle.records.specs.Names.{legal}
-use Rattle.records.specs.Records.{Known, known, recordAt, unused}
+use Rattle.records.specs.Records.{Known, known, recordAt, unused, inWait}
 use Rattle.records.specs.Numbers.{globally, numberAt}
 use Rattle.tracks.specs.Tracks.{nobody, system}
 use Rattle.rules.specs.Book.{Book, at, stateOf, whyOf, altered}
@@ -62,10 +62,12 @@ pub record Right (low high T R : ℕ) (r : Program) : Type 0 where
   pub priority : r .priority ≤ 32767
   pub timer : Timer low high (r .due) (r .interval)
   pub fitting : alone T R (r .state) (r .why) ≡ true
+  pub waiter : r .suspend ≡ true → inWait (r .state) ≡ true
 
 -- another timer, or other bounds
 pub right-timed : (l h l′ h′ T R : ℕ) (r : Program) → Right l h T R r → Timer l′ h′ (r .due) (r .interval) → Right l′ h′ T R r
-right-timed l h l′ h′ T R r G t = record { lawful = G .lawful; empty = G .empty; priority = G .priority; timer = t; fitting = G .fitting }
+right-timed l h l′ h′ T R r G t =
+    record { lawful = G .lawful; empty = G .empty; priority = G .priority; timer = t; fitting = G .fitting; waiter = G .waiter }
 
 -- k is a son that p may await
 pub record Sonny (x : ℕ) (ps : List Program) (p k : ℕ) : Type 0 where
@@ -196,6 +198,7 @@ sound-fine a S = record {
     priority = S .limits .priority p P;
     timer = record { timeless = S .zeros .timeless p P; above = S .dues .above p P; near = S .dues .near p P; steps = S .dues .steps p P };
     fitting = suits-alone (a .book) p (stateOf (a .book) p) (whyOf (a .book) p) (S .whys .fitting p P);
+    waiter = S .marks .waiters p P;
   };
   distinct = S .names .distinct;
   sons = λ p k P e. suits-son (a .book) p (stateOf (a .book) p) k (whyOf (a .book) p) (S .whys .fitting p P) e;
@@ -244,6 +247,7 @@ fine-sound c a F = record {
     fitting = λ p P. suits-both (a .book) p (stateOf (a .book) p) (whyOf (a .book) p) (F .right p P .fitting) (λ k e. F .sons p k P e);
     once = F .once;
   };
+  marks = record { waiters = λ p P. F .right p P .waiter };
   system = record { below = λ i l. F .tracked .each i l .below; just = λ i l. F .tracked .each i l .just };
   users = record {
     hold = λ i l h. F .tracked .each i l .user h (λ e. omega (arith, e, h .0));

@@ -15,20 +15,20 @@ use Rattle.records.specs.Names.{legal}
 use Rattle.records.specs.Records.{Known, find, lowestUnused}
 use Rattle.tracks.specs.Tracks.{nobody, replaced}
 use Rattle.rules.specs.Requests.{Order, RU, SS, GO, PR, OF, Request, FRESH, LOAD, operator, TICK, running}
-use Rattle.rules.specs.Plans.{priced, loaded, on, Release}
+use Rattle.rules.specs.Plans.{priced, loaded, marked, on, Release}
 use Rattle.rules.specs.Rules.{allowed, order, call, endsIn, ends, sizes, plan}
 use Rattle.rules.specs.Keeper.{lists, State, step, view, after}
 use Rattle.rules.specs.Sound.{Sound}
 use Rattle.rules.proofs.shared.Finding.{find-none, unused-known, unused-is}
 use Rattle.rules.proofs.soundness.Fine.{Fine, fine-sound}
 use Rattle.rules.proofs.soundness.Apt.{fine-on}
-use Rattle.rules.proofs.soundness.Making.{nothing-childless, apt-priced, apt-loaded}
+use Rattle.rules.proofs.soundness.Making.{nothing-childless, apt-priced, apt-marked, apt-loaded}
 use Rattle.rules.proofs.soundness.Waking.{Callable}
 use Rattle.rules.proofs.soundness.Ending.{off-fine}
 use Rattle.rules.proofs.shared.Settling.{off-events}
 use Rattle.rules.proofs.soundness.Ticking.{tick-fine}
 use Rattle.rules.proofs.soundness.SoundFresh.{sound-fresh}
-use Rattle.rules.proofs.shared.Walk.{by-need, by-inside}
+use Rattle.rules.proofs.shared.Walk.{by-need, by-either, by-inside}
 use Rattle.rules.proofs.soundness.Keeping.{Keeps, strict, refusing, before, keeps, keeps-named, keeps-caller, become-fine}
 use Rattle.rules.proofs.soundness.SoundCalls.{keeps-call}
 use Rattle.rules.proofs.Statements.{runs}
@@ -39,7 +39,10 @@ module _ (a : State lists) (S : Sound a) where
   keeps-order RU e p P =
       by-inside (refusing a S) _ p 0 _ λ z. keeps a S _ (become-fine a S p P 1 Nothing refl nothing-childless (λ i. omega arith))
   keeps-order SS e p P =
-      by-inside (refusing a S) _ p 1 _ λ z. keeps a S _ (become-fine a S p P 6 Nothing refl nothing-childless (λ i. omega arith))
+      by-either (refusing a S) _ _ _
+      (λ w. by-either (refusing a S) _ _ _ (λ m. keeps a S _ (before a S))
+      (keeps a S _ (fine-on (strict a) p (P .0) marked a (before a S) (apt-marked (strict a) a (before a S) p (P .0) (P .1) w))))
+      (by-inside (refusing a S) _ p 1 _ λ z. keeps a S _ (become-fine a S p P 6 Nothing refl nothing-childless (λ i. omega arith)))
   keeps-order GO e p P =
       by-inside (refusing a S) _ p 6 _ λ z. keeps a S _ (become-fine a S p P 1 Nothing refl nothing-childless (λ i. omega arith))
   keeps-order (PR n) e p P =

@@ -1,24 +1,25 @@
 -- Waking keeps what is fine so, and leaves each record that it does not wake. The woken stood in chain 3 or 5; one who awaited
 -- the program that ended is among them.
 -- Assumes nothing.
-use Prim.Native.Nat.{ℕ, _≤_, _<_}
+use Prim.Native.Nat.{ℕ, _+_, _≤_, _<_}
 use native.Mathlib.Omega.{arith}
 use native.Mathlib.Decide.{ℕ-discrete, decLe}
-use mathlib.Core.Path.{_≡_, refl, ap, _∙_, subst}
+use mathlib.Core.Path.{_≡_, refl, sym, ap, _∙_, subst}
 use mathlib.Core.Logic.{_≢_}
-use mathlib.Core.Bool.{Bool, true, cond}
-use mathlib.Core.List.{List, [], _∷_}
+use mathlib.Core.Bool.{Bool, true, false, cond}
+use mathlib.Core.List.{List, [], _∷_, _++_}
 use lib.ListN.{length, getD}
 use lib.Dec.{ltb}
 use borrow.Author.Tests.{eqb-true, eq-eqb, lt-ltb}
 use Rattle.lists.specs.Lists.{same, count, keep, remove}
-use Rattle.lists.proofs.Laws.{same-refl, same-ne, same-le, count-remove, count-remove-le, count-keep, remove-absent, count-append}
+use Rattle.lists.proofs.Laws.{same-refl, same-ne, same-le, count-remove, count-remove-le, count-keep, keep-le, remove-absent}
+use Rattle.lists.proofs.Laws.{count-append}
 use Rattle.records.specs.declared.Program.{Program}
 use Rattle.records.specs.declared.Why.{Why}
 use Rattle.records.specs.declared.Why.the-variants.{Nothing, Son}
-use Rattle.records.specs.Records.{Known, recordAt}
+use Rattle.records.specs.Records.{Known, recordAt, waitOver}
 use Rattle.rules.specs.Book.{at, stateOf, whyOf}
-use Rattle.rules.specs.Plans.{wakes, on, Release, awaits, woken, wake}
+use Rattle.rules.specs.Plans.{wakes, on, Release, awaits, fromGeneral, woken, wake}
 use Rattle.rules.specs.Keeper.{lists, State, step, play, view}
 use Rattle.rules.proofs.shared.Deeds.{made, Turned, turned-each, step-turned}
 use Rattle.rules.proofs.shared.Ordering.{woken-from}
@@ -47,11 +48,12 @@ fine-wake e (q ∷ qs) a F h =
 -- the records after a waking
 pub record Woke (c : List ℕ) (ps qs : List Program) : Type 0 where
   pub freed : (z : ℕ) → 1 ≤ count z c → recordAt qs z .why ≡ Nothing
+  pub over : (z : ℕ) → count z c ≡ 1 → recordAt qs z ≡ waitOver (recordAt ps z)
   pub rest : (z : ℕ) → Known z → count z c ≡ 0 → recordAt qs z ≡ recordAt ps z
 
 pub woke : (c : List ℕ) (a : State lists) → length (a .book .programs) ≡ 32 → ((q : ℕ) → 1 ≤ count q c → Known q)
     → Woke c (a .book .programs) (play lists (wake c) a .book .programs)
-woke [] a L h = record { freed = λ z k. absurd (omega arith); rest = λ z Z k. refl }
+woke [] a L h = record { freed = λ z k. absurd (omega arith); over = λ z k. absurd (omega arith); rest = λ z Z k. refl }
 woke (q ∷ qs) a L h =
     let Q = h q (omega (arith, same-refl q)) in
     let T = step-turned lists q Q wakes a L in
@@ -62,6 +64,7 @@ woke (q ∷ qs) a L h =
         → Woke (q ∷ qs) (a .book .programs) (play lists (wake qs) b .book .programs)
     go b Q T W = record {
       freed = λ z k. here z k (decLe 1 (count z qs)) (ℕ-discrete z q);
+      over = λ z k. once z k (ℕ-discrete z q);
       rest = λ z Z k. W .rest z Z (omega arith) ∙ T .rest z Z (λ e. omega (arith, same-refl z, ap (same z) e));
     }
       where
@@ -71,6 +74,17 @@ woke (q ∷ qs) a L h =
         here z k (no l) (yes e) =
             ap (λ (x : Program). x .why) (W .rest z (rw e Q) (omega (arith, l)) ∙ ap (recordAt (b .book .programs)) e ∙ T .here)
         here z k (no l) (no n) = absurd (omega (arith, l, same-ne z q n))
+
+        known : (z : ℕ) → 1 ≤ count z (q ∷ qs) → Known z
+        known = h
+
+        once : (z : ℕ) → count z (q ∷ qs) ≡ 1 → Dec (z ≡ q)
+            → recordAt (play lists (wake qs) b .book .programs) z ≡ waitOver (recordAt (a .book .programs) z)
+        once z k (yes e) =
+            W .rest z (rw e Q) (omega (arith, same-refl z, ap (same z) e)) ∙ ap (recordAt (b .book .programs)) e ∙ T .here
+            ∙ ap (λ (x : ℕ). waitOver (recordAt (a .book .programs) x)) (sym e)
+        once z k (no n) =
+            W .over z (omega (arith, same-ne z q n)) ∙ ap waitOver (T .rest z (known z (omega (arith, k))) n)
 
 -- counts in a chain that a program has left
 count-other : (z p : ℕ) (c : List ℕ) → z ≢ p → count z (remove p c) ≡ count z c
@@ -109,6 +123,52 @@ module _ (e : Slack) (a : State lists) (F : Fine e a) where
         woken-from (view lists a) R x (Callable (a .book .programs) x) h
         (λ t k. chained 5 (omega arith) (omega arith) x (omega (arith, count-remove-le x (R .ended) (getD (a .kept) 5 []))) .0)
         (λ w k. chained 3 (omega arith) (omega arith) x (omega (arith, count-remove-le x (R .ended) (getD (a .kept) 3 []))) .0)
+
+    -- each wakes once, having been in one chain
+    pub woken-once : (x : ℕ) → count x (woken (view lists a) R) ≤ 1
+    unfolding woken
+    woken-once x = at-most (decLe 1 (count x (woken (view lists a) R)))
+      where
+        c₅ : List ℕ
+        c₅ = remove (R .ended) (getD (a .kept) 5 [])
+
+        c₃ : List ℕ
+        c₃ = fromGeneral (view lists a) R
+
+        few : count x c₃ ≤ count x (getD (a .kept) 3 [])
+        few = omega (
+          arith,
+          keep-le (λ q. awaits R (whyOf (a .book) q)) x (remove (R .ended) (getD (a .kept) 3 [])),
+          count-remove-le x (R .ended) (getD (a .kept) 3 []),
+        )
+
+        apart : Known x → Dec (stateOf (a .book) x ≡ 3) → count x (getD (a .kept) 5 []) + count x (getD (a .kept) 3 []) ≤ 1
+        apart X (yes i) = omega (
+          arith,
+          F .order .chain 5 (omega arith) (omega arith) .member x X,
+          same-ne (stateOf (a .book) x) 5 (λ j. omega (arith, i, j)),
+          once-in 3 (omega arith) (omega arith) x X,
+        )
+        apart X (no n) = omega (
+          arith,
+          F .order .chain 3 (omega arith) (omega arith) .member x X,
+          same-ne (stateOf (a .book) x) 3 n,
+          once-in 5 (omega arith) (omega arith) x X,
+        )
+
+        go : Known x → (b : Bool) → count x (cond b c₅ [] ++ c₃) ≤ 1
+        go X true = omega (
+          arith,
+          count-append x c₅ c₃,
+          few,
+          count-remove-le x (R .ended) (getD (a .kept) 5 []),
+          apart X (ℕ-discrete (stateOf (a .book) x) 3),
+        )
+        go X false = omega (arith, few, apart X (ℕ-discrete (stateOf (a .book) x) 3))
+
+        at-most : Dec (1 ≤ count x (woken (view lists a) R)) → count x (woken (view lists a) R) ≤ 1
+        at-most (yes h) = go (woken-callable x h .0) (ltb 0 (R .tracks))
+        at-most (no h) = omega (arith, h)
 
     pub woken-other : Known (R .ended) → (x : ℕ) → 1 ≤ count x (woken (view lists a) R) → x ≢ R .ended
     woken-other E x h i =

@@ -9,7 +9,7 @@ use mathlib.Core.Bool.{Bool, true, false, not, _&&_, _||_}
 use mathlib.Core.List.{List}
 use lib.ListN.{getD}
 use lib.Dec.{leb, ltb, eqb}
-use borrow.Author.Tests.{eq-eqb, ne-eqb, eqb-true, eqb-false, leb-true, le-leb, ltb-true, lt-ltb}
+use borrow.Author.Tests.{not-true, eq-eqb, ne-eqb, eqb-true, eqb-false, leb-true, le-leb, ltb-true, lt-ltb}
 use Rattle.lists.specs.Lists.{alike}
 use Rattle.lists.proofs.Tests.{false-true, clash, both, and, unless, implies, otherwise, or, along-in, along-is, alike-true, alike-refl}
 use Rattle.clock.specs.Clock.{farthest}
@@ -18,12 +18,13 @@ use Rattle.records.specs.declared.Resource.{Resource}
 use Rattle.records.specs.declared.Why.{Why}
 use Rattle.records.specs.declared.Why.the-variants.{Nothing, Tracks, Son, Lock, Number}
 use Rattle.records.specs.Names.{legal}
-use Rattle.records.specs.Records.{Known, known, missing, unused}
+use Rattle.records.specs.Records.{Known, known, missing, unused, inWait}
 use Rattle.records.specs.Numbers.{free, numberAt}
 use Rattle.tracks.specs.Tracks.{nobody}
 use Rattle.rules.specs.Book.{Book, at, stateOf, whyOf, holderOf}
-use Rattle.rules.specs.Sound.{Ours, Names, Zeros, suits, Whys, Dues}
-use Rattle.rules.specs.Test.{programs, tracks, numbers, nothing, sonOf, zeros, testNames, testZeros, testWhys, testDues}
+use Rattle.rules.specs.Sound.{Ours, Names, Zeros, suits, Whys, Marks, Dues}
+use Rattle.rules.specs.Test.{programs, tracks, numbers, nothing, sonOf, zeros, testNames, testZeros, testWhys, testMarks}
+use Rattle.rules.specs.Test.{testDues}
 use Rattle.rules.proofs.shared.Places.{known-true}
 
 -- every program, track and number
@@ -116,8 +117,11 @@ nothing-true Number e = false-true e
 
 zeros-true : (r : Program) → zeros r ≡ true → r .used ≡ false → r ≡ unused
 zeros-true r e u =
+    let b6 =
+    both (alike (r .name) (unused .name) && eqb (r .priority) 0 && eqb (r .state) 0 && nothing (r .why) && eqb (r .due) 0 && eqb (r .interval) 0)
+    (not (r .suspend)) e in
     let b5 = both (alike (r .name) (unused .name) && eqb (r .priority) 0 && eqb (r .state) 0 && nothing (r .why) && eqb (r .due) 0)
-    (eqb (r .interval) 0) e in
+    (eqb (r .interval) 0) (b6 .0) in
     let b4 = both (alike (r .name) (unused .name) && eqb (r .priority) 0 && eqb (r .state) 0 && nothing (r .why))
     (eqb (r .due) 0) (b5 .0) in
     let b3 = both (alike (r .name) (unused .name) && eqb (r .priority) 0 && eqb (r .state) 0) (nothing (r .why)) (b4 .0) in
@@ -129,7 +133,8 @@ zeros-true r e u =
     let e4 = nothing-true (r .why) (b3 .1) in
     let e5 = eqb-true (r .due) 0 (b4 .1) in
     let e6 = eqb-true (r .interval) 0 (b5 .1) in
-    λ i. record { used = u i; name = e1 i; priority = e2 i; state = e3 i; why = e4 i; due = e5 i; interval = e6 i }
+    let e7 = not-true (r .suspend) (b6 .1) in
+    λ i. record { used = u i; name = e1 i; priority = e2 i; state = e3 i; why = e4 i; due = e5 i; interval = e6 i; suspend = e7 i }
 
 tidy : Program → Bool
 tidy r = (r .used || zeros r) && (not (eqb (r .due) 0) || eqb (r .interval) 0)
@@ -226,6 +231,19 @@ whys-test b W =
     eqb-false p q w
     (W .once p q (sonOf (whyOf b p)) P Q (son-why (whyOf b p) (sonOf (whyOf b p)) l refl)
     (son-why (whyOf b q) (sonOf (whyOf b p)) l (sym s))))))))))
+
+-- marks
+marked-well : Program → Bool
+marked-well r = not (r .suspend) || inWait (r .state)
+
+pub marks-clause : (b : Book) → testMarks b ≡ true → Marks b
+unfolding testMarks marked-well
+marks-clause b e =
+    record { waiters = λ p P u. unless (at b p .suspend) (inWait (stateOf b p)) (program-in b (λ p r. marked-well r) e p P) u }
+
+pub marks-test : (b : Book) → Marks b → testMarks b ≡ true
+unfolding testMarks marked-well
+marks-test b M = program-is b (λ p r. marked-well r) (λ p P. implies (at b p .suspend) (inWait (stateOf b p)) (M .waiters p P))
 
 -- dues
 in-time : Book → Program → Bool
