@@ -15,14 +15,15 @@ use Rattle.clock.specs.Clock.{unit}
 use Rattle.records.specs.declared.Program.{Program}
 use Rattle.records.specs.declared.Why.the-variants.{Nothing, Son}
 use Rattle.records.specs.Names.{legal}
-use Rattle.records.specs.Records.{Known, find, lowestUnused}
+use Rattle.records.specs.Records.{Known, inWait, find, lowestUnused}
 use Rattle.tracks.specs.Tracks.{nobody, replaced}
-use Rattle.rules.specs.Book.{stateOf, prioOf}
-use Rattle.rules.specs.Requests.{LOAD, PR, OF}
-use Rattle.rules.specs.Plans.{Plan, View, refused, done, releasing, waiting, on, becomes, loaded, priced, timed, held}
+use Rattle.rules.specs.Book.{at, stateOf, prioOf}
+use Rattle.rules.specs.Requests.{LOAD, SS, PR, OF}
+use Rattle.rules.specs.Plans.{Plan, View, refused, done, releasing, waiting, on, becomes, loaded, priced, timed, marked, held}
 use Rattle.rules.specs.Rules.{plan, order, dismissed, quit, ends}
 use Rattle.rules.proofs.shared.Finding.{find-bears, unused-known}
-use Rattle.rules.proofs.shared.Paths.{need-met, need-failed, named-illegal, named-missing, named-found, inside-met, inside-failed}
+use Rattle.rules.proofs.shared.Paths.{need-met, need-failed, either-so, either-not, named-illegal, named-missing, named-found}
+use Rattle.rules.proofs.shared.Paths.{inside-met, inside-failed}
 use Rattle.decisions.specs.declared.naming.Task.{Task}
 use Rattle.decisions.specs.declared.naming.Named.{Named}
 use Rattle.decisions.specs.declared.naming.Named.the-variants.{Is, Missing, Illegal}
@@ -76,6 +77,19 @@ module _ (v : View) (p s : ℕ) (S : stateOf (v .book) p ≡ s) where
   pub awaiting-done : (c : ℕ) → s ≡ 0 → awaiting v c p ≡ waiting 3 (on p (becomes 1 Nothing) ∷ on c (becomes 3 (Son p)) ∷ [])
   unfolding awaiting
   awaiting-done c e = inside-met v p 0 _ (S ∙ e)
+
+  -- SS: who waits, with a mark or without; and who does not
+  pub suspending-again : inWait s ≡ true → at (v .book) p .suspend ≡ true → order v SS p ≡ done (0 ∷ []) []
+  unfolding order
+  suspending-again w m = either-so _ _ (ap inWait S ∙ w) ∙ either-so _ _ m
+
+  pub suspending-marks : inWait s ≡ true → at (v .book) p .suspend ≡ false → order v SS p ≡ done (0 ∷ []) (on p marked ∷ [])
+  unfolding order
+  suspending-marks w m = either-so _ _ (ap inWait S ∙ w) ∙ either-not _ _ m
+
+  pub suspending-goes : inWait s ≡ false → order v SS p ≡ going v p 1 6 0
+  unfolding order going
+  suspending-goes w = either-not _ _ (ap inWait S ∙ w)
 
 -- PR, OF, EXEC 12
 pub pricing : (v : View) (n p k : ℕ) → prioOf (v .book) p ≡ k → order v (PR n) p ≡ done (k ∷ []) (on p (priced n) ∷ [])

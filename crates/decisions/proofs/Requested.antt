@@ -60,7 +60,7 @@ module _ (v : View) where
 -- an order is a task of the program that it names
 pub order-fits : (o : Order) → Fits 0 (taskOf o)
 order-fits Ru = omega arith
-order-fits Ss = omega arith
+order-fits Ss = tt
 order-fits Go = omega arith
 order-fits (Pr n) = tt
 order-fits (Of k) = tt

@@ -25,13 +25,14 @@ use Rattle.rules.specs.declared.Order as code
 use Rattle.rules.specs.declared.Order.the-variants as order
 use Rattle.rules.specs.Answers.{number, values}
 use Rattle.rules.specs.Book.{Book, at, stateOf}
-use Rattle.rules.specs.Requests.{PR, OF}
-use Rattle.rules.specs.Plans.{Event, on, becomes, priced, loaded, timed, clocked, held, renewed, Plan, refused, done, releasing, waiting}
+use Rattle.rules.specs.Requests.{SS, PR, OF}
+use Rattle.rules.specs.Plans.{Event, on, becomes, priced, loaded, timed, marked, clocked, held, renewed, Plan, refused, done}
+use Rattle.rules.specs.Plans.{releasing, waiting}
 use Rattle.rules.specs.Plans.{View, woken, wake, need, either, numberOf, valuesOf, eventsOf}
 use Rattle.rules.specs.Rules.{named, inside, waits, frees, clears, ends, quit, dismissed, order, dueAt, ticked, allocated, assigned}
 use Rattle.ledger.specs.declared.Ledger.{Ledger}
 use Rattle.decisions.specs.declared.Effect.{Effect}
-use Rattle.decisions.specs.declared.Effect.the-variants.{Stay, Renew, Load, Price, Time, Become, Await, Dismiss, End}
+use Rattle.decisions.specs.declared.Effect.the-variants.{Stay, Renew, Load, Price, Time, Mark, Become, Await, Dismiss, End}
 use Rattle.decisions.specs.declared.Effect.the-variants.{Take, Give, GiveAll, Number, Release, Tick}
 use Rattle.decisions.specs.declared.Decision.{Decision}
 use Rattle.decisions.specs.declared.naming.Task.{Task}
@@ -55,6 +56,7 @@ eventsFor v nm (Renew T S R) = renewed T S R ∷ []
 eventsFor v nm (Load p n) = on p (loaded nm n) ∷ []
 eventsFor v nm (Price p n) = on p (priced n) ∷ []
 eventsFor v nm (Time p d i) = on p (timed d i) ∷ []
+eventsFor v nm (Mark p) = on p marked ∷ []
 eventsFor v nm (Become p s w) = on p (becomes s w) ∷ []
 eventsFor v nm (Await p c) = on p (becomes scheduled why.Nothing) ∷ on c (becomes general (why.Son p)) ∷ []
 eventsFor v nm (Dismiss p k n) =
@@ -74,6 +76,7 @@ replyFor v a (Renew T S R) = (0, 0 ∷ [])
 replyFor v a (Load p n) = (number a, values a)
 replyFor v a (Price p n) = (number a, values a)
 replyFor v a (Time p d i) = (number a, values a)
+replyFor v a (Mark p) = (number a, values a)
 replyFor v a (Become p s w) = (number a, values a)
 replyFor v a (Await p c) = (number a, values a)
 replyFor v a (Dismiss p k n) = (number a, values a)
@@ -99,6 +102,7 @@ Apt v (Renew T S R) = Sizes T S R
 Apt v (Load p n) = Known p
 Apt v (Price p n) = Known p
 Apt v (Time p d i) = Known p
+Apt v (Mark p) = Known p
 Apt v (Become p s w) = Known p × (s < states)
 Apt v (Await p c) = Known p × Known c
 Apt v (Dismiss p k n) = Known p × (n ≡ count p (v .book .holders))
@@ -197,6 +201,7 @@ timerAllowed res mult off = upTo 1 4 res && leb mult mostUnits && upTo 1 mostUni
 
 abbrev pub permitted : Task → Bool
 permitted (task.Shift a b) = true
+permitted task.Suspend = true
 permitted (task.Price n) = upTo 1 lastPriority n
 permitted (task.Dismiss k) = eqb k 1 || eqb k 8
 permitted task.Await = true
@@ -216,6 +221,7 @@ awaiting v c p = inside v p dormant (waiting general (on p (becomes scheduled wh
 
 abbrev pub performed : View → ℕ → Task → ℕ → Plan
 performed v c (task.Shift a b) p = going v p a b 0
+performed v c task.Suspend p = order v SS p
 performed v c (task.Price n) p = order v (PR n) p
 performed v c (task.Dismiss k) p = order v (OF k) p
 performed v c task.Await p = awaiting v c p
@@ -228,6 +234,7 @@ asking v c nm q = need (permitted q) 3 0 (named v nm (performed v c q))
 -- a task for which c may ask
 abbrev pub Fits : ℕ → Task → Type 0
 Fits c (task.Shift a b) = b < states
+Fits c task.Suspend = Unit {0}
 Fits c (task.Price n) = Unit {0}
 Fits c (task.Dismiss k) = Unit {0}
 Fits c task.Await = Known c
@@ -263,7 +270,7 @@ pub record CanAwait (c p : ℕ) : Type 0 where
 
 abbrev pub taskOf : code.Order → Task
 taskOf order.Ru = task.Shift dormant scheduled
-taskOf order.Ss = task.Shift scheduled suspended
+taskOf order.Ss = task.Suspend
 taskOf order.Go = task.Shift suspended scheduled
 taskOf (order.Pr n) = task.Price n
 taskOf (order.Of k) = task.Dismiss k

@@ -76,7 +76,7 @@ fn task_of(o: Order) -> Task
 {
     match o {
         Order::Ru => Task::Shift(DORMANT, SCHEDULED),
-        Order::Ss => Task::Shift(SCHEDULED, SUSPENDED),
+        Order::Ss => Task::Suspend,
         Order::Go => Task::Shift(SUSPENDED, SCHEDULED),
         Order::Pr(n) => Task::Price(n),
         Order::Of(k) => Task::Dismiss(k),

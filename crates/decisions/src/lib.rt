@@ -24,6 +24,7 @@ pub enum Effect {
     Load(u8, u16),
     Price(u8, u16),
     Time(u8, u64, u64),
+    Mark(u8),
     Become(u8, u8, Why),
     Await(u8, u8),
     Dismiss(u8, u64, usize),

@@ -6,12 +6,13 @@ ghost use mathlib.Core.List.{List};
 ghost use lib.Dec.{eqb};
 ghost use Rattle.limits.specs.Limits.{lastPriority};
 ghost use Rattle.lists.specs.Lists.{upTo};
+ghost use Rattle.records.specs.Records.{Known};
 ghost use Rattle.rules.specs.Plans.{View};
 ghost use Rattle.rules.specs.Rules.{plan};
 ghost use Rattle.rules.specs.Requests.{LOAD};
-ghost use Rattle.rules.specs.Book.{stateOf, prioOf};
+ghost use Rattle.rules.specs.Book.{at, stateOf, prioOf};
 ghost use Rattle.rules.specs.Rules.{order};
-ghost use Rattle.rules.specs.Requests.{PR, OF};
+ghost use Rattle.rules.specs.Requests.{SS, PR, OF};
 ghost use Rattle.decisions.specs.Inner.{Decides, OfTracks, OfBook, OfParts, NamedBy, CanWait, CanAwait};
 ghost use Rattle.decisions.specs.Inner.{CanDismiss, CanTime, CanPrice, CanPerform, CanAsk, timerAllowed};
 ghost use Rattle.decisions.specs.Inner.{permitted, going, awaiting, winding, performed, asking};
@@ -25,15 +26,17 @@ use limits::LAST_PRIORITY;
 use limits::MOST_PROGRAMS;
 use limits::MOST_UNITS;
 use limits::SCHEDULED;
+use limits::SUSPENDED;
 use records::Program;
 use records::Why;
 use rules::Answer;
 use tracks::Tracks;
 
-// What is asked of the program: to go from one state to another; a priority; to end, by OF 1 or 8; to be
-// sent off, and awaited or not; a timer.
+// What is asked of the program: to go from one state to another, by RU or GO; to be suspended, or marked for it; a priority; to end,
+// by OF 1 or 8; to be sent off, and awaited or not; a timer.
 pub(crate) enum Task {
     Shift(u8, u8),
+    Suspend,
     Price(u64),
     Dismiss(u64),
     Await,
@@ -92,6 +95,7 @@ fn is_permitted(task: Task) -> bool
 {
     match task {
         Task::Shift(_, _) => true,
+        Task::Suspend => true,
         Task::Price(n) => is_priority(n),
         Task::Dismiss(k) => ends(k),
         Task::Await => true,
@@ -125,6 +129,24 @@ fn shifts(state: u8, p: u8, from: u8, to: u8, value: u64) -> Decision
         answer: Answer::Done(value),
         effect: Effect::Become(p, to, Why::Nothing),
     }
+}
+
+// SS: who waits is marked, and who is marked stays so; any other is suspended if it is scheduled.
+fn suspends(state: u8, mark: bool, p: u8) -> Decision
+    requires { ⌜ Known p ⌝ }
+    ensures { λ r. ⌜ ((v : View) (nm : List ℕ) → stateOf (v .book) p ≡ state → at (v .book) p .suspend ≡ mark
+        → Decides v nm (order v SS p) r) ⌝ }
+{
+    if records::in_wait(state) {
+        if mark {
+            return stay(Answer::Done(0));
+        }
+        return Decision {
+            answer: Answer::Done(0),
+            effect: Effect::Mark(p),
+        };
+    }
+    shifts(state, p, SCHEDULED, SUSPENDED, 0)
 }
 
 // EXEC 9: p is sent off, and c waits for it.
@@ -184,6 +206,7 @@ fn performs(x: Program, tracks: Tracks, ticks: u64, c: u8, p: u8, task: Task) ->
 {
     match task {
         Task::Shift(from, to) => shifts(x.state, p, from, to, 0),
+        Task::Suspend => suspends(x.state, x.suspend, p),
         Task::Price(n) => prices(x.priority, p, n),
         Task::Dismiss(k) => dismisses(tracks, p, k),
         Task::Await => awaits(x.state, c, p),

@@ -7,12 +7,13 @@ use mathlib.Core.Logic.{_≢_}
 use mathlib.Core.Bool.{Bool, true, false, cond, _&&_}
 use lib.Dec.{leb, ltb, eqb}
 use borrow.Author.Tests.{eq-eqb, eqb-true, eqb-false, leb-true, le-leb, ltb-true, lt-ltb}
-use Rattle.lists.proofs.Tests.{false-true, both, and}
+use Rattle.lists.proofs.Tests.{false-true, both, and, unless, implies}
 use Rattle.clock.specs.Clock.{farthest}
 use Rattle.records.specs.declared.Program.{Program}
 use Rattle.records.specs.Names.{legal}
+use Rattle.records.specs.Records.{inWait}
 use Rattle.rules.specs.Test.{zeros}
-use Rattle.ledger.specs.Inner.{timed, trim}
+use Rattle.ledger.specs.Inner.{timed, markFits, trim}
 
 -- one test or another
 cond-yes : (b x y : Bool) → cond b x y ≡ true → b ≡ true → x ≡ true
@@ -70,22 +71,28 @@ pub record Trim (c : ℕ) (r : Program) : Type 0 where
   pub named : r .used ≡ true → legal (r .name) ≡ true
   pub empty : r .used ≡ false → zeros r ≡ true
   pub priority : r .priority ≤ 32767
+  pub waiter : r .suspend ≡ true → inWait (r .state) ≡ true
   pub timed : Timed c (r .due) (r .interval)
 
 pub trim-true : (c : ℕ) (r : Program) → trim c r ≡ true → Trim c r
 unfolding trim
 trim-true c r e =
-    let b2 = both (cond (r .used) (legal (r .name)) (zeros r) && leb (r .priority) 32767) (timed c (r .due) (r .interval)) e in
+    let b3 = both (cond (r .used) (legal (r .name)) (zeros r) && leb (r .priority) 32767 && markFits (r .suspend) (r .state))
+    (timed c (r .due) (r .interval)) e in
+    let b2 = both (cond (r .used) (legal (r .name)) (zeros r) && leb (r .priority) 32767) (markFits (r .suspend) (r .state)) (b3 .0) in
     let b1 = both (cond (r .used) (legal (r .name)) (zeros r)) (leb (r .priority) 32767) (b2 .0) in
     record {
       named = cond-yes (r .used) (legal (r .name)) (zeros r) (b1 .0);
       empty = cond-no (r .used) (legal (r .name)) (zeros r) (b1 .0);
       priority = leb-true (r .priority) 32767 (b1 .1);
-      timed = timed-true c (r .due) (r .interval) (b2 .1);
+      waiter = unless (r .suspend) (inWait (r .state)) (b2 .1);
+      timed = timed-true c (r .due) (r .interval) (b3 .1);
     }
 
 pub trim-is : (c : ℕ) (r : Program) → Trim c r → trim c r ≡ true
 unfolding trim
 trim-is c r t =
-    and (and (cond-is (r .used) (legal (r .name)) (zeros r) (t .named) (t .empty)) (le-leb (r .priority) 32767 (t .priority)))
+    and
+    (and (and (cond-is (r .used) (legal (r .name)) (zeros r) (t .named) (t .empty)) (le-leb (r .priority) 32767 (t .priority)))
+    (implies (r .suspend) (inWait (r .state)) (t .waiter)))
     (timed-is c (r .due) (r .interval) (t .timed))

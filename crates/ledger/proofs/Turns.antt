@@ -23,7 +23,7 @@ use Rattle.rules.proofs.shared.Places.{known-true}
 use Rattle.rules.proofs.tests.Agree.{yes-or-no}
 use Rattle.ledger.specs.declared.Ledger.{Ledger}
 use Rattle.ledger.specs.Ledger.{bookOf}
-use Rattle.ledger.specs.Inner.{timed, trim, stateFits, reasonFits, fits, nameKey, sonKey, Apart, Roster}
+use Rattle.ledger.specs.Inner.{timed, markFits, trim, stateFits, reasonFits, fits, nameKey, sonKey, Apart, Roster}
 use Rattle.ledger.proofs.Facts.{Trim, trim-true, trim-is}
 
 -- the record at i
@@ -83,11 +83,14 @@ pub record Zeros (r : Program) : Type 0 where
   pub why : r .why ≡ Nothing
   pub due : r .due ≡ 0
   pub interval : r .interval ≡ 0
+  pub unmarked : r .suspend ≡ false
 
 zeros-true : (r : Program) → zeros r ≡ true → Zeros r
 zeros-true r e =
+    let b6 = both (alike (r .name) (unused .name) && eqb (r .priority) 0 && eqb (r .state) 0 && nothing (r .why) && eqb (r .due) 0
+    && eqb (r .interval) 0) (not (r .suspend)) e in
     let b5 = both (alike (r .name) (unused .name) && eqb (r .priority) 0 && eqb (r .state) 0 && nothing (r .why) && eqb (r .due) 0)
-    (eqb (r .interval) 0) e in
+    (eqb (r .interval) 0) (b6 .0) in
     let b4 = both (alike (r .name) (unused .name) && eqb (r .priority) 0 && eqb (r .state) 0 && nothing (r .why))
     (eqb (r .due) 0) (b5 .0) in
     let b3 = both (alike (r .name) (unused .name) && eqb (r .priority) 0 && eqb (r .state) 0) (nothing (r .why)) (b4 .0) in
@@ -98,6 +101,7 @@ zeros-true r e =
       why = nothing-is (r .why) (b3 .1);
       due = eqb-true (r .due) 0 (b4 .1);
       interval = eqb-true (r .interval) 0 (b5 .1);
+      unmarked = not-true (r .suspend) (b6 .1);
     }
 
 -- the test of an unused record is that it holds zeros
@@ -109,6 +113,7 @@ zeros-fit c T R p r u e =
       named = λ v. clash v u;
       empty = λ v. e;
       priority = omega (arith, z .priority);
+      waiter = λ m. clash m (z .unmarked);
       timed = record {
         timeless = λ n. z .interval;
         above = λ n. absurd (n (z .due));
@@ -122,7 +127,8 @@ zeros-fit c T R p r u e =
 zeros-miss : (c T R p : ℕ) (r : Program) → r .used ≡ false → zeros r ≡ false → false ≡ fits c T R p r
 unfolding trim
 zeros-miss c T R p r u e =
-    trim-fails c T R p r (ap (λ (x : Bool). x && leb (r .priority) 32767 && timed c (r .due) (r .interval))
+    trim-fails c T R p r (ap (λ (x : Bool). x && leb (r .priority) 32767 && markFits (r .suspend) (r .state)
+    && timed c (r .due) (r .interval))
     (ap (λ (x : Bool). cond x (legal (r .name)) (zeros r)) u ∙ e))
 
 pub unused-fits : (c T R p : ℕ) (r : Program) → r .used ≡ false → zeros r ≡ fits c T R p r

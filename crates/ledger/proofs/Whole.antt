@@ -20,10 +20,11 @@ use Rattle.records.specs.Numbers.{free, numberAt}
 use Rattle.tracks.specs.Tracks.{nobody, system, places}
 use Rattle.tracks.specs.Inner.{Held}
 use Rattle.rules.specs.Book.{at, stateOf, whyOf, holderOf}
-use Rattle.rules.specs.Sound.{Ours, suits, Names, Whys, System, Users, Unlocked, Limits, Dues}
-use Rattle.rules.specs.Test.{sonOf, zeros, testNames, testZeros, testWhys, testSystem, testUsers, testUnlocked, testLimits, testDues}
+use Rattle.rules.specs.Sound.{Ours, suits, Names, Whys, Marks, System, Users, Unlocked, Limits, Dues}
+use Rattle.rules.specs.Test.{sonOf, zeros, testNames, testZeros, testWhys, testMarks, testSystem, testUsers, testUnlocked}
+use Rattle.rules.specs.Test.{testLimits, testDues}
 use Rattle.rules.proofs.tests.Agree.{program-in, program-is, yes-or-no, names-clause, names-test, whys-clause}
-use Rattle.rules.proofs.tests.Agree.{whys-test, dues-clause, dues-test, son-known}
+use Rattle.rules.proofs.tests.Agree.{whys-test, marks-clause, marks-test, dues-clause, dues-test, son-known}
 use Rattle.rules.proofs.tests.AgreeTables.{system-clause, system-test, users-clause, users-test, unlocked-clause}
 use Rattle.rules.proofs.tests.AgreeTables.{unlocked-test, limits-clause, limits-test}
 use Rattle.ledger.specs.declared.Ledger.{Ledger}
@@ -46,6 +47,7 @@ record Clauses (l : Ledger) : Type 0 where
   names : Names (bookOf l)
   zeros : testZeros (bookOf l) ≡ true
   whys : Whys (bookOf l)
+  marks : Marks (bookOf l)
   system : System (bookOf l)
   users : Users (bookOf l)
   unlocked : Unlocked (bookOf l)
@@ -57,36 +59,40 @@ clauses-of : (l : Ledger) → testBook l ≡ true → Clauses l
 unfolding testBook
 clauses-of l e =
     let b = bookOf l in
-    let b8 = both (testNames b && testZeros b && testWhys b && testSystem b && testUsers b && testUnlocked b && testBlank l && testLimits b)
-    (testDues b) e in
-    let b7 = both (testNames b && testZeros b && testWhys b && testSystem b && testUsers b && testUnlocked b && testBlank l)
-    (testLimits b) (b8 .0) in
-    let b6 = both (testNames b && testZeros b && testWhys b && testSystem b && testUsers b && testUnlocked b) (testBlank l) (b7 .0) in
-    let b5 = both (testNames b && testZeros b && testWhys b && testSystem b && testUsers b) (testUnlocked b) (b6 .0) in
-    let b4 = both (testNames b && testZeros b && testWhys b && testSystem b) (testUsers b) (b5 .0) in
-    let b3 = both (testNames b && testZeros b && testWhys b) (testSystem b) (b4 .0) in
+    let b9 = both (testNames b && testZeros b && testWhys b && testMarks b && testSystem b && testUsers b && testUnlocked b && testBlank l
+    && testLimits b) (testDues b) e in
+    let b8 = both (testNames b && testZeros b && testWhys b && testMarks b && testSystem b && testUsers b && testUnlocked b && testBlank l)
+    (testLimits b) (b9 .0) in
+    let b7 = both (testNames b && testZeros b && testWhys b && testMarks b && testSystem b && testUsers b && testUnlocked b)
+    (testBlank l) (b8 .0) in
+    let b6 = both (testNames b && testZeros b && testWhys b && testMarks b && testSystem b && testUsers b) (testUnlocked b) (b7 .0) in
+    let b5 = both (testNames b && testZeros b && testWhys b && testMarks b && testSystem b) (testUsers b) (b6 .0) in
+    let b4 = both (testNames b && testZeros b && testWhys b && testMarks b) (testSystem b) (b5 .0) in
+    let b3 = both (testNames b && testZeros b && testWhys b) (testMarks b) (b4 .0) in
     let b2 = both (testNames b && testZeros b) (testWhys b) (b3 .0) in
     let b1 = both (testNames b) (testZeros b) (b2 .0) in
     record {
       names = names-clause b (b1 .0);
       zeros = b1 .1;
       whys = whys-clause b (b2 .1);
-      system = system-clause b (b3 .1);
-      users = users-clause b (b4 .1);
-      unlocked = unlocked-clause b (b5 .1);
-      blank = blank-clause l (b6 .1);
-      limits = limits-clause b (b7 .1);
-      dues = dues-clause b (b8 .1);
+      marks = marks-clause b (b3 .1);
+      system = system-clause b (b4 .1);
+      users = users-clause b (b5 .1);
+      unlocked = unlocked-clause b (b6 .1);
+      blank = blank-clause l (b7 .1);
+      limits = limits-clause b (b8 .1);
+      dues = dues-clause b (b9 .1);
     }
 
 test-of : (l : Ledger) → Clauses l → testBook l ≡ true
 unfolding testBook
 test-of l c =
     let b = bookOf l in
-    and (and (and (and (and (and (and (and
+    and (and (and (and (and (and (and (and (and
     (names-test b (c .names))
     (c .zeros))
     (whys-test b (c .whys)))
+    (marks-test b (c .marks)))
     (system-test b (c .system)))
     (users-test b (c .users)))
     (unlocked-test b (c .unlocked)))
@@ -119,6 +125,7 @@ module _ (l : Ledger) (c : Clauses l) where
     named = c .names .lawful p P;
     empty = otherwise (r .used) (zeros r) ((tidy p P) .0);
     priority = c .limits .priority p P;
+    waiter = c .marks .waiters p P;
     timed = record {
       timeless = λ z. eqb-true (r .interval) 0 (unless (eqb (r .due) 0) (eqb (r .interval) 0) ((tidy p P) .1) (eq-eqb (r .due) 0 z));
       above = c .dues .above p P;
@@ -300,6 +307,7 @@ module _ (l : Ledger) (H : length (places (l .tracks)) ≡ 256) (N : length (l .
     names = names-of;
     zeros = zeros-of;
     whys = whys-of;
+    marks = record { waiters = λ p P. is-trim p P .waiter };
     system = system-of;
     users = record {
       hold = λ i h. (holder-in i h) .1;

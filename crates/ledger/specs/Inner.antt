@@ -9,10 +9,11 @@ use lib.Dec.{eqb, leb, ltb}
 use Rattle.limits.specs.Limits.{dormant, scheduled, general, disc, suspended, mostPrograms, mostNumbers, lastPriority}
 use Rattle.lists.specs.Lists.{count, upTo}
 use Rattle.records.specs.declared.Numbers.{Numbers}
-use Rattle.records.specs.Records.{Known, known, missing}
+use Rattle.records.specs.Records.{Known, known, missing, inWait}
 use Rattle.records.specs.Numbers.{resources, globally, free}
 use Rattle.ledger.specs.declared.Release.{Release}
-use Rattle.rules.specs.Test.{testNames, testZeros, testWhys, testSystem, testUsers, testUnlocked, testLimits, testDues, sonOf, zeros}
+use Rattle.rules.specs.Test.{testNames, testZeros, testWhys, testMarks, testSystem, testUsers, testUnlocked, testLimits, testDues}
+use Rattle.rules.specs.Test.{sonOf, zeros}
 use mathlib.Core.Logic.{_≢_}
 use Rattle.clock.specs.Clock.{ceiling, farthest}
 use Rattle.records.specs.declared.Program.{Program}
@@ -31,9 +32,8 @@ use Rattle.rules.specs.Rules.{endsIn}
 -- the tests of soundness that do not concern chains
 unfoldable pub testBook : Ledger → Bool
 testBook l =
-    testNames (bookOf l) && testZeros (bookOf l) && testWhys (bookOf l) && testSystem (bookOf l) && testUsers (bookOf l)
-    && testUnlocked (bookOf l)
-    && testBlank l && testLimits (bookOf l) && testDues (bookOf l)
+    testNames (bookOf l) && testZeros (bookOf l) && testWhys (bookOf l) && testMarks (bookOf l) && testSystem (bookOf l)
+    && testUsers (bookOf l) && testUnlocked (bookOf l) && testBlank l && testLimits (bookOf l) && testDues (bookOf l)
 
 -- what a release of the code says, and that it says what one of the rules says: number 0 is none
 pub record Releases (x : Release) (y : rules.Release) : Type 0 where
@@ -62,9 +62,15 @@ pub record Sized (T S R c : ℕ) : Type 0 where
 unfoldable pub timed : ℕ → ℕ → ℕ → Bool
 timed c d i = cond (eqb d 0) (eqb i 0) (ltb c d && leb (d - c) farthest && leb i farthest)
 
+-- the mark, in a state
+abbrev pub markFits : Bool → ℕ → Bool
+markFits m s = not m || inWait s
+
 -- a record but its why
 unfoldable pub trim : ℕ → Program → Bool
-trim c r = cond (r .used) (legal (r .name)) (zeros r) && leb (r .priority) lastPriority && timed c (r .due) (r .interval)
+trim c r =
+    cond (r .used) (legal (r .name)) (zeros r) && leb (r .priority) lastPriority && markFits (r .suspend) (r .state)
+    && timed c (r .due) (r .interval)
 
 -- the state that a why is for
 abbrev pub stateFits : Why → ℕ → Bool

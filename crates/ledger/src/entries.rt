@@ -9,6 +9,7 @@ use limits::SCHEDULED;
 use limits::SUSPENDED;
 use records::Program;
 use records::Why;
+use records::in_wait;
 use records::is_legal;
 ghost use mathlib.Core.Path.{_≡_};
 ghost use mathlib.Core.Bool.{cond, not, _&&_, _||_};
@@ -18,7 +19,7 @@ ghost use Rattle.lists.specs.Lists.{upTo, alike};
 ghost use Rattle.records.specs.Names.{legal};
 ghost use Rattle.records.specs.Records.{known, unused};
 ghost use Rattle.rules.specs.Test.{nothing, sonOf, zeros};
-ghost use Rattle.ledger.specs.Inner.{timed, trim, stateFits, reasonFits, fits};
+ghost use Rattle.ledger.specs.Inner.{timed, markFits, trim, stateFits, reasonFits, fits};
 
 fn one_to(high: usize, n: usize) -> bool
     ensures { λ r. ⌜ r ≡ upTo 1 high n ⌝ }
@@ -60,14 +61,14 @@ fn is_unnamed(name: [u8; 5]) -> bool
     (name[0] == 0) & (name[1] == 0) & (name[2] == 0) & (name[3] == 0) & (name[4] == 0)
 }
 
-// Zeros all over. Every part is looked at, so that no branch is taken.
+// Zeros all over, and no mark. Every part is looked at, so that no branch is taken.
 fn holds_zeros(r: Program) -> bool
     ensures { λ b. ⌜ b ≡ zeros r ⌝ }
 {
     let name = r.name;
     let w = r.why;
     let idle = is_unnamed(name) & (r.priority == 0) & (r.state == 0);
-    idle & is_nothing(w) & (r.due == 0) & (r.interval == 0)
+    idle & is_nothing(w) & (r.due == 0) & (r.interval == 0) & !r.suspend
 }
 
 // A legal name, or zeros where the record is unused.
@@ -100,6 +101,16 @@ fn is_timed(ticks: u64, due: u64, interval: u64) -> bool
     interval <= Clock::FARTHEST
 }
 
+// The mark stands only where a program waits. Few are marked, so the state is looked at last.
+fn mark_fits(mark: bool, state: u8) -> bool
+    ensures { λ r. ⌜ r ≡ markFits mark state ⌝ }
+{
+    if mark {
+        return in_wait(state);
+    }
+    true
+}
+
 // A record but its why.
 fn is_trim(ticks: u64, r: Program) -> bool
     ensures { λ b. ⌜ b ≡ trim ticks r ⌝ }
@@ -108,6 +119,9 @@ fn is_trim(ticks: u64, r: Program) -> bool
         return false;
     }
     if LAST_PRIORITY < r.priority {
+        return false;
+    }
+    if !mark_fits(r.suspend, r.state) {
         return false;
     }
     is_timed(ticks, r.due, r.interval)

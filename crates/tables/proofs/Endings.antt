@@ -22,7 +22,7 @@ use Rattle.tracks.specs.Tracks.{nobody, holders, replaced}
 use Rattle.tracks.specs.Tracks as tracks
 use Rattle.tracks.proofs.Fits.{Holds, replaced-holds}
 use Rattle.rules.specs.Book.{Book}
-use Rattle.rules.specs.Plans.{Deed, becomes, wakes, priced, loaded, unloaded, timed, Event, on, held}
+use Rattle.rules.specs.Plans.{Deed, becomes, wakes, priced, loaded, unloaded, timed, marked, Event, on, held}
 use Rattle.rules.specs.Plans.{numbered, wake, woken, fromDisc, fromGeneral}
 use Rattle.rules.specs.Rules.{ends, dismissed, endsIn}
 use Rattle.rules.proofs.shared.Settling.{settle}
@@ -35,7 +35,7 @@ use Rattle.ledger.specs.Inner.{Releases, endingOf}
 use Rattle.tables.specs.declared.Tables.{Tables}
 use Rattle.tables.specs.Tables.{plain}
 use Rattle.tables.specs.Inner.{Orderly, Played, CanHold, CanNumber}
-use Rattle.tables.proofs.Serving.{play-append}
+use Rattle.rules.proofs.shared.Parts.{play-append}
 
 -- the same events, told otherwise
 pub played-as : (t r : Tables) (es fs : List Event) → es ≡ fs → Played t es r → Played t fs r
@@ -43,7 +43,7 @@ played-as t r es fs e S = record { orderly = S .orderly; state = S .state ∙ ap
 
 pub played-on : (t u r : Tables) (es fs : List Event) → Played t es u → Played u fs r → Played t (es ++ fs) r
 played-on t u r es fs S R =
-    record { orderly = R .orderly; state = R .state ∙ ap (play lists fs) (S .state) ∙ sym (play-append es fs (plain t)) }
+    record { orderly = R .orderly; state = R .state ∙ ap (play lists fs) (S .state) ∙ sym (play-append lists es fs (plain t)) }
 
 -- OF 8, and OF 1
 pub dismissed-gone : (t r : Tables) (k p : ℕ) → k ≡ 8 → Played t (on p unloaded ∷ []) r → Played t (dismissed k p) r
@@ -91,6 +91,7 @@ act-aside p (priced n) a = refl
 act-aside p (loaded nm n) a = refl
 act-aside p unloaded a = refl
 act-aside p (timed d i) a = refl
+act-aside p marked a = refl
 
 step-aside : (p : ℕ) (d : Deed) (a : State lists) → aside (step lists (on p d) a) ≡ aside a
 unfolding step

@@ -4,7 +4,8 @@ use mathlib.Core.Path.{_≡_, refl, sym, ap, _∙_}
 use mathlib.Core.Bool.{Bool, true, false, not, _&&_}
 use mathlib.Core.List.{List, [], _∷_}
 use borrow.Author.Tests.{not-true, not-false}
-use Rattle.rules.specs.Test.{testNames, testZeros, testChains, testWhys, testSystem, testUsers, testUnlocked, testLimits, testDues}
+use Rattle.rules.specs.Test.{testNames, testZeros, testChains, testWhys, testMarks, testSystem, testUsers, testUnlocked}
+use Rattle.rules.specs.Test.{testLimits, testDues}
 use Rattle.chains.specs.Links.{read, testLinks}
 use Rattle.ledger.specs.Ledger.{bookOf, testBlank}
 use Rattle.ledger.specs.Inner.{testBook}
@@ -39,7 +40,7 @@ sound-parts t =
     let first = testNames b && testZeros b in
     let c = testChains b (read (t .links)) in
     let l = testLinks (t .links) in
-    let more = testWhys b ∷ testSystem b ∷ testUsers b ∷ testUnlocked b ∷ testBlank (t .ledger) ∷ testLimits b ∷ testDues b ∷ [] in
+    let more = testWhys b ∷ testMarks b ∷ testSystem b ∷ testUsers b ∷ testUnlocked b ∷ testBlank (t .ledger) ∷ testLimits b ∷ testDues b ∷ [] in
     sym (ap (λ (x : Bool). allOf x more) (and-assoc first c l) ∙ last first (c && l) more)
 
 -- so the chains are looked at only where the book is sound

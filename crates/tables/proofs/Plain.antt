@@ -16,7 +16,7 @@ use Rattle.tracks.proofs.Fits.{holders-of}
 use Rattle.rules.specs.Book.{Book}
 use Rattle.rules.specs.Requests.{Request}
 use Rattle.rules.specs.Keeper.{lists, State, play, view, asks}
-use Rattle.rules.specs.Sound.{Names, Zeros, Chains, Whys, System, Users, Unlocked, Limits, Dues}
+use Rattle.rules.specs.Sound.{Names, Zeros, Chains, Whys, Marks, System, Users, Unlocked, Limits, Dues}
 use Rattle.rules.specs.Sound as rules
 use Rattle.rules.proofs.soundness.SoundRuns.{sound-after}
 use Rattle.chains.specs.Links.{read, total}
@@ -78,6 +78,7 @@ module _ (a : State lists) (S : rules.Sound a) where
     chains = subst (λ (x : State lists). Chains (x .book) (x .kept)) (sym plain-lay) (S .chains);
     links = laid-links (laid-linksOf (a .kept) (S .shape .chains) once within) (S .shape .dormant);
     whys = of-book Whys (S .whys);
+    marks = of-book Marks (S .marks);
     system = of-book System (S .system);
     users = of-book Users (S .users);
     unlocked = of-book Unlocked (S .unlocked);
@@ -103,6 +104,7 @@ sound-plain t A S = record {
   zeros = S .zeros;
   chains = S .chains;
   whys = S .whys;
+  marks = S .marks;
   system = S .system;
   users = S .users;
   unlocked = S .unlocked;

@@ -1,4 +1,4 @@
--- A program is removed while another waits for it: after OF 8 the one that waited is scheduled and waits for nothing, the name
+-- A program is removed while another waits for it: after OF 8 the wait of that one is over, the name
 -- is free, and no why names the record.
 -- The waking comes last among the events of OF. Who waited stands in chain 3 for a reason that is gone, so it is among the woken. The
 -- others keep their names, of which no two were alike; and the record is unused, while sound tables ask of every son that it is used.
@@ -13,11 +13,11 @@ use mathlib.Core.List.{List}
 use Rattle.lists.specs.Lists.{count}
 use Rattle.lists.proofs.Tests.{clash}
 use Rattle.records.specs.declared.Program.{Program}
-use Rattle.records.specs.declared.Why.the-variants.{Nothing, Son}
+use Rattle.records.specs.declared.Why.the-variants.{Son}
 use Rattle.records.specs.Names.{legal}
-use Rattle.records.specs.Records.{Known, find, unused}
+use Rattle.records.specs.Records.{Known, find, unused, waitOver}
 use Rattle.tracks.specs.Tracks.{nobody, replaced}
-use Rattle.rules.specs.Book.{at, stateOf, whyOf}
+use Rattle.rules.specs.Book.{at, whyOf}
 use Rattle.rules.specs.Requests.{OF, Request, FRESH, operator}
 use Rattle.rules.specs.Plans.{Plan, Release, on, unloaded, held, wake, woken, numberOf, eventsOf}
 use Rattle.rules.specs.Rules.{plan, order, endsIn, ends, quit}
@@ -29,8 +29,7 @@ use Rattle.rules.proofs.shared.Finding.{Bears, find-bears}
 use Rattle.rules.proofs.shared.Deeds.{Turned, step-turned}
 use Rattle.rules.proofs.soundness.Fine.{sound-fine}
 use Rattle.rules.proofs.soundness.Keeping.{strict, before}
-use Rattle.rules.proofs.soundness.Waking.{woke, woken-callable, woken-other, son-woken}
-use Rattle.rules.proofs.counts.Rising.{wake-rises, rise-in}
+use Rattle.rules.proofs.soundness.Waking.{woke, woken-callable, woken-once, woken-other, son-woken}
 use Rattle.rules.proofs.frame.FrameLaws.{stirred}
 use Rattle.rules.proofs.soundness.SoundRuns.{sound-after}
 use Rattle.tables.specs.declared.Tables.{Tables}
@@ -112,7 +111,7 @@ module _ (a : State lists) (S : rules.Sound a) (nm : List ℕ) (h : 1 ≤ find (
   bears-none z Z (yes e) = clash {t = false}
       (ap (λ (x : Program). x .used) (sym off-unused) ∙ ap (λ (x : ℕ). at (after lists a q .book) x .used) (sym e) ∙ Z .used) refl
   bears-none z Z (no n) =
-      let s = stirred-name (at (a .book) z) (at (after lists a q .book) z) (stirred lists a q z (Z .known) other apart) in
+      let s = stirred-name (at (a .book) z) (at (after lists a q .book) z) (stirred a S q z (Z .known) other apart) in
       n (S .names .distinct z p (Z .known) (B .known) (sym (s .0) ∙ Z .used) (B .used) (sym (s .1) ∙ Z .name ∙ sym (B .name)))
     where
       other : (T O R : ℕ) → q ≢ FRESH T O R
@@ -143,14 +142,16 @@ module _ (a : State lists) (S : rules.Sound a) (nm : List ℕ) (h : 1 ≤ find (
     unfolding endsIn
     riser = son-woken (strict a) a (before a S) (released a p) (B .known) f X (λ e. before a S .sons f p X w .other (sym e)) w
 
-    off-scheduled : stateOf (after lists a q .book) f ≡ 1
-    off-scheduled =
-        ap (λ (x : State lists). stateOf (x .book) f) off-after
-        ∙ rise-in lists f X (wake-rises (risers a p) riser-known) (gone a p) (turned .long) riser
+    other : f ≢ p
+    other e = before a S .sons f p X w .other (sym e)
 
-    off-free : whyOf (after lists a q .book) f ≡ Nothing
-    off-free =
-        ap (λ (x : State lists). whyOf (x .book) f) off-after ∙ woke (risers a p) (gone a p) (turned .long) riser-known .freed f riser
+    -- its wait is over, which began before the ending
+    off-over : at (after lists a q .book) f ≡ waitOver (at (a .book) f)
+    off-over =
+        ap (λ (x : State lists). at (x .book) f) off-after
+        ∙ woke (risers a p) (gone a p) (turned .long) riser-known .over f
+        (omega (arith, riser, woken-once (strict a) a (before a S) (released a p) f))
+        ∙ ap waitOver (turned .rest f X other)
 
 -- THE REMOVAL, of any sound tables
 pub removed : (t : Tables) → Arrays t → sound t ≡ true → (nm : List ℕ) (f : ℕ) → Known f → 1 ≤ find (plain t .book .programs) nm
@@ -162,8 +163,7 @@ removed t A e nm f X h w =
     after-is t A e (operator (OF 8) nm) in
     record {
       done = ap (λ (r : Result). r .number) (asked-sound t (operator (OF 8) nm) e) ∙ off-number (plain t) S nm h;
-      scheduled = ap (λ (x : State lists). stateOf (x .book) f) i ∙ off-scheduled (plain t) S nm h f X w;
-      idle = ap (λ (x : State lists). whyOf (x .book) f) i ∙ off-free (plain t) S nm h f X w;
+      over = ap (λ (x : State lists). at (x .book) f) i ∙ off-over (plain t) S nm h f X w;
       unnamed = ap (λ (x : State lists). find (x .book .programs) nm) i ∙ off-unnamed (plain t) S nm h;
       unawaited = λ x Z k. off-unawaited (plain t) S nm h x Z (ap (λ (y : State lists). whyOf (y .book) x) (sym i) ∙ k);
     }

@@ -2,11 +2,11 @@
 -- Assumes nothing.
 use mathlib.Core.Path.{_≡_, refl, sym, ap, _∙_}
 use mathlib.Core.Bool.{true, false}
-use mathlib.Core.List.{List, [], _∷_, _++_}
+use mathlib.Core.List.{List, [], _∷_}
 use Rattle.rules.specs.declared.Answer.the-variants.{NotSound}
 use Rattle.rules.specs.Requests.{Request}
 use Rattle.rules.specs.Plans.{Event}
-use Rattle.rules.specs.Keeper.{lists, State, asks, step, play}
+use Rattle.rules.specs.Keeper.{lists, State, asks, play}
 use Rattle.tables.specs.declared.Tables.{Tables}
 use Rattle.tables.specs.Tables.{plain, lay}
 use Rattle.tables.specs.Sound.{sound}
@@ -38,6 +38,3 @@ unfolding asked
 asked-unsound t q e = rw (e, asked)
 
 -- events one after the other
-pub play-append : (es fs : List Event) (a : State lists) → play lists (es ++ fs) a ≡ play lists fs (play lists es a)
-play-append [] fs a = refl
-play-append (e ∷ es) fs a = play-append es fs (step lists e a)

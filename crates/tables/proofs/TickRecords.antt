@@ -35,7 +35,8 @@ use Rattle.tables.specs.Calls.{Result, served, asked}
 use Rattle.tables.specs.Demand.{moved, onTick, Ticked}
 use Rattle.tables.proofs.Agree.{sound-clauses}
 use Rattle.tables.proofs.Plain.{sound-plain}
-use Rattle.tables.proofs.Serving.{asked-sound, play-append}
+use Rattle.rules.proofs.shared.Parts.{play-append}
+use Rattle.tables.proofs.Serving.{asked-sound}
 use Rattle.tables.proofs.Demanded.{after-is}
 
 -- what a due timer does to a record
@@ -127,7 +128,7 @@ module _ (b : Book) where
       let u : State lists = play lists (strokes p (at b p)) t in
       let S : Struck p (struck (at b p)) t u =
       strikes p (A .known p (omega (arith, same-refl p))) (at b p) t (A .long) (A .still p (omega (arith, same-refl p))) in
-      subst (Walked (p ∷ l) t) (sym (play-append (strokes p (at b p)) (walk l) t))
+      subst (Walked (p ∷ l) t) (sym (play-append lists (strokes p (at b p)) (walk l) t))
       (walked-next p l t u A S (play lists (walk l) u) (walks l u (ahead-next p l t u A S)))
 
 -- of a plain state that is sound

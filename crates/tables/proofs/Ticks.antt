@@ -26,7 +26,7 @@ use Rattle.tables.specs.Tables.{plain}
 use Rattle.decisions.specs.Inner.{tickEvents, startsNow}
 use Rattle.tables.specs.Inner.{Orderly, Ready, Played, Counts}
 use Rattle.tables.proofs.Agree.{sound-clauses}
-use Rattle.tables.proofs.Serving.{play-append}
+use Rattle.rules.proofs.shared.Parts.{play-append}
 use Rattle.tables.proofs.Endings.{played-as, played-on}
 
 -- a program at its tick: not due; due, and not dormant; due, and dormant
@@ -70,7 +70,7 @@ zero-plus n = omega arith
 -- what is left of the events, and of the count
 each-step : (f : ℕ → List Event) (c : Bool) (p : ℕ) (ks : List ℕ) (a : State lists)
     → play lists (join (map f (cond c (p ∷ ks) ks))) a ≡ play lists (join (map f ks)) (play lists (cond c (f p) []) a)
-each-step f true p ks a = play-append (f p) (join (map f ks)) a
+each-step f true p ks a = play-append lists (f p) (join (map f ks)) a
 each-step f false p ks a = refl
 
 count-step : (c : Bool) (p : ℕ) (ks : List ℕ) → length (cond c (p ∷ ks) ks) ≡ hit c + length ks

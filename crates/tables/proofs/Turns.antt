@@ -18,9 +18,9 @@ use Rattle.lists.proofs.Laws.{same-refl, same-ne}
 use Rattle.records.specs.declared.Program.{Program}
 use Rattle.records.specs.declared.Why.{Why}
 use Rattle.records.specs.declared.Why.the-variants.{Nothing}
-use Rattle.records.specs.Records.{Known, unused, newcomer, inState, withPriority, withTimer}
-use Rattle.rules.specs.Book.{at, stateOf, prioOf, whyOf, put}
-use Rattle.rules.specs.Plans.{Deed, becomes, priced, loaded, unloaded, timed, on}
+use Rattle.records.specs.Records.{Known, unused, newcomer, inState, waitOver, withPriority, withTimer, withMark}
+use Rattle.rules.specs.Book.{at, stateOf, prioOf, put}
+use Rattle.rules.specs.Plans.{Deed, becomes, wakes, priced, loaded, unloaded, timed, marked, on}
 use Rattle.rules.specs.Keeper.{lists, entries, State, leave, enter, amend, act, step}
 use Rattle.rules.specs.Replay.{Accounts}
 use Rattle.rules.proofs.shared.Places.{known-is, put-long}
@@ -141,27 +141,23 @@ can-enter t p s C = record { laid = O .laid; state = C .state; low = C .known .0
         let w = total-some p m (omega arith) in
         absurd (omega (arith, w .2, none (w .0) (omega (arith, w .1, length-read (t .links))) (ℕ-discrete (w .0) 0)))
 
-entered-says : (t : Tables) (p s : ℕ) (w : Why) → CanJoin t p s → (l : List ℕ) → Laid l (enter lists p s w (plain t) .kept)
-    → Says (relinked l (withRecord p (inState s w (at (plain t .book) p)) t)) (enter lists p s w (plain t))
-entered-says t p s w C l L =
+entered-says : (t : Tables) (p : ℕ) (x : Program) → CanJoin t p (x .state) → (l : List ℕ) → Laid l (enter lists p x (plain t) .kept)
+    → Says (relinked l (withRecord p x t)) (enter lists p x (plain t))
+entered-says t p x C l L =
     let O = C .orderly in
-    let x : Program = inState s w (at (plain t .book) p) in
-    turn-says t O p (C .known) x (C .state) l (enter lists p s w (plain t) .kept) (enter entries p s w (replay t O)) L
-    (cond-dormant (read (t .links)) s (insert (prioOf (put p x (plain t .book))) p (getD (read (t .links)) s [])) (O .dormant))
-    (enter-alike p (C .known) s w (plain t) (O .notes) (replay-alike t O) (C .out))
+    turn-says t O p (C .known) x (C .state) l (enter lists p x (plain t) .kept) (enter entries p x (replay t O)) L
+    (cond-dormant (read (t .links)) (x .state) (insert (prioOf (put p x (plain t .book))) p (getD (read (t .links)) (x .state) []))
+    (O .dormant))
+    (enter-alike p (C .known) x (plain t) (O .notes) (replay-alike t O) (C .out))
 
-module _ (t : Tables) (p s : ℕ) (w : Why) (C : CanJoin t p s) (g : Program) (G : g ≡ inState s w (at (plain t .book) p)) where
-  pub entered-none : s ≡ 0 → Says (withRecord p g t) (enter lists p s w (plain t))
-  entered-none e =
-      subst (λ (y : Program). Says (withRecord p y t) (enter lists p s w (plain t))) (sym G)
-      (entered-says t p s w C (t .links) (rw (eq-eqb s 0 e) (C .orderly .laid)))
+module _ (t : Tables) (p : ℕ) (x : Program) (C : CanJoin t p (x .state)) where
+  pub entered-none : x .state ≡ 0 → Says (withRecord p x t) (enter lists p x (plain t))
+  entered-none e = entered-says t p x C (t .links) (rw (eq-eqb (x .state) 0 e) (C .orderly .laid))
 
-  pub entered-some : (l : List ℕ) → s ≢ 0 → Laid l (entered (prioIn (withRecord p g t .ledger .programs)) s p (read (t .links)))
-      → Says (relinked l (withRecord p g t)) (enter lists p s w (plain t))
-  entered-some l n =
-      subst (λ (y : Program). Laid l (entered (prioIn (withRecord p y t .ledger .programs)) s p (read (t .links)))
-      → Says (relinked l (withRecord p y t)) (enter lists p s w (plain t))) (sym G)
-      (λ M. entered-says t p s w C l (rw (ne-eqb s 0 n) M))
+  pub entered-some : (l : List ℕ) → x .state ≢ 0
+      → Laid l (entered (prioIn (withRecord p x t .ledger .programs)) (x .state) p (read (t .links)))
+      → Says (relinked l (withRecord p x t)) (enter lists p x (plain t))
+  entered-some l n L = entered-says t p x C l (rw (ne-eqb (x .state) 0 n) L)
 
 -- the deeds: a step on a known program is its act
 pub says-as : {r : Tables} {a b : State lists} → a ≡ b → Says r a → Says r b
@@ -171,20 +167,51 @@ pub act-step : (p : ℕ) → Known p → (d : Deed) (a : State lists) → act li
 unfolding step
 act-step p P d a = rw (known-is p P)
 
+-- where a wait that is over leads is a state
+over-state : (r : Program) → waitOver r .state < 7
+over-state r = go (r .suspend)
+  where
+    go : (mark : Bool) → cond mark 6 1 < 7
+    go true = omega arith
+    go false = omega arith
+
 -- p has left
 module _ (t u : Tables) (p : ℕ) (C : CanTurn t p) (S : Says u (leave lists p (plain t))) where
   out : stateOf (plain u .book) p ≡ 0
   out = ap (λ (a : State lists). stateOf (a .book) p) (S .state) ∙ left-state p (C .known) (plain t) (C .orderly .long)
 
-  pub can-join : (s : ℕ) → s < 7 → CanJoin u p s
+  can-join : (s : ℕ) → s < 7 → CanJoin u p s
   can-join s h = record { orderly = S .orderly; known = C .known; state = h; out = out }
 
   pub can-amend : (x : Program) → x .state ≡ 0 → CanAmend u p x
   can-amend x e = record { orderly = S .orderly; known = C .known; state = e ∙ sym out; priority = λ k. absurd (k out) }
 
-  pub became : (r : Tables) (s : ℕ) (w : Why) → Says r (enter lists p s w (plain u)) → Played t (on p (becomes s w) ∷ []) r
+  -- p enters with another record
+  pub can-anew : (x y : Program) → x ≡ y → y .state < 7 → CanJoin u p (x .state)
+  can-anew x y X h = can-join (x .state) (omega (arith, ap (λ (z : Program). z .state) X))
+
+  pub can-wake : (x : Program) → x ≡ waitOver (at (plain t .book) p) → CanJoin u p (x .state)
+  can-wake x X = can-anew x (waitOver (at (plain t .book) p)) X (over-state (at (plain t .book) p))
+
+  anew : (d : Deed) (x y : Program) → x ≡ y → act lists p d (plain t) ≡ enter lists p y (leave lists p (plain t)) → (r : Tables)
+      → Says r (enter lists p x (plain u)) → Played t (on p d ∷ []) r
+  anew d x y X e r =
+      says-as (ap (λ (z : Program). enter lists p z (plain u)) X ∙ ap (enter lists p y) (S .state) ∙ sym e ∙ act-step p (C .known) d (plain t))
+
+  pub became : (s : ℕ) (w : Why) (x : Program) → x ≡ inState s w (at (plain t .book) p) → (r : Tables)
+      → Says r (enter lists p x (plain u)) → Played t (on p (becomes s w) ∷ []) r
   unfolding act
-  became r s w = says-as (ap (enter lists p s w) (S .state) ∙ act-step p (C .known) (becomes s w) (plain t))
+  became s w x X = anew (becomes s w) x (inState s w (at (plain t .book) p)) X refl
+
+  pub was-woken : (x : Program) → x ≡ waitOver (at (plain t .book) p) → (r : Tables) → Says r (enter lists p x (plain u))
+      → Played t (on p wakes ∷ []) r
+  unfolding act
+  was-woken x X = anew wakes x (waitOver (at (plain t .book) p)) X refl
+
+  pub was-priced : (n : ℕ) (x : Program) → x ≡ withPriority n (at (plain t .book) p) → (r : Tables) → Says r (enter lists p x (plain u))
+      → Played t (on p (priced n) ∷ []) r
+  unfolding act
+  was-priced n x X = anew (priced n) x (withPriority n (at (plain t .book) p)) X refl
 
   pub was-loaded : (r : Tables) (x : Program) (nm : List ℕ) (n : ℕ) → x ≡ newcomer nm n → Says r (amend lists p x (plain u))
       → Played t (on p (loaded nm n) ∷ []) r
@@ -199,45 +226,22 @@ module _ (t u : Tables) (p : ℕ) (C : CanTurn t p) (S : Says u (leave lists p (
       says-as
       (ap (λ (y : Program). amend lists p y (plain u)) e ∙ ap (amend lists p unused) (S .state) ∙ act-step p (C .known) unloaded (plain t))
 
-  -- its record takes a priority, and it enters its chain anew
-  module _ (y x : Program) (n : ℕ) (Y : y ≡ at (plain u .book) p) (X : x ≡ withPriority n y) where
-    pub can-price : CanAmend u p x
-    can-price = can-amend x (ap (λ (z : Program). z .state) (X ∙ ap (withPriority n) Y) ∙ out)
-
-    module _ (v : Tables) (b : Program) (B : b ≡ at (plain t .book) p) (A : Says v (amend lists p x (plain u))) where
-      pub can-rejoin : CanJoin v p (b .state)
-      can-rejoin = record {
-        orderly = A .orderly;
+-- p's record is amended and p stays in its chain: its timer, its mark
+module _ (t : Tables) (p : ℕ) (C : CanTurn t p) where
+  noted : (d : Deed) (x y : Program) → x ≡ y → y .state ≡ stateOf (plain t .book) p → y .priority ≡ prioOf (plain t .book) p
+      → act lists p d (plain t) ≡ amend lists p y (plain t) → Played t (on p d ∷ []) (withRecord p x t)
+  noted d x y X s n e =
+      says-as (ap (λ (z : Program). amend lists p z (plain t)) X ∙ sym e ∙ act-step p (C .known) d (plain t)) (amended-says t p x (record {
+        orderly = C .orderly;
         known = C .known;
-        state = omega (arith, ap (λ (z : Program). z .state) B, C .orderly .states p (C .known));
-        out = ap (λ (a : State lists). stateOf (a .book) p) (A .state) ∙ state-same (plain u .book) (S .orderly .long) p (C .known) x
-            ∙ can-price .state ∙ out;
-      }
+        state = ap (λ (z : Program). z .state) X ∙ s;
+        priority = λ k. ap (λ (z : Program). z .priority) X ∙ n;
+      }))
 
-      pub was-priced : (r : Tables) → Says r (enter lists p (b .state) (b .why) (plain v)) → Played t (on p (priced n) ∷ []) r
-      unfolding act
-      was-priced r =
-          says-as
-          (ap (λ (z : Program). enter lists p (z .state) (z .why) (plain v)) B
-          ∙ ap (enter lists p (stateOf (plain t .book) p) (whyOf (plain t .book) p))
-          (A .state
-          ∙ ap (λ (z : Program). amend lists p z (plain u)) (X ∙ ap (withPriority n) Y)
-          ∙ ap (λ (a : State lists). amend lists p (withPriority n (at (a .book) p)) a) (S .state))
-          ∙ act-step p (C .known) (priced n) (plain t))
-
--- p's timer
-module _ (t : Tables) (p : ℕ) (C : CanTurn t p) (y x : Program) (d i : ℕ) (Y : y ≡ at (plain t .book) p) (X : x ≡ withTimer d i y) where
-  retimed : x ≡ withTimer d i (at (plain t .book) p)
-  retimed = X ∙ ap (withTimer d i) Y
-
-  pub can-time : CanAmend t p x
-  can-time = record {
-    orderly = C .orderly;
-    known = C .known;
-    state = ap (λ (z : Program). z .state) retimed;
-    priority = λ k. ap (λ (z : Program). z .priority) retimed;
-  }
-
-  pub was-timed : (r : Tables) → Says r (amend lists p x (plain t)) → Played t (on p (timed d i) ∷ []) r
+  pub was-timed : (d i : ℕ) (x : Program) → x ≡ withTimer d i (at (plain t .book) p) → Played t (on p (timed d i) ∷ []) (withRecord p x t)
   unfolding act
-  was-timed r = says-as (ap (λ (z : Program). amend lists p z (plain t)) retimed ∙ act-step p (C .known) (timed d i) (plain t))
+  was-timed d i x X = noted (timed d i) x (withTimer d i (at (plain t .book) p)) X refl refl refl
+
+  pub was-marked : (x : Program) → x ≡ withMark (at (plain t .book) p) → Played t (on p marked ∷ []) (withRecord p x t)
+  unfolding act
+  was-marked x X = noted marked x (withMark (at (plain t .book) p)) X refl refl refl

@@ -9,13 +9,11 @@ use lib.ListN.{length, getD, take, drop, drop-of-length-le}
 use lib.Seq.{length-take-le, drop-cons, getD-take}
 use Rattle.lists.specs.Lists.{count}
 use Rattle.lists.proofs.Laws.{same-refl}
-use Rattle.records.specs.declared.Why.the-variants.{Nothing}
-use Rattle.rules.specs.Plans.{becomes, on, wake}
+use Rattle.rules.specs.Plans.{wakes, on, wake}
 use Rattle.rules.specs.Keeper.{lists, State, play}
-use Rattle.rules.proofs.shared.Deeds.{wakes-becomes}
 use Rattle.tables.specs.declared.Tables.{Tables}
 use Rattle.tables.specs.Tables.{plain}
-use Rattle.tables.specs.Inner.{Orderly, Played, CanBecome, CanWake}
+use Rattle.tables.specs.Inner.{Orderly, Played, CanTurn, CanWake}
 
 -- what stands in a list is counted there
 count-at : (c : List ℕ) (i : ℕ) → i < length c → 1 ≤ count (getD c i 0) c
@@ -48,11 +46,10 @@ module _ (t : Tables) (ids : List ℕ) (len : ℕ) (C : CanWake t ids len) where
       here : getD (take len ids) i 0 ≡ getD ids i 0
       here = getD-take len ids i 0 h
 
-      pub can-wake : CanBecome r (getD ids i 0) 1
+      pub can-wake : CanTurn r (getD ids i 0)
       can-wake = record {
         orderly = W .orderly;
         known = C .known (getD ids i 0) (rw here at (count-at (take len ids) i (omega (arith, long))));
-        state = omega arith;
       }
 
       left-over : drop i (take len ids) ≡ getD ids i 0 ∷ drop (i + 1) (take len ids)
@@ -61,13 +58,13 @@ module _ (t : Tables) (ids : List ℕ) (len : ℕ) (C : CanWake t ids len) where
           ∙ ap (λ (q : ℕ). q ∷ drop (suc i) (take len ids)) here
           ∙ ap (λ (j : ℕ). getD ids i 0 ∷ drop j (take len ids)) (sym (add-one i))
 
-      pub waking-more : (u : Tables) → Played r (on (getD ids i 0) (becomes 1 Nothing) ∷ []) u → Waking t ids len u (i + 1)
+      pub waking-more : (u : Tables) → Played r (on (getD ids i 0) wakes ∷ []) u → Waking t ids len u (i + 1)
       waking-more u S = record {
         orderly = S .orderly;
         within = omega arith;
         plays =
             ap (λ (a : State lists). play lists (wake (drop (i + 1) (take len ids))) a)
-            (S .state ∙ sym (wakes-becomes lists (getD ids i 0) (plain r)))
+            (S .state)
             ∙ ap (λ (c : List ℕ). play lists (wake c) (plain r)) (sym left-over)
             ∙ W .plays;
       }

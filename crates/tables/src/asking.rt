@@ -48,6 +48,10 @@ impl Tables {
                 answer: answer,
                 tables: self.timed(p, due, interval),
             },
+            Effect::Mark(p) => Outcome {
+                answer: answer,
+                tables: self.marked(p),
+            },
             Effect::Become(p, state, why) => Outcome {
                 answer: answer,
                 tables: self.becomes(p, state, why),

@@ -3,7 +3,7 @@
 ghost use mathlib.Core.List.{[], _∷_};
 ghost use Rattle.limits.specs.Limits.{scheduled, general};
 ghost use Rattle.records.specs.declared.Why.the-variants.{Nothing, Son};
-ghost use Rattle.rules.specs.Plans.{becomes, priced, loaded, unloaded, timed, on};
+ghost use Rattle.rules.specs.Plans.{becomes, wakes, priced, loaded, unloaded, timed, marked, on};
 ghost use Rattle.rules.specs.Keeper.{lists, leave, enter, amend};
 ghost use Rattle.tables.specs.Tables.{plain};
 ghost use Rattle.tables.specs.Inner.{Says, Played, CanTurn, CanJoin, CanAmend, CanBecome, CanAwait};
@@ -47,21 +47,20 @@ impl Tables {
         }
     }
 
-    // p, which stands in no chain, takes a state for a reason, and enters its chain.
-    pub(crate) fn entered(self, p: u8, state: u8, why: Why) -> Tables
-        requires { ⌜ CanJoin self p state ⌝ }
-        ensures { λ t. ⌜ Says t (enter lists p state why (plain self)) ⌝ }
+    // p, which stands in no chain, has this record from now on, and enters the chain of its state.
+    pub(crate) fn entered(self, p: u8, r: Program) -> Tables
+        requires { ⌜ CanJoin self p (r .state) ⌝ }
+        ensures { λ t. ⌜ Says t (enter lists p r (plain self)) ⌝ }
     {
         let i = p as usize - 1;
         let mut ledger = self.ledger;
         let links = self.links;
-        let r = ledger.programs[i];
-        ledger.programs[i] = r.in_state(state, why);
-        if state == DORMANT {
+        ledger.programs[i] = r;
+        if r.state == DORMANT {
             return Tables { ledger, links };
         }
         let programs = ledger.programs;
-        let more = chains::enter(links, programs, state as usize, p);
+        let more = chains::enter(links, programs, r.state as usize, p);
         Tables {
             ledger,
             links: more,
@@ -73,8 +72,23 @@ impl Tables {
         requires { ⌜ CanBecome self p state ⌝ }
         ensures { λ t. ⌜ Played self (on p (becomes state why) ∷ []) t ⌝ }
     {
+        let i = p as usize - 1;
+        let book = self.ledger;
+        let r = book.programs[i];
         let t = self.left(p);
-        t.entered(p, state, why)
+        t.entered(p, r.in_state(state, why))
+    }
+
+    // p's wait is over: it is scheduled, or suspended where its mark stood.
+    pub(crate) fn waited(self, p: u8) -> Tables
+        requires { ⌜ CanTurn self p ⌝ }
+        ensures { λ t. ⌜ Played self (on p wakes ∷ []) t ⌝ }
+    {
+        let i = p as usize - 1;
+        let book = self.ledger;
+        let r = book.programs[i];
+        let t = self.left(p);
+        t.entered(p, r.wait_over())
     }
 
     // p is sent off, and c waits for it.
@@ -93,13 +107,9 @@ impl Tables {
     {
         let i = p as usize - 1;
         let book = self.ledger;
-        let old = book.programs[i];
-        let why = old.why;
-        let out = self.left(p);
-        let rest = out.ledger;
-        let r = rest.programs[i];
-        let t = out.amended(p, r.with_priority(n));
-        t.entered(p, old.state, why)
+        let r = book.programs[i];
+        let t = self.left(p);
+        t.entered(p, r.with_priority(n))
     }
 
     // p's record takes a new program.
@@ -129,6 +139,19 @@ impl Tables {
         let mut ledger = self.ledger;
         let r = ledger.programs[i];
         ledger.programs[i] = r.with_timer(due, interval);
+        let links = self.links;
+        Tables { ledger, links }
+    }
+
+    // p's mark is set.
+    pub(crate) fn marked(self, p: u8) -> Tables
+        requires { ⌜ CanTurn self p ⌝ }
+        ensures { λ t. ⌜ Played self (on p marked ∷ []) t ⌝ }
+    {
+        let i = p as usize - 1;
+        let mut ledger = self.ledger;
+        let r = ledger.programs[i];
+        ledger.programs[i] = r.with_mark();
         let links = self.links;
         Tables { ledger, links }
     }

@@ -1,11 +1,9 @@
-// Waking: the programs of a list enter the scheduled chain one by one.
+// Waking: the waits of the programs of a list are over, one by one.
 ghost use lib.ListN.{take};
 ghost use Rattle.rules.specs.Plans.{wake};
 ghost use Rattle.tables.specs.Inner.{Played, CanWake};
 use super::Tables;
 use chains::Listing;
-use limits::SCHEDULED;
-use records::Why;
 
 impl Tables {
     pub(crate) fn wake(self, list: Listing) -> Tables
@@ -16,7 +14,7 @@ impl Tables {
         let mut t = self;
         for i in 0..n {
             let p = list.ids[i];
-            t = t.becomes(p, SCHEDULED, Why::Nothing);
+            t = t.waited(p);
         }
         t
     }

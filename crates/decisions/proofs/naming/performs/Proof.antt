@@ -33,7 +33,7 @@ prices-requires c κs =
 awaits-requires : tie.Need-awaits-requires
 awaits-requires c κs =
     let s = c .before .before in
-    record { caller = subst (Fits (s .args .c)) (c .enum-told .given .1) (s .pre .can .fits); known = s .pre .known }
+    record { caller = subst (Fits (s .args .c)) (c .enum-told2 .given .1) (s .pre .can .fits); known = s .pre .known }
 
 times-requires : tie.Need-times-requires
 times-requires c κs =
@@ -47,32 +47,38 @@ returns c =
 
 returns-2 : tie.Need-returns-2
 returns-2 c =
-    let s = c .before .before .before .before in
-    λ v nm O. on s v nm (c .before .before .task2 .given .1) (c .prices .ensures v nm (ap (λ (r : Program). r .priority) (O .row)))
+    let s = c .before .before .before in
+    λ v nm O. on s v nm (c .before .enum-told .given .1)
+    (c .suspends .ensures v nm (ap (λ (r : Program). r .state) (O .row)) (ap (λ (r : Program). r .suspend) (O .row)))
 
 returns-3 : tie.Need-returns-3
 returns-3 c =
     let s = c .before .before .before .before in
-    λ v nm O. on s v nm (c .before .before .task3 .given .1) (c .dismisses .ensures v nm (O .tracks))
+    λ v nm O. on s v nm (c .before .before .task2 .given .1) (c .prices .ensures v nm (ap (λ (r : Program). r .priority) (O .row)))
 
 returns-4 : tie.Need-returns-4
 returns-4 c =
-    let s = c .before .before .before in
-    λ v nm O. on s v nm (c .before .enum-told .given .1) (c .awaits .ensures v nm (ap (λ (r : Program). r .state) (O .row)))
+    let s = c .before .before .before .before in
+    λ v nm O. on s v nm (c .before .before .task3 .given .1) (c .dismisses .ensures v nm (O .tracks))
 
 returns-5 : tie.Need-returns-5
 returns-5 c =
     let s = c .before .before .before in
-    λ v nm O. on s v nm (c .before .enum-told2 .given .1) (c .shifts2 .ensures v nm (ap (λ (r : Program). r .state) (O .row)))
+    λ v nm O. on s v nm (c .before .enum-told2 .given .1) (c .awaits .ensures v nm (ap (λ (r : Program). r .state) (O .row)))
 
 returns-6 : tie.Need-returns-6
 returns-6 c =
+    let s = c .before .before .before in
+    λ v nm O. on s v nm (c .before .enum-told3 .given .1) (c .shifts2 .ensures v nm (ap (λ (r : Program). r .state) (O .row)))
+
+returns-7 : tie.Need-returns-7
+returns-7 c =
     let s = c .before .before .before .before in
     λ v nm O. on s v nm (c .before .before .task4 .given .1) (c .times .ensures v nm (O .clock))
 
 pub performs-spec : {M : Type 1} → statement M
 performs-spec =
     tie.close
-    (tie.spec (λ c. search needs) shifts-requires (λ c. search needs) prices-requires (λ c. search needs) (λ c κs. search needs)
-    (λ c. search needs) awaits-requires (λ c. search needs) (λ c κs. search needs) (λ c. search needs) times-requires returns
-    returns-2 returns-3 returns-4 returns-5 returns-6)
+    (tie.spec (λ c. search needs) shifts-requires (λ c. search needs) (λ c κs. search needs) (λ c. search needs) prices-requires
+    (λ c. search needs) (λ c κs. search needs) (λ c. search needs) awaits-requires (λ c. search needs) (λ c κs. search needs)
+    (λ c. search needs) times-requires returns returns-2 returns-3 returns-4 returns-5 returns-6 returns-7)

@@ -1,35 +1,26 @@
--- `tables::Tables::priced` meets its contract: p has left, so its record can take any priority, and it can enter again.
+-- `tables::Tables::priced` meets its contract: p has left, so it can enter its chain again with any priority.
 -- Assumes nothing.
-use mathlib.Core.Path.{refl}
 use borrow.Author.Needs.{needs}
-use Rattle.tables.proofs.Turns.{can-price, can-rejoin, was-priced}
+use Rattle.tables.proofs.Turns.{can-anew, was-priced}
 use Rattle.tables.proofs.Tables.priced.Statement.{statement}
 use Rattle.tables.proofs.Tables.priced.Tie as tie
 
--- where p has left, from where its record has its new priority; and the start
-abbrev gone : tie.After-with-priority → tie.After-left
-gone x = x .before .before .before
-
+-- the start, from where p has its new record
 abbrev start : tie.After-with-priority → tie.Start
-start x = gone x .before .before .before
-
-amended-requires : tie.Need-amended-requires
-amended-requires c κs = can-price _ _ _ (start c .pre) (gone c .left .ensures) _ _ _ refl (c .with-priority .ensures)
+start x = x .before .before .before .before
 
 entered-requires : tie.Need-entered-requires
 entered-requires c κs =
-    let x = c .before in
-    can-rejoin _ _ _ (start x .pre) (gone x .left .ensures) _ _ _ refl (x .with-priority .ensures) _ _ refl (c .amended .ensures)
+    let b = start c .pre in
+    can-anew _ _ _ b (c .before .left .ensures) _ _ (c .with-priority .ensures) (b .orderly .states _ (b .known))
 
 returns : tie.Need-returns
 returns c =
-    let v = c .before in
-    let x = v .before in
-    was-priced _ _ _ (start x .pre) (gone x .left .ensures) _ _ _ refl (x .with-priority .ensures) _ _ refl (v .amended .ensures) _
-    (c .entered .ensures)
+    let x = c .before in
+    was-priced _ _ _ (start x .pre) (x .before .left .ensures) _ _ (x .with-priority .ensures) _ (c .entered .ensures)
 
 pub priced-spec : {M : Type 1} → statement M
 priced-spec =
     tie.close
-    (tie.spec (λ c. search needs) (λ c. search needs) (λ c. search needs) (λ c κs. search needs) (λ c. search needs)
-    (λ c. search needs) (λ c κs. search needs) amended-requires entered-requires returns)
+    (tie.spec (λ c. search needs) (λ c. search needs) (λ c. search needs) (λ c κs. search needs) (λ c κs. search needs) entered-requires
+    returns)

@@ -1,16 +1,12 @@
 -- `tables::Tables::timed` meets its contract: a timer leaves state and priority.
 -- Assumes nothing.
-use mathlib.Core.Path.{refl}
 use borrow.Author.Needs.{needs}
-use Rattle.tables.proofs.Turns.{amended-says, can-time, was-timed}
+use Rattle.tables.proofs.Turns.{was-timed}
 use Rattle.tables.proofs.Tables.timed.Statement.{statement}
 use Rattle.tables.proofs.Tables.timed.Tie as tie
 
 returns : tie.Need-returns
-returns c =
-    let m = c .before in
-    let C = m .before .before .before .pre in
-    was-timed _ _ C _ _ _ _ refl (m .with-timer .ensures) _ (amended-says _ _ _ (can-time _ _ C _ _ _ _ refl (m .with-timer .ensures)))
+returns c = let m = c .before in was-timed _ _ (m .before .before .before .pre) _ _ _ (m .with-timer .ensures)
 
 pub timed-spec : {M : Type 1} → statement M
 timed-spec =

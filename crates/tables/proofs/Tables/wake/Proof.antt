@@ -25,8 +25,8 @@ loop-holds c = waking-none _ _ _ (c .pre)
 element-copy-out-p : tie.Need-element-copy-out-p Inv-loop μ-loop
 element-copy-out-p c = omega (arith, c .before .before .pre .most)
 
-becomes-requires : tie.Need-becomes-requires Inv-loop μ-loop
-becomes-requires c κs =
+waited-requires : tie.Need-waited-requires Inv-loop μ-loop
+waited-requires c κs =
     let s = c .before .before .before in
     can-wake _ _ _ (s .pre) (long s) _ _ (c .before .before .loop .inv) (c .before .loop-test .taken)
 
@@ -37,7 +37,7 @@ loop-again : tie.Need-loop-again Inv-loop μ-loop
 loop-again c =
     let b = c .before .before in
     let s = b .before .before in
-    waking-more _ _ _ (s .pre) (long s) _ _ (b .before .loop .inv) (b .loop-test .taken) _ (c .becomes .ensures)
+    waking-more _ _ _ (s .pre) (long s) _ _ (b .before .loop .inv) (b .loop-test .taken) _ (c .waited .ensures)
 
 returns : tie.Need-returns Inv-loop μ-loop
 returns c =
@@ -47,4 +47,4 @@ returns c =
 pub wake-spec : {M : Type 1} → statement M
 wake-spec =
     tie.close
-    (tie.spec Inv-loop μ-loop loop-holds element-copy-out-p becomes-requires add-i (λ c. omega arith) loop-again returns)
+    (tie.spec Inv-loop μ-loop loop-holds element-copy-out-p waited-requires add-i (λ c. omega arith) loop-again returns)
