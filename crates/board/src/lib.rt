@@ -115,7 +115,7 @@ pub extern "C" fn board_ask(
 }
 
 // Reads a page back: the tables, in packed form, at the front of `tables`, the rest of it untouched. The reading's own answer, 0, or 15 and
-// the line, with the smallest tables; or 12, and `tables` as it was, where fewer than 1,237 bytes are lent for these, value 1237.
+// the line, with the smallest tables; or 12, and `tables` as it was, where fewer than 1,269 bytes are lent for these, value 1269.
 #[no_mangle]
 pub extern "C" fn board_read(page: &[u8], tables: &mut [u8], answer: &mut [u8]) -> u64
     ensures { λ r. ⌜ record { number = r; tables = now (tables .exit); answer = now (answer .exit) }
@@ -125,7 +125,7 @@ pub extern "C" fn board_read(page: &[u8], tables: &mut [u8], answer: &mut [u8]) 
         return 12;
     }
     if tables.len() < packing::PACKED_LENGTH {
-        return telling::tell(answer, Answer::TooShort(1237));
+        return telling::tell(answer, Answer::TooShort(1269));
     }
     let r = reader::read_page(page);
     let t = r.tables;

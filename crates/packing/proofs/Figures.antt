@@ -96,12 +96,12 @@ five s o h =
     ∙ ap (λ (l : List ℕ). getD s (o + 4) 0 ∷ l) (taken-next 0 s (o + 5) (o + 6) (omega arith) (omega arith)))))
 
 -- a record, from its parts
-pub program-is : (s : List ℕ) (o : ℕ) (r : Program) (n : ℕ) → o + 28 ≤ length s → r .used ≡ ltb 0 (getD s o 0)
+pub program-is : (s : List ℕ) (o : ℕ) (r : Program) (n : ℕ) → o + 29 ≤ length s → r .used ≡ ltb 0 (getD s o 0)
     → r .name ≡ getD s (o + 1) 0 ∷ getD s (o + 2) 0 ∷ getD s (o + 3) 0 ∷ getD s (o + 4) 0 ∷ getD s (o + 5) 0 ∷ []
     → r .priority ≡ figureAt 2 s (o + 6) → r .state ≡ getD s (o + 8) 0 → n ≡ figureAt 2 s (o + 10) → r .why ≡ whyOf (getD s (o + 9) 0) n
-    → r .due ≡ figureAt 8 s (o + 12) → r .interval ≡ figureAt 8 s (o + 20) → r ≡ programAt s o
+    → r .due ≡ figureAt 8 s (o + 12) → r .interval ≡ figureAt 8 s (o + 20) → r .suspend ≡ ltb 0 (getD s (o + 28) 0) → r ≡ programAt s o
 unfolding programAt
-program-is s o r n h used name priority state count why due interval = λ i. record {
+program-is s o r n h used name priority state count why due interval suspend = λ i. record {
   used = used i;
   name = (name ∙ sym (five s o (omega arith))) i;
   priority = priority i;
@@ -109,4 +109,5 @@ program-is s o r n h used name priority state count why due interval = λ i. rec
   why = (why ∙ ap (whyOf (getD s (o + 9) 0)) count) i;
   due = due i;
   interval = interval i;
+  suspend = suspend i;
 }

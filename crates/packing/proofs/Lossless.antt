@@ -72,9 +72,9 @@ count-fits (Son k) h = omega arith
 count-fits (Lock r) h = omega arith
 count-fits Number h = omega arith
 
-used-back : (b : Bool) → ltb 0 (hit b) ≡ b
-used-back true = refl
-used-back false = refl
+hit-back : (b : Bool) → ltb 0 (hit b) ≡ b
+hit-back true = refl
+hit-back false = refl
 
 -- what stands at place o: a byte, a number, a list; and what stands behind it
 module _ (s : List ℕ) (o : ℕ) where
@@ -117,14 +117,15 @@ anyone (x ∷ xs) = (tt, anyone xs)
 program-parts : (r : Program) (rest : List ℕ)
     → packProgram r ++ rest
     ≡ (hit (r .used) ∷ []) ++ (r .name ++ (inBytes 2 (r .priority)
-    ++ (r .state ∷ kindOf (r .why) ∷ (inBytes 2 (countOf (r .why)) ++ (inBytes 8 (r .due) ++ (inBytes 8 (r .interval) ++ rest))))))
+    ++ (r .state ∷ kindOf (r .why) ∷ (inBytes 2 (countOf (r .why)) ++ (inBytes 8 (r .due) ++ (inBytes 8 (r .interval) ++ (hit (r .suspend) ∷ rest)))))))
 unfolding packProgram
 program-parts r rest = simp append-assoc
 
 program-back : (s : List ℕ) (r : Program) (o : ℕ) (rest : List ℕ) → FitProgram r → drop o s ≡ packProgram r ++ rest → programAt s o ≡ r
 unfolding programAt
 program-back s r o rest F whole =
-    let g = inBytes 8 (r .interval) ++ rest in
+    let m = hit (r .suspend) ∷ rest in
+    let g = inBytes 8 (r .interval) ++ m in
     let f = inBytes 8 (r .due) ++ g in
     let e = inBytes 2 (countOf (r .why)) ++ f in
     let c = inBytes 2 (r .priority) ++ (r .state ∷ kindOf (r .why) ∷ e) in
@@ -136,15 +137,17 @@ program-back s r o rest F whole =
     let p₁₀ : drop (o + 10) s ≡ e = behind s (o + 9) (o + 10) (kindOf (r .why) ∷ []) (omega arith) p₉ in
     let p₁₂ : drop (o + 12) s ≡ f = behind s (o + 10) (o + 12) (inBytes 2 (countOf (r .why))) (omega arith) p₁₀ in
     let p₂₀ : drop (o + 20) s ≡ g = behind s (o + 12) (o + 20) (inBytes 8 (r .due)) (omega arith) p₁₂ in
+    let p₂₈ : drop (o + 28) s ≡ m = behind s (o + 20) (o + 28) (inBytes 8 (r .interval)) (omega arith) p₂₀ in
     λ i. record {
-      used = (ap (ltb 0) (byte-at s o p₀) ∙ used-back (r .used)) i;
+      used = (ap (ltb 0) (byte-at s o p₀) ∙ hit-back (r .used)) i;
       name = list-at s (o + 1) 5 (r .name) c (F .name) p₁ i;
       priority = number-at s (o + 6) 2 (r .priority) (r .state ∷ kindOf (r .why) ∷ e) (F .priority) p₆ i;
       state = byte-at s (o + 8) p₈ i;
       why = (ap₂ whyOf (byte-at s (o + 9) p₉) (number-at s (o + 10) 2 (countOf (r .why)) f (count-fits (r .why) (F .why)) p₁₀)
           ∙ why-back (r .why) (F .why)) i;
       due = number-at s (o + 12) 8 (r .due) g (F .due) p₁₂ i;
-      interval = number-at s (o + 20) 8 (r .interval) rest (F .interval) p₂₀ i;
+      interval = number-at s (o + 20) 8 (r .interval) m (F .interval) p₂₀ i;
+      suspend = (ap (ltb 0) (byte-at s (o + 28) p₂₈) ∙ hit-back (r .suspend)) i;
     }
 
 tables-parts : (t : Tables)
@@ -179,8 +182,8 @@ lossless t A F =
     λ i. record {
       ledger = record {
         programs =
-            (ap (λ (k : ℕ). map (λ i. programAt s (programsPlace + 28 * i)) (from 0 k)) (sym (A .programs))
-            ∙ items-back FitProgram packProgram 28 (λ r f. program-length r (f .name)) s (λ i. programsPlace + 28 * i) (λ i. omega arith)
+            (ap (λ (k : ℕ). map (λ i. programAt s (programsPlace + 29 * i)) (from 0 k)) (sym (A .programs))
+            ∙ items-back FitProgram packProgram 29 (λ r f. program-length r (f .name)) s (λ i. programsPlace + 29 * i) (λ i. omega arith)
             (programAt s) (program-back s) ps 0 [] (F .programs) (p₃₄₁ ∙ sym (append-nil (join (map packProgram ps)))))
             i;
         clock = record { ticks = number-at s 0 8 (t .ledger .clock .ticks) x (F .clock) p₀ i };

@@ -32,7 +32,7 @@ use Rattle.packing.proofs.Lossless.{wide, FitWhy, FitProgram, Each, Fit
 abbrev Named : Program → Type 0
 Named r = length (r .name) ≡ 5
 
-names-length : (xs : List Program) → Each Named xs → length (join (map packProgram xs)) ≡ 28 * length xs
+names-length : (xs : List Program) → Each Named xs → length (join (map packProgram xs)) ≡ 29 * length xs
 names-length [] h = refl
 names-length (x ∷ xs) h =
     omega (arith, length-append (packProgram x) (join (map packProgram xs)), program-length x (h .0), names-length xs (h .1))
@@ -85,7 +85,7 @@ module _ (s : List ℕ) (long : length s ≡ packedLength) where
   unpacked-names : Each Named (unpacked s .ledger .programs)
   unfolding unpacked programAt
   unpacked-names =
-      each-from Named (λ i. programAt s (programsPlace + 28 * i)) 0 32 (λ i h. part-length (programsPlace + 28 * i + 1) 5 (omega arith))
+      each-from Named (λ i. programAt s (programsPlace + 29 * i)) 0 32 (λ i h. part-length (programsPlace + 29 * i + 1) 5 (omega arith))
 
   pub unpacked-length : length (packed (unpacked s)) ≡ packedLength
   unpacked-length = packed-length (unpacked s) unpacked-arrays unpacked-names
@@ -121,9 +121,9 @@ module _ (s : List ℕ) (b : Bytes s) where
     tracks = figure-small 2 8;
     system = figure-small 2 10;
     programs =
-        each-from FitProgram (λ i. programAt s (programsPlace + 28 * i)) 0 32
+        each-from FitProgram (λ i. programAt s (programsPlace + 29 * i)) 0 32
         (λ i h.
-        let o = programsPlace + 28 * i in
+        let o = programsPlace + 29 * i in
         record {
           name = part-length s long (o + 1) 5 (omega arith);
           priority = figure-small 2 (o + 6);
@@ -145,11 +145,11 @@ module _ (s : List ℕ) where
   -- what the code has in hand: the tables that the bytes say, packed where as many bytes stood
   pub packed-is : (t : Tables) (l form : List ℕ) (n : ℕ) → length s ≡ packedLength → length l ≡ packedLength → t ≡ unpacked s
       → Wrote l 0 (packed t) form n
-      → alike (slice 0 1237 form) s ≡ isPacked s
+      → alike (slice 0 1269 form) s ≡ isPacked s
   packed-is t l form n long k u w =
       let whole : form ≡ packed t = filled-whole w (ap (λ (x : Tables). length (packed x)) u ∙ unpacked-length s long ∙ sym k) in
-      let all : length form ≤ 1237 = omega (arith, ap length whole, ap (λ (x : Tables). length (packed x)) u, unpacked-length s long) in
-      ap (λ (x : List ℕ). alike x s) (take-all 1237 form all ∙ whole ∙ ap packed u)
+      let all : length form ≤ 1269 = omega (arith, ap length whole, ap (λ (x : Tables). length (packed x)) u, unpacked-length s long) in
+      ap (λ (x : List ℕ). alike x s) (take-all 1269 form all ∙ whole ∙ ap packed u)
       ∙ sym (by-length true (eq-eqb (length s) packedLength long))
 
   pub is-length : isPacked s ≡ true → length s ≡ packedLength

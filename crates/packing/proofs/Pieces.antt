@@ -58,24 +58,24 @@ pub resources-length : (xs : List Resource) → length (join (map packResource x
 resources-length [] = refl
 resources-length (x ∷ xs) = omega (arith, resources-length xs)
 
-pub program-length : (r : Program) → length (r .name) ≡ 5 → length (packProgram r) ≡ 28
+pub program-length : (r : Program) → length (r .name) ≡ 5 → length (packProgram r) ≡ 29
 unfolding packProgram
 program-length r h = simp length-append (omega arith)
 
-pub program-wrote : {l₀ l₁ l₂ l₃ l₄ l₅ l₆ l₇ l₈ : List ℕ} {at₀ at₁ at₂ at₃ at₄ at₅ at₆ at₇ at₈ : ℕ} (r : Program) (u k n : ℕ)
-    → u ≡ hit (r .used) → k ≡ kindOf (r .why) → n ≡ countOf (r .why)
+pub program-wrote : {l₀ l₁ l₂ l₃ l₄ l₅ l₆ l₇ l₈ l₉ : List ℕ} {at₀ at₁ at₂ at₃ at₄ at₅ at₆ at₇ at₈ at₉ : ℕ} (r : Program) (u k n m : ℕ)
+    → u ≡ hit (r .used) → k ≡ kindOf (r .why) → n ≡ countOf (r .why) → m ≡ hit (r .suspend)
     → Wrote l₀ at₀ (u ∷ []) l₁ at₁ → Wrote l₁ at₁ (r .name) l₂ at₂ → Wrote l₂ at₂ (inBytes 2 (r .priority)) l₃ at₃
     → Wrote l₃ at₃ (r .state ∷ []) l₄ at₄
     → Wrote l₄ at₄ (k ∷ []) l₅ at₅ → Wrote l₅ at₅ (inBytes 2 n) l₆ at₆ → Wrote l₆ at₆ (inBytes 8 (r .due)) l₇ at₇
-    → Wrote l₇ at₇ (inBytes 8 (r .interval)) l₈ at₈
-    → Wrote l₀ at₀ (packProgram r) l₈ at₈
+    → Wrote l₇ at₇ (inBytes 8 (r .interval)) l₈ at₈ → Wrote l₈ at₈ (m ∷ []) l₉ at₉
+    → Wrote l₀ at₀ (packProgram r) l₉ at₉
 unfolding packProgram
-program-wrote r u k n eu ek en a b c d e f g h =
-    wrote-as (rw (eu, ek, en) (simp (append-assoc, append-nil))) (parts-end
-    (parts-step (parts-step (parts-step (parts-step (parts-step (parts-step (parts-step (parts-step (parts-start (
+program-wrote r u k n m eu ek en em a b c d e f g h i =
+    wrote-as (rw (eu, ek, en, em) (simp append-assoc)) (parts-end
+    (parts-step (parts-step (parts-step (parts-step (parts-step (parts-step (parts-step (parts-step (parts-step (parts-start (
     (u ∷ []) ∷ r .name ∷ inBytes 2 (r .priority) ∷ (r .state ∷ []) ∷ (k ∷ []) ∷ inBytes 2 n ∷ inBytes 8 (r .due)
-    ∷ inBytes 8 (r .interval) ∷ []
-    )) a) b) c) d) e) f) g) h))
+    ∷ inBytes 8 (r .interval) ∷ (m ∷ []) ∷ []
+    )) a) b) c) d) e) f) g) h) i))
 
 pub tables-wrote : {l₀ l₁ l₂ l₃ l₄ l₅ l₆ l₇ l₈ : List ℕ} {at₀ at₁ at₂ at₃ at₄ at₅ at₆ at₇ at₈ : ℕ} (t : Tables)
     → Wrote l₀ at₀ (inBytes 8 (t .ledger .clock .ticks)) l₁ at₁ → Wrote l₁ at₁ (inBytes 2 (t .ledger .tracks .count)) l₂ at₂

@@ -4,7 +4,7 @@ ghost use Prim.Native.Nat.{_+_, _*_, _≤_};
 ghost use mathlib.Core.List.{map};
 ghost use lib.ListN.{length, take, drop};
 ghost use Rattle.limits.specs.Limits.{mostPrograms, mostTracks, mostNumbers};
-ghost use Rattle.lists.specs.Lists.{from, join};
+ghost use Rattle.lists.specs.Lists.{hit, from, join};
 ghost use Rattle.text.specs.Inner.{Wrote};
 ghost use Rattle.tracks.specs.Tracks.{tableAt};
 ghost use Rattle.packing.specs.Packed.{inBytes, figureAt, kindOf, countOf, whyOf, packProgram, programAt, packResource, resourceAt};
@@ -31,7 +31,7 @@ const LINKS_PLACE: usize = 301;
 
 const PROGRAMS_PLACE: usize = 341;
 
-pub const PACKED_LENGTH: usize = 1237;
+pub const PACKED_LENGTH: usize = 1269;
 
 // The number in two bytes at a place, the lowest first.
 fn pair_at(s: &[u8], at: usize) -> u16
@@ -71,9 +71,9 @@ fn why_of(kind: u8, n: u16) -> Why
     Why::Number
 }
 
-// The record in 28 bytes at a place.
+// The record in 29 bytes at a place.
 fn program_at(s: &[u8], at: usize) -> Program
-    requires { ⌜ at + 28 ≤ length (now s) ⌝ }
+    requires { ⌜ at + 29 ≤ length (now s) ⌝ }
     ensures { λ r. ⌜ r ≡ programAt (now (s .entry)) at ⌝ }
 {
     let name = [s[at + 1], s[at + 2], s[at + 3], s[at + 4], s[at + 5]];
@@ -86,17 +86,18 @@ fn program_at(s: &[u8], at: usize) -> Program
         why: why,
         due: long_at(s, at + 12),
         interval: long_at(s, at + 20),
+        suspend: 0 < s[at + 28],
     }
 }
 
 fn programs_at(s: &[u8]) -> [Program; MOST_PROGRAMS]
     requires { ⌜ packedLength ≤ length (now s) ⌝ }
-    ensures { λ r. ⌜ r ≡ map (λ i. programAt (now (s .entry)) (programsPlace + 28 * i)) (from 0 mostPrograms) ⌝ }
+    ensures { λ r. ⌜ r ≡ map (λ i. programAt (now (s .entry)) (programsPlace + 29 * i)) (from 0 mostPrograms) ⌝ }
 {
     let unused = records::unused_record();
     let mut programs = [unused; MOST_PROGRAMS];
     for i in 0..MOST_PROGRAMS {
-        programs[i] = program_at(s, PROGRAMS_PLACE + 28 * i);
+        programs[i] = program_at(s, PROGRAMS_PLACE + 29 * i);
     }
     programs
 }
@@ -136,7 +137,7 @@ fn links_at(s: &[u8]) -> [u8; SLOTS]
     links
 }
 
-// The tables in 1,237 bytes.
+// The tables in 1,269 bytes.
 pub fn tables_at(s: &[u8]) -> Tables
     requires { ⌜ packedLength ≤ length (now s) ⌝ }
     ensures { λ r. ⌜ r ≡ unpacked (now (s .entry)) ⌝ }
@@ -206,25 +207,34 @@ fn count_of(why: Why) -> u16
     }
 }
 
+fn hit_of(b: bool) -> u8
+    ensures { λ r. ⌜ r ≡ hit b ⌝ }
+{
+    if b {
+        return 1;
+    }
+    0
+}
+
 fn put_program(buf: &mut [u8], at: usize, r: Program) -> usize
-    requires { ⌜ at + 28 ≤ length (now buf) ⌝ }
+    requires { ⌜ at + 29 ≤ length (now buf) ⌝ }
     ensures { λ n. ⌜ Wrote (now (buf .entry)) at (packProgram r) (now (buf .exit)) n ⌝ }
 {
     let name = r.name;
     let why = r.why;
-    let used = if r.used { 1 } else { 0 };
-    let a = text::put_byte(buf, at, used);
+    let a = text::put_byte(buf, at, hit_of(r.used));
     let b = text::put_bytes(buf, a, &name);
     let c = put_pair(buf, b, r.priority);
     let d = text::put_byte(buf, c, r.state);
     let e = text::put_byte(buf, d, kind_of(why));
     let f = put_pair(buf, e, count_of(why));
     let g = put_long(buf, f, r.due);
-    put_long(buf, g, r.interval)
+    let h = put_long(buf, g, r.interval);
+    text::put_byte(buf, h, hit_of(r.suspend))
 }
 
 fn put_programs(buf: &mut [u8], at: usize, programs: [Program; MOST_PROGRAMS]) -> usize
-    requires { ⌜ at + 896 ≤ length (now buf) ⌝ }
+    requires { ⌜ at + 928 ≤ length (now buf) ⌝ }
     ensures { λ n. ⌜ Wrote (now (buf .entry)) at (join (map packProgram programs)) (now (buf .exit)) n ⌝ }
 {
     let mut o = at;
@@ -248,7 +258,7 @@ fn put_resources(buf: &mut [u8], at: usize, resources: [Resource; MOST_NUMBERS])
     o
 }
 
-// Puts the tables in 1,237 bytes.
+// Puts the tables in 1,269 bytes.
 pub fn put_tables(buf: &mut [u8], tables: Tables) -> usize
     requires { ⌜ packedLength ≤ length (now buf) ⌝ }
     ensures { λ n. ⌜ Wrote (now (buf .entry)) 0 (packed tables) (now (buf .exit)) n ⌝ }

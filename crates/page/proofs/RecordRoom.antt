@@ -1,4 +1,4 @@
--- Room for the lines of the used records. Soundness bounds each value, so a record has at most 91 bytes besides its
+-- Room for the lines of the used records. Soundness bounds each value, so a record has at most 101 bytes besides its
 -- number; and the used ones are some of all.
 -- Assumes nothing.
 use Prim.Native.Nat.{ℕ, _+_, _<_, _≤_}
@@ -13,7 +13,7 @@ use borrow.Author.Tests.{eqb-true}
 use Rattle.lists.specs.Lists.{count, upTo}
 use Rattle.lists.proofs.Laws.{keep-in, keep-le}
 use Rattle.lists.proofs.Tests.{false-true, both, upTo-true}
-use Rattle.text.specs.Text.{text, digits, decimal}
+use Rattle.text.specs.Text.{text, digits, decimal, entry}
 use Rattle.text.proofs.Laws.{entry-length, decimal-length}
 use Rattle.clock.specs.Clock.{ceiling, farthest}
 use Rattle.records.specs.declared.Program.{Program}
@@ -24,7 +24,7 @@ use Rattle.records.specs.Records.{Known, known, all, recordAt}
 use Rattle.rules.specs.Book.{Book, at}
 use Rattle.rules.specs.Sound.{suits, Names, Whys, Limits, Dues}
 use Rattle.rules.proofs.shared.Places.{all-in}
-use Rattle.page.specs.Page.{bytes, orDash, reason, usedIn, recorded, recordLines}
+use Rattle.page.specs.Page.{bytes, orDash, reason, markLine, usedIn, recorded, recordLines}
 use Rattle.page.proofs.Writing.{pieces-join}
 use Rattle.page.proofs.Widths.{figure-length, orDash-length}
 use Rattle.page.proofs.Weights.{weigh, weigh-fewer, lines-weigh, keep-length}
@@ -65,6 +65,11 @@ due-most b L D p P = go (ℕ-discrete (at b p .due) 0)
     go (yes e) = omega arith
     go (no n) = omega (arith, D .near p P n, L .time)
 
+mark-length : (b : Bool) → length (bytes (markLine b)) ≤ 10
+unfolding bytes entry
+mark-length true = omega arith
+mark-length false = omega arith
+
 -- RECORDS
 -- a used one is one of all and is used; no more than there are
 used-in : (ps : List Program) (p : ℕ) → 1 ≤ count p (usedIn ps) → Known p × (recordAt ps p .used ≡ true)
@@ -76,9 +81,9 @@ unfolding usedIn
 used-fewer ps p = keep-le (λ q. recordAt ps q .used) p all
 
 abbrev weight : ℕ → ℕ
-weight p = 91 + length (decimal p)
+weight p = 101 + length (decimal p)
 
-records-weigh : weigh weight all ≡ 2967
+records-weigh : weigh weight all ≡ 3287
 unfolding all decimal digits
 records-weigh = refl
 
@@ -101,9 +106,10 @@ module _ (b : Book) (N : Names b) (W : Whys b) (L : Limits b) (D : Dues b) where
         orDash-length timer 12 (r .due) (omega (arith, due-most b L D p P)),
         entry-length (text "interval") (orDash timer (r .interval)),
         orDash-length timer 9 (r .interval) (omega (arith, D .steps p P)),
+        mark-length (r .suspend),
       ))
 
-  pub record-room : length (bytes (recordLines (b .programs))) ≤ 2967
+  pub record-room : length (bytes (recordLines (b .programs))) ≤ 3287
   unfolding recordLines
   record-room = omega (
     arith,

@@ -1,5 +1,4 @@
--- The page of a sound state has at most 7,871 bytes: it fits 8,192, and would with ten bytes more for each of 32 records. Each part has
--- its own bound; here they are added up.
+-- The page of a sound state has at most 8,191 bytes: it fits 8,192. Each part has its own bound; here they are added up.
 -- Assumes nothing.
 use Prim.Native.Nat.{_≤_}
 use native.Mathlib.Omega.{arith}
@@ -40,7 +39,7 @@ head-room b L = simp length-append (omega (
   figure-length "programs" 1 (length (usedIn (b .programs))) (omega (arith, used-length (b .programs))),
 ))
 
-pub page-length : (a : State lists) → Sound a → length (page a) ≤ 7871
+pub page-length : (a : State lists) → Sound a → length (page a) ≤ 8191
 page-length a S =
     let b : Book = a .book in
     rw (page-pieces a) (simp length-append (omega (

@@ -23,7 +23,8 @@ use Rattle.tracks.specs.declared.held.Run.{Run}
 use Rattle.tracks.specs.Tracks.{nobody, system}
 use Rattle.rules.specs.Keeper.{lists, State}
 use Rattle.page.specs.Inner.{others}
-use Rattle.page.specs.Page.{Line, bytesOf, bytes, line, heldKey, numberKey, party, orDash, heldLine, numberLine, parts, lines, page}
+use Rattle.page.specs.Page.{Line, bytesOf, bytes, line, suspendKey, heldKey, numberKey, markWord, party, orDash, markLine}
+use Rattle.page.specs.Page.{heldLine, numberLine, parts, lines, page}
 
 -- what is written, under another name
 pub wrote-as : {l x y l′ : List ℕ} {at n : ℕ} → x ≡ y → Wrote l at y l′ n → Wrote l at x l′ n
@@ -52,6 +53,20 @@ bytes-append : (xs ys : List Line) → bytes (xs ++ ys) ≡ bytes xs ++ bytes ys
 unfolding bytes
 bytes-append [] ys = refl
 bytes-append (x ∷ xs) ys = ap (λ (r : List ℕ). bytesOf x ++ r) (bytes-append xs ys) ∙ sym (append-assoc (bytesOf x) (bytes xs) (bytes ys))
+
+-- lines one by one, and then some in one piece
+pub lines-then : (xs ys : List Line) → bytes (xs ++ ys) ≡ join (map bytesOf xs ++ (bytes ys ∷ []))
+unfolding bytes
+lines-then [] ys = sym (append-nil (bytes ys))
+lines-then (x ∷ xs) ys = ap (λ (r : List ℕ). bytesOf x ++ r) (lines-then xs ys)
+
+-- a mark's line, and none
+pub mark-there : (b : Bool) → b ≡ true → bytes (markLine b) ≡ bytesOf (line suspendKey (text markWord))
+mark-there b e = ap (λ (t : Bool). bytes (markLine t)) e ∙ bytes-line (line suspendKey (text markWord))
+
+pub mark-none : (b : Bool) → b ≡ false → bytes (markLine b) ≡ []
+unfolding bytes
+mark-none b e = ap (λ (t : Bool). bytes (markLine t)) e
 
 -- the lines of some things, a piece for each thing
 abbrev pub pieces : {A : Type 0} → (A → List Line) → List A → List (List ℕ)

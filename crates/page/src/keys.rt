@@ -33,6 +33,10 @@ pub const DUE: [u8; 3] = *b"due";
 
 pub const INTERVAL: [u8; 8] = *b"interval";
 
+pub const SUSPEND: [u8; 7] = *b"suspend";
+
+pub const MARK: [u8; 1] = *b"1";
+
 pub const NONE: [u8; 1] = *b"-";
 
 pub const FOR_TRACKS: [u8; 7] = *b"tracks:";

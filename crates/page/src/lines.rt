@@ -5,7 +5,7 @@ ghost use Rattle.limits.specs.Limits.{mostPrograms};
 ghost use Rattle.records.specs.Names.{bare};
 ghost use Rattle.text.specs.Text.{entry};
 ghost use Rattle.text.specs.Inner.{Wrote};
-ghost use Rattle.page.specs.Page.{bytesOf, bytes, reason, orDash, headLines, recorded, chainLine, heldLine, numberLine};
+ghost use Rattle.page.specs.Page.{bytesOf, bytes, reason, orDash, markLine, headLines, recorded, chainLine, heldLine, numberLine};
 use super::keys;
 use super::values;
 use chains::Listing;
@@ -64,6 +64,17 @@ fn put_or_dash_line(buf: &mut [u8], at: usize, key: &[u8], there: bool, n: u64) 
     text::put_byte(buf, b, 10)
 }
 
+// The line of a mark, where there is one.
+fn put_mark_line(buf: &mut [u8], at: usize, there: bool) -> usize
+    requires { ⌜ at + length (bytes (markLine there)) ≤ length (now buf) ⌝ }
+    ensures { λ r. ⌜ Wrote (now (buf .entry)) at (bytes (markLine there)) (now (buf .exit)) r ⌝ }
+{
+    if there {
+        return text::put_entry(buf, at, &keys::SUSPEND, &keys::MARK);
+    }
+    at
+}
+
 // The lines of program p.
 pub(crate) fn put_record(buf: &mut [u8], at: usize, p: u8, program: Program) -> usize
     requires { ⌜ at + length (bytes (recorded p program)) ≤ length (now buf) ⌝ }
@@ -78,7 +89,8 @@ pub(crate) fn put_record(buf: &mut [u8], at: usize, p: u8, program: Program) -> 
     let d = text::put_figure(buf, c, &keys::STATE, program.state as u64);
     let e = put_why_line(buf, d, &keys::WHY, why);
     let f = put_or_dash_line(buf, e, &keys::DUE, timer, program.due);
-    put_or_dash_line(buf, f, &keys::INTERVAL, timer, program.interval)
+    let g = put_or_dash_line(buf, f, &keys::INTERVAL, timer, program.interval);
+    put_mark_line(buf, g, program.suspend)
 }
 
 // The chain of a state.

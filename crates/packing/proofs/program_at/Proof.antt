@@ -7,12 +7,13 @@ use Rattle.packing.proofs.program_at.Tie as tie
 
 returns : tie.Need-returns
 returns c =
-    let p = c .before .before .before in
+    let l = c .before in
+    let p = l .before .before .before in
     let w = p .before .before in
     let n = w .before in
     let s = n .before .before .before .before .before .before .before .before in
     program-is (s .args .s .now) (s .args .at) _ (n .pair-at .result) (s .pre) refl refl (p .pair-at2 .ensures) refl (n .pair-at .ensures)
-    (w .why-of .ensures) (c .before .long-at .ensures) (c .long-at2 .ensures)
+    (w .why-of .ensures) (l .before .long-at .ensures) (l .long-at2 .ensures) refl
 
 pub program-at-spec : {M : Type 1} → statement M
 program-at-spec =
@@ -21,4 +22,4 @@ program-at-spec =
     (λ c. search needs) (λ c. search needs) (λ c. search needs) (λ c. search needs) (λ c. search needs) (λ c. search needs)
     (λ c. search needs) (λ c. search needs) (λ c κs. search needs) (λ c κs. search needs) (λ c. search needs) (λ c. search needs)
     (λ c κs. search needs) (λ c. search needs) (λ c. search needs) (λ c. search needs) (λ c κs. search needs) (λ c. search needs)
-    (λ c κs. search needs) returns)
+    (λ c κs. search needs) (λ c. search needs) (λ c. search needs) returns)

@@ -12,7 +12,7 @@ use Rattle.packing.proofs.programs_at.Statement.{statement}
 use Rattle.packing.proofs.programs_at.Tie as tie
 
 abbrev at : List ℕ → ℕ → Program
-at s i = programAt s (programsPlace + 28 * i)
+at s i = programAt s (programsPlace + 29 * i)
 
 abbrev Inv-loop : tie.InvT-loop
 Inv-loop s programs₀ i₀ programs i = Filled 32 (listed (at s)) i programs

@@ -39,7 +39,7 @@ slice-aggregate-put-bytes : tie.Need-slice-aggregate-put-bytes
 slice-aggregate-put-bytes c = sym (long (c .before .before .before .before))
 
 -- there is room for what stands behind the holders
-room : (c : tie.After-put-bytes) → c .put-bytes .result + 968 ≤ length (c .put-bytes .last .0)
+room : (c : tie.After-put-bytes) → c .put-bytes .result + 1000 ≤ length (c .put-bytes .last .0)
 room c = omega (arith, long (c .before .before .before .before .before))
 
 slice-aggregate-put-bytes-2 : tie.Need-slice-aggregate-put-bytes-2

@@ -1,23 +1,29 @@
--- `lines::put_record` meets its contract: after each call the lines from the next on are left. Assumes nothing.
+-- `lines::put_record` meets its contract: after each call the lines from the next on are left, and at last what a mark adds.
+-- Assumes nothing.
 use Prim.Native.Nat.{ℕ}
 use borrow.Author.Needs.{needs}
-use mathlib.Core.List.{List, map}
-use lib.ListN.{drop}
+use mathlib.Core.List.{List, [], _∷_, _++_, map}
+use lib.ListN.{take, drop}
 use Rattle.text.proofs.Laws.{Todo, todo-start, todo-step, todo-room, todo-end, todo-same}
-use Rattle.page.specs.Page.{Line, bytesOf, bytes, recorded}
-use Rattle.page.proofs.Writing.{bytes-lines}
+use Rattle.page.specs.Page.{bytesOf, bytes, markLine, recorded}
+use Rattle.page.proofs.Writing.{lines-then}
 use Rattle.page.proofs.lines.put_record.Statement.{statement}
 use Rattle.page.proofs.lines.put_record.Tie as tie
 
-abbrev all : tie.Start → List Line
-all s = recorded (s .args .p) (s .args .program)
+-- its seven lines, and what a mark adds
+abbrev all : tie.Start → List (List ℕ)
+all s = map bytesOf (take 7 (recorded (s .args .p) (s .args .program))) ++ (bytes (markLine (s .args .program .suspend)) ∷ [])
 
--- the lines from k on are left
+-- the pieces from k on are left
 abbrev From : ℕ → List ℕ → ℕ → Type 0
-From k l at = (s : tie.Start) × Todo (s .args .buf .now) (s .args .at) (bytes (all s)) l at (drop k (map bytesOf (all s)))
+From k l at =
+    (s : tie.Start)
+    × Todo (s .args .buf .now) (s .args .at) (bytes (recorded (s .args .p) (s .args .program))) l at (drop k (all s))
 
 abbrev after-0 : (s : tie.Start) → From 0 (s .args .buf .now) (s .args .at)
-after-0 s = (s, todo-start (map bytesOf (all s)) (bytes-lines (all s)) (s .pre))
+after-0 s =
+    let r = s .args .program in
+    (s, todo-start (all s) (lines-then (take 7 (recorded (s .args .p) r)) (markLine (r .suspend))) (s .pre))
 
 abbrev after-1 : (c : tie.After-put-figure) → From 1 (c .put-figure .last .0) (c .put-figure .result)
 after-1 c = let d = after-0 (c .before .before .before .before .before .before) in (d .0, todo-step (d .1) (c .put-figure .ensures))
@@ -40,6 +46,9 @@ after-6 c = let d = after-5 (c .before .before .before .before .before) in (d .0
 abbrev after-7 : (c : tie.After-put-or-dash-line2) → From 7 (c .put-or-dash-line2 .last .0) (c .put-or-dash-line2 .result)
 after-7 c = let d = after-6 (c .before .before .before .before .before) in (d .0, todo-step (d .1) (c .put-or-dash-line2 .ensures))
 
+abbrev after-8 : (c : tie.After-put-mark-line) → From 8 (c .put-mark-line .last .0) (c .put-mark-line .result)
+after-8 c = let d = after-7 (c .before .before .before .before) in (d .0, todo-step (d .1) (c .put-mark-line .ensures))
+
 pub put-record-spec : {M : Type 1} → statement M
 put-record-spec =
     tie.close
@@ -49,5 +58,6 @@ put-record-spec =
     (λ c κs. todo-room (after-3 (c .before .before .before .before .before) .1)) (λ c. search needs)
     (λ c κs. todo-room (after-4 (c .before .before .before .before) .1)) (λ c. search needs)
     (λ c κs. todo-room (after-5 (c .before .before .before .before) .1)) (λ c. search needs)
-    (λ c κs. todo-room (after-6 (c .before .before .before .before) .1)) (λ c. todo-same (after-7 (c .before .before) .1))
-    (λ c. todo-end (after-7 (c .before .before) .1)))
+    (λ c κs. todo-room (after-6 (c .before .before .before .before) .1))
+    (λ c κs. todo-room (after-7 (c .before .before .before) .1)) (λ c. todo-same (after-8 (c .before .before) .1))
+    (λ c. todo-end (after-8 (c .before .before) .1)))
