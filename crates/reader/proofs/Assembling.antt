@@ -31,7 +31,8 @@ use Rattle.tables.specs.Tables.{lay, freshly}
 use Rattle.tables.specs.Calls.{Result, made}
 use Rattle.page.specs.Page.{chained}
 use Rattle.reader.specs.Said.{started}
-use Rattle.reader.specs.Inner.{byte, narrowRecord, narrowResource}
+use Rattle.shapes.specs.Inner.{byte, narrowResource}
+use Rattle.reader.specs.Inner.{narrowRecord}
 use Rattle.reader.specs.Walks.{withChains, layThese, Holds, Keeps, narrow}
 use Rattle.reader.proofs.Lengths.{started-sized}
 

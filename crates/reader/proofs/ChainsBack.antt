@@ -21,11 +21,12 @@ use Rattle.rules.specs.Keeper.{lists, State}
 use Rattle.rules.specs.Sound.{suits, Chains, Whys}
 use Rattle.rules.proofs.shared.Places.{known-or, none-other}
 use Rattle.page.specs.Page.{chainKey, chained, keyOfChain, chainLine, chainLines}
-use Rattle.reader.specs.Shapes.{there, otherwise, listed}
+use Rattle.shapes.specs.Shapes.{there, otherwise, listed}
 use Rattle.reader.specs.Order.{holding, recordsAhead}
 use Rattle.reader.specs.Said.{withChain, restSaid, chainsSaid}
-use Rattle.reader.proofs.Text.{decimal-only, content, told, Clean, clean-none, clean-more, clean-line}
-use Rattle.reader.proofs.ValuesBack.{Short, listed-back}
+use Rattle.shapes.proofs.Pieces.{decimal-only, clean-line}
+use Rattle.reader.proofs.Text.{content, told, Clean, clean-none, clean-more}
+use Rattle.shapes.proofs.ValuesBack.{Short, listed-back}
 use Rattle.reader.proofs.ScanLaws.{Good, value-behind, chain-step}
 
 -- a chain's line

@@ -11,15 +11,16 @@ use lib.Seq.{slice}
 use Rattle.chains.specs.Links.{slots, layChain}
 use Rattle.rules.specs.Keeper.{lists, State}
 use Rattle.page.specs.Page.{chained, keyOfChain}
-use Rattle.reader.specs.declared.values.Chain.{Chain}
+use Rattle.shapes.specs.declared.values.Chain.{Chain}
 use Rattle.reader.specs.declared.parts.Chains.{Chains}
-use Rattle.reader.specs.Shapes.{there, otherwise, into, listed}
+use Rattle.shapes.specs.Shapes.{there, otherwise, into, listed}
 use Rattle.reader.specs.Order.{Form, chaining, chainsAhead, chainForms, firstBad}
 use Rattle.reader.specs.Said.{withChain, restSaid, chainsSaid}
-use Rattle.reader.specs.Inner.{byte, ChainRead, NoLine, ValueIs}
+use Rattle.shapes.specs.Inner.{byte, ChainRead, NoLine, ValueIs}
 use Rattle.reader.specs.Walks.{ahead, Onward, withChains, layThese, ChainsRead}
 use Rattle.reader.proofs.ScanLaws.{value-behind}
-use Rattle.reader.proofs.LineLaws.{line-shaped, scan-on, scan-off}
+use Rattle.shapes.proofs.LineLaws.{line-shaped}
+use Rattle.reader.proofs.LineLaws.{scan-on, scan-off}
 
 -- the kind of line of a state's chain
 abbrev chainForm : ℕ → Form

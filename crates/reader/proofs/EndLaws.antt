@@ -10,18 +10,18 @@ use mathlib.Core.Option.{none}
 use lib.ListN.{length, drop, length-drop, drop-of-length-le}
 use Rattle.text.specs.Text.{text, behind, onFirst, parts}
 use Rattle.page.specs.Page.{numberKey, endKey, lastWord}
-use Rattle.reader.specs.Shapes.{there, numbered}
+use Rattle.shapes.specs.Shapes.{there, numbered}
 use Rattle.reader.specs.Order.{numbering, ended, numberForm, endForm, choice, valueBehind, afterOne, behindLine, firstBad}
 use Rattle.reader.specs.Said.{withLine, restSaid}
-use Rattle.reader.specs.Inner.{narrowNumbered, numberIn, LineIs, NoLine, unended, keyless, shapeless, wordIs}
+use Rattle.shapes.specs.Inner.{narrowNumbered, numberIn, LineIs, NoLine, unended, keyless, shapeless, wordIs}
 use Rattle.reader.specs.Walks.{ahead, EndRead}
 use Rattle.reader.proofs.ScanLaws.{pass}
-use Rattle.reader.proofs.Marks.{some-part}
+use Rattle.shapes.proofs.Marks.{some-part}
 use Rattle.reader.proofs.LineLaws.{scan-line, scan-stop, pass-key, pass-shape, there-into}
 use Rattle.reader.proofs.HeadLaws.{word-there}
 
 -- at the numbers, a line that is none, or not of its shape, can only be the last one
-at-numbers : (l : List ℕ) → valueBehind (text numberKey) l ≡ none → behindLine numbering l ≡ afterOne (choice endForm ended ∷ []) l
+at-numbers : (l : List ℕ) → behind (text numberKey ++ (61 ∷ [])) l ≡ none → behindLine numbering l ≡ afterOne (choice endForm ended ∷ []) l
 unfolding behindLine
 at-numbers l e = pass-key (choice numberForm numbering) (choice endForm ended ∷ []) l e
 
@@ -46,7 +46,7 @@ module _ (s : List ℕ) (at line : ℕ) where
   no-number l next e (unended m f) =
       let (y, ys, g) = some-part 10 (drop next s) in
       absurd (omega (arith, ap length (sym f ∙ e ∙ ap (λ (x : List (List ℕ)). l ∷ x) g)))
-  no-number l next e (keyless m n f g) = at-numbers l (ap (valueBehind (text numberKey)) (one-line (sym e ∙ f)) ∙ g)
+  no-number l next e (keyless m n f g) = at-numbers l (ap (behind (text numberKey ++ (61 ∷ []))) (one-line (sym e ∙ f)) ∙ g)
   no-number l next e (shapeless v n f g) =
       subst (λ (x : List ℕ). behindLine numbering x ≡ afterOne (choice endForm ended ∷ []) x) (sym (one-line (sym e ∙ f))) (misshapen v g)
 

@@ -10,11 +10,12 @@ use Rattle.lists.specs.Lists.{same, count}
 use Rattle.text.specs.Text.{text, decimal, behind}
 use Rattle.rules.specs.Keeper.{lists, State}
 use Rattle.page.specs.Page.{clockKey, tracksKey, systemKey, numbersKey, programsKey, firstWord, headLines}
-use Rattle.reader.specs.Shapes.{there, otherwise, figure}
+use Rattle.shapes.specs.Shapes.{there, otherwise, figure}
 use Rattle.reader.specs.Order.{valueBehind, isFigure, headForms, heading, recordsAhead}
 use Rattle.reader.specs.Said.{valueOf, started, recordsSaid, said}
-use Rattle.reader.proofs.Text.{decimal-only, told, Clean, clean-none, clean-more, clean-line}
-use Rattle.reader.proofs.ValuesBack.{Short, figure-decimal}
+use Rattle.shapes.proofs.Pieces.{decimal-only, clean-line}
+use Rattle.reader.proofs.Text.{told, Clean, clean-none, clean-more}
+use Rattle.shapes.proofs.ValuesBack.{Short, figure-decimal}
 use Rattle.reader.proofs.ScanLaws.{Good, head-step, head-last}
 
 -- a number's digits have the shape of one, and no byte 10

@@ -12,10 +12,10 @@ use Rattle.text.specs.Text.{text, behind}
 use Rattle.rules.specs.Keeper.{lists, State}
 use Rattle.page.specs.Page.{firstWord, pageKey, clockKey, tracksKey, systemKey, numbersKey, programsKey}
 use Rattle.reader.specs.declared.parts.Head.{Head}
-use Rattle.reader.specs.Shapes.{there, otherwise, figure}
+use Rattle.shapes.specs.Shapes.{there, otherwise, figure}
 use Rattle.reader.specs.Order.{Place, heading, headForms, recordsAhead, valueBehind, firstBad}
 use Rattle.reader.specs.Said.{valueOf, started, recordsSaid, said}
-use Rattle.reader.specs.Inner.{LineIs, NoLine, wordIs}
+use Rattle.shapes.specs.Inner.{LineIs, NoLine, wordIs}
 use Rattle.reader.specs.Walks.{ahead, HeadRead}
 use Rattle.reader.proofs.LineLaws.{scan-on, scan-off}
 

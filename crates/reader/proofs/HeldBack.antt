@@ -22,11 +22,12 @@ use Rattle.rules.specs.Book.{Book, holderOf, withHolders}
 use Rattle.rules.specs.Keeper.{lists, State}
 use Rattle.rules.specs.Sound.{Limits, System}
 use Rattle.page.specs.Page.{Line, line, heldKey, heldLine, heldLines}
-use Rattle.reader.specs.Shapes.{there, runIn}
+use Rattle.shapes.specs.Shapes.{there, runIn}
 use Rattle.reader.specs.Order.{valueBehind, holding}
 use Rattle.reader.specs.Said.{onBook, withRun, withLine, restSaid}
-use Rattle.reader.proofs.Text.{told, told-append, Clean, clean-none, clean-more, clean-append, clean-line}
-use Rattle.reader.proofs.Joined.{runText, run-back, run-clean}
+use Rattle.shapes.proofs.Pieces.{clean-line}
+use Rattle.reader.proofs.Text.{told, told-append, Clean, clean-none, clean-more, clean-append}
+use Rattle.shapes.proofs.Joined.{runText, run-back, run-clean}
 use Rattle.reader.proofs.ScanLaws.{Good, held-step}
 
 -- ONE RUN, which has no line where it is free or the system's

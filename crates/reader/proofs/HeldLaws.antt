@@ -20,11 +20,11 @@ use Rattle.tracks.proofs.Runs.{filled-long}
 use Rattle.rules.specs.Book.{withHolders}
 use Rattle.rules.specs.Keeper.{lists, State}
 use Rattle.page.specs.Page.{heldKey, numberKey}
-use Rattle.reader.specs.Shapes.{there, into, runIn}
+use Rattle.shapes.specs.Shapes.{there, into, runIn}
 use Rattle.reader.specs.Order.{holding, numbering, ended, heldForm, numberForm, endForm, choice, valueBehind}
 use Rattle.reader.specs.Order.{behindLine, firstBad}
 use Rattle.reader.specs.Said.{onBook, withRun, withHeld, withNumbered, withLine, restSaid}
-use Rattle.reader.specs.Inner.{byte, narrowRun, heldIn, runOf, LineIs, NoLine, unended, keyless, shapeless}
+use Rattle.shapes.specs.Inner.{byte, narrowRun, heldIn, runOf, LineIs, NoLine, unended, keyless, shapeless}
 use Rattle.reader.specs.Walks.{ahead, Onward, Holds, HeldRead}
 use Rattle.reader.proofs.Mapping.{map-set}
 use Rattle.reader.proofs.ScanLaws.{value-behind}

@@ -25,7 +25,7 @@ use Rattle.chains.specs.Links.{layChain, layAll, linksOf}
 use Rattle.tables.specs.Tables.{lay, Arrays}
 use Rattle.page.specs.Page.{recordKeys, headKeys, chained, heldKey, numberKey, keyOfChain}
 use Rattle.page.specs.Page.{clockKey, tracksKey, systemKey, numbersKey, programsKey, idKey}
-use Rattle.reader.specs.Shapes.{otherwise, listed, runIn, Numbered, numbered}
+use Rattle.shapes.specs.Shapes.{otherwise, listed, runIn, Numbered, numbered}
 use Rattle.reader.specs.Order.{valueBehind}
 use Rattle.reader.specs.Said.{figureOf, withChain, started, headIn, recordIn, withRecord, withRun, withResource}
 use Rattle.reader.specs.Said.{withHeld, withNumbered, withLine, restSaid, chainsSaid, recordsSaid, said}

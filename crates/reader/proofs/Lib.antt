@@ -1,8 +1,4 @@
 pub mod Text
-pub mod ValueLaws
-pub mod ValuesBack
-pub mod Joined
-pub mod NameBack
 pub mod ScanLaws
 pub mod HeadBack
 pub mod Copying
@@ -12,10 +8,6 @@ pub mod ChainsBack
 pub mod NumbersBack
 pub mod HeldBack
 pub mod LineLaws
-pub mod Marks
-pub mod MarkedFigures
-pub mod MarkedValues
-pub mod MarkedLines
 pub mod RoundTrip
 pub mod Lengths
 pub mod Exact

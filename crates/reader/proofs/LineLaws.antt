@@ -1,49 +1,17 @@
--- Laws of the line at a place: its key, its value, and the scan over it.
+-- Laws of the scan over the line at a place.
 -- Assumes nothing.
-use Prim.Native.Nat.{ℕ, suc, _+_, _≤_}
-use native.Mathlib.Omega.{arith}
-use mathlib.Core.Path.{_≡_, refl, sym, ap, _∙_, subst}
-use mathlib.Core.Bool.{Bool, true, false, cond}
+use Prim.Native.Nat.{ℕ, suc}
+use mathlib.Core.Path.{_≡_, refl, sym, ap, _∙_}
+use mathlib.Core.Bool.{Bool, false}
 use mathlib.Core.List.{List, [], _∷_, _++_}
-use mathlib.Core.Option.{Option, none, some, Option·none-ne-some}
-use lib.ListN.{length, drop, drop-of-length-le}
-use lib.Seq.{slice}
-use Rattle.text.specs.Text.{parts}
-use Rattle.reader.specs.Shapes.{there, into}
+use mathlib.Core.Option.{Option, none, some}
+use lib.ListN.{drop}
+use Rattle.text.specs.Text.{behind, parts}
+use Rattle.shapes.specs.Shapes.{there, into}
 use Rattle.reader.specs.Order.{Place, Choice, valueBehind, mayCome, afterKind, afterOne, behindLine, behindAll, firstBad}
-use Rattle.reader.specs.Inner.{LineIs, NoLine, unended, keyless, shapeless, ValueIs}
-use Rattle.reader.proofs.Marks.{some-part}
+use Rattle.shapes.specs.Inner.{LineIs, NoLine, unended, keyless, shapeless}
+use Rattle.shapes.proofs.Marks.{some-part}
 use Rattle.reader.proofs.ScanLaws.{value-behind, pass}
-
--- behind the last byte there is none
-pub past-end : {A : Type 0} (shape : List ℕ → Option A) (s key : List ℕ) (at : ℕ) → length s ≤ at → NoLine shape s at key
-unfolding parts
-past-end shape s key at h = unended [] (ap (parts 10) (drop-of-length-le s h))
-
--- a key that is another one
-pub value-as : {s key key′ : List ℕ} {at from to : ℕ} → key ≡ key′ → ValueIs s at key from to → ValueIs s at key′ from to
-value-as {s} {at = at} {from} {to} e v = subst (λ (k : List ℕ). ValueIs s at k from to) e v
-
-pub no-line-as : {s key key′ : List ℕ} {at : ℕ} → key ≡ key′ → NoLine {A = List ℕ} some s at key → NoLine {A = List ℕ} some s at key′
-no-line-as {s} {at = at} e v = subst (λ (k : List ℕ). NoLine {A = List ℕ} some s at k) e v
-
--- a value with and without a shape
-module _ {A : Type 0} (shape : List ℕ → Option A) {s key : List ℕ} {at : ℕ} where
-  pub line-shaped : {from to : ℕ} {a : A} → ValueIs s at key from to → shape (slice from to s) ≡ some a → LineIs shape s at key a (to + 1)
-  line-shaped {from} {to} v e =
-      record { value = slice from to s; cut = v .cut; beyond = omega (arith, v .beyond); within = omega (arith, v .high); shaped = e }
-
-  pub line-unshaped : {from to : ℕ} → ValueIs s at key from to → shape (slice from to s) ≡ none → NoLine shape s at key
-  line-unshaped {from} {to} v e = shapeless (slice from to s) (to + 1) (v .cut) e
-
-  pub line-unkeyed : NoLine {A = List ℕ} some s at key → NoLine shape s at key
-  line-unkeyed (unended l e) = unended l e
-  line-unkeyed (keyless l next e k) = keyless l next e k
-  line-unkeyed (shapeless v next e k) = absurd (Option·none-ne-some v (sym k))
-
--- whether a value is a word
-abbrev pub wordIf : Bool → Option Bool
-wordIf b = cond b (some true) none
 
 pub scan-line : (p q : Place) (l s : List ℕ) (n : ℕ) → behindLine p l ≡ some q
     → firstBad p n (l ∷ parts 10 s) ≡ firstBad q (suc n) (parts 10 s)
@@ -78,7 +46,8 @@ there-into f none = refl
 there-into f (some a) = refl
 
 -- one that is of another kind, or of the kind but not of its shape
-pub pass-key : (c : Choice) (cs : List Choice) (l : List ℕ) → valueBehind (c .kind .key) l ≡ none → afterOne (c ∷ cs) l ≡ afterOne cs l
+pub pass-key : (c : Choice) (cs : List Choice) (l : List ℕ) → behind (c .kind .key ++ (61 ∷ [])) l ≡ none
+    → afterOne (c ∷ cs) l ≡ afterOne cs l
 unfolding valueBehind
 pass-key c cs l e =
     ap (λ (o : Option (List ℕ)). elim o [ none ↦ afterOne cs l | some v ↦ afterKind (c .then v) (c .kind .shape v) (afterOne cs l) ]) e

@@ -24,7 +24,7 @@ use Rattle.reader.specs.Said.{said}
 use Rattle.reader.specs.Reading.{wasRead, notRead, writes, judged, reading}
 use Rattle.text.specs.Lines.{linesEnded, lastBytes}
 use Rattle.reader.specs.Lines.{behindThese, FirstNot, not-formed, not-there, AllFormed, WrittenBy}
-use Rattle.reader.proofs.Marks.{some-part}
+use Rattle.shapes.proofs.Marks.{some-part}
 use Rattle.reader.proofs.Lengths.{said-arrays}
 use Rattle.reader.proofs.Exact.{written-read}
 

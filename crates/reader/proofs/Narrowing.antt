@@ -29,7 +29,8 @@ use Rattle.tables.proofs.Plain.{sound-plain}
 use Rattle.page.specs.Page.{page}
 use Rattle.reader.specs.Said.{said}
 use Rattle.reader.specs.Reading.{wasRead, notRead, writes, judged}
-use Rattle.reader.specs.Inner.{byte, twoBytes, narrowWhy, narrowRecord, narrowResource}
+use Rattle.shapes.specs.Inner.{byte, twoBytes, narrowWhy, narrowResource}
+use Rattle.reader.specs.Inner.{narrowRecord}
 use Rattle.reader.specs.Walks.{narrow}
 use Rattle.reader.proofs.Lengths.{Sized, said-sized, sized-arrays}
 use Rattle.reader.proofs.RoundTrip.{page-said}

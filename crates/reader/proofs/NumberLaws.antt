@@ -19,12 +19,12 @@ use Rattle.records.proofs.Table.{resources-made, fit-with}
 use Rattle.rules.specs.Book.{withResources}
 use Rattle.rules.specs.Keeper.{lists, State}
 use Rattle.page.specs.Page.{numberKey}
-use Rattle.reader.specs.Shapes as shapes
-use Rattle.reader.specs.Shapes.{into, numbered}
+use Rattle.shapes.specs.Shapes as shapes
+use Rattle.shapes.specs.Shapes.{into, numbered}
 use Rattle.reader.specs.Order.{numbering, numberForm, choice, valueBehind}
 use Rattle.reader.specs.Order.{firstBad}
 use Rattle.reader.specs.Said.{onBook, withResource, withLine, restSaid}
-use Rattle.reader.specs.Inner.{byte, narrowResource, narrowNumbered, numberIn, numberedOf, LineIs, NoLine}
+use Rattle.shapes.specs.Inner.{byte, narrowResource, narrowNumbered, numberIn, numberedOf, LineIs, NoLine}
 use Rattle.reader.specs.Walks.{ahead, Onward, Keeps, NumbersRead}
 use Rattle.reader.proofs.Mapping.{map-set}
 use Rattle.reader.proofs.LineLaws.{there-into, scan-on}

@@ -19,12 +19,13 @@ use Rattle.rules.specs.Book.{Book, withResources}
 use Rattle.rules.specs.Keeper.{lists, State}
 use Rattle.rules.specs.Sound.{Limits, Unlocked}
 use Rattle.page.specs.Page.{Line, line, numberKey, numberLine, numberLines}
-use Rattle.reader.specs.Shapes.{there, Numbered, numbered}
+use Rattle.shapes.specs.Shapes.{there, Numbered, numbered}
 use Rattle.reader.specs.Order.{valueBehind, holding, numbering}
 use Rattle.reader.specs.Said.{onBook, withResource, withLine, restSaid}
-use Rattle.reader.proofs.Text.{told, told-append, Clean, clean-none, clean-more, clean-append, clean-line}
-use Rattle.reader.proofs.ValuesBack.{Short}
-use Rattle.reader.proofs.Joined.{numberText, numberOf, number-back, number-clean}
+use Rattle.shapes.proofs.Pieces.{clean-line}
+use Rattle.reader.proofs.Text.{told, told-append, Clean, clean-none, clean-more, clean-append}
+use Rattle.shapes.proofs.ValuesBack.{Short}
+use Rattle.shapes.proofs.Joined.{numberText, numberOf, number-back, number-clean}
 use Rattle.reader.proofs.ScanLaws.{Good, number-first, number-step}
 use Rattle.reader.proofs.Copying.{copied, Copies, copies-all}
 

@@ -15,10 +15,10 @@ use Rattle.records.specs.Names.{nameOf}
 use Rattle.rules.specs.Keeper.{lists, State}
 use Rattle.page.specs.Page.{idKey, nameKey, priorityKey, stateKey, whyKey, dueKey, intervalKey}
 use Rattle.reader.specs.declared.parts.Record.{Record}
-use Rattle.reader.specs.Shapes.{there, otherwise, into, figure, figureOrDash, reasonOf}
+use Rattle.shapes.specs.Shapes.{there, otherwise, into, figure, figureOrDash, reasonOf}
 use Rattle.reader.specs.Order.{Place, recordAhead, recordForms, recordsAhead, valueBehind, firstBad}
 use Rattle.reader.specs.Said.{valueOf, withRecord, recordsSaid}
-use Rattle.reader.specs.Inner.{LineIs, NoLine, byte, twoBytes, narrowWhy, reasonIn}
+use Rattle.shapes.specs.Inner.{LineIs, NoLine, byte, twoBytes, narrowWhy, reasonIn}
 use Rattle.reader.specs.Walks.{ahead, RecordRead}
 use Rattle.reader.proofs.LineLaws.{scan-on, scan-off}
 

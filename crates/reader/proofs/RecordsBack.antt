@@ -25,13 +25,14 @@ use Rattle.rules.specs.Sound.{suits, Names, Zeros, Whys, Limits, Dues}
 use Rattle.rules.proofs.shared.Places.{known-is, all-in, all-one}
 use Rattle.page.specs.Page.{idKey, nameKey, priorityKey, stateKey, whyKey, dueKey, intervalKey, tracksWord, sonWord, lockWord}
 use Rattle.page.specs.Page.{Line, chained, reason, orDash, usedIn, recorded, recordLines}
-use Rattle.reader.specs.Shapes.{there, otherwise, figure, figureOrDash, reasonOf}
+use Rattle.shapes.specs.Shapes.{there, otherwise, figure, figureOrDash, reasonOf}
 use Rattle.reader.specs.Order.{valueBehind, recordsAhead}
 use Rattle.reader.specs.Said.{valueOf, onBook, withRecord, chainsSaid, recordsSaid}
-use Rattle.reader.proofs.Text.{decimal-only, told, Clean, clean-none, clean-more, clean-append, clean-line}
-use Rattle.reader.proofs.ValuesBack.{Short, figure-decimal, dash-back, Fitting, reason-back}
-use Rattle.reader.proofs.Joined.{dash-only}
-use Rattle.reader.proofs.NameBack.{name-back, name-clean}
+use Rattle.shapes.proofs.Pieces.{decimal-only, clean-line}
+use Rattle.reader.proofs.Text.{told, Clean, clean-none, clean-more, clean-append}
+use Rattle.shapes.proofs.ValuesBack.{Short, figure-decimal, dash-back, Fitting, reason-back}
+use Rattle.shapes.proofs.Joined.{dash-only}
+use Rattle.shapes.proofs.NameBack.{name-back, name-clean}
 use Rattle.reader.proofs.ScanLaws.{Good, record-step}
 use Rattle.reader.proofs.HeadBack.{figure-there, figure-clean}
 use Rattle.reader.proofs.Copying.{copied, Copies, copies-all}

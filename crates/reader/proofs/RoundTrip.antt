@@ -30,7 +30,7 @@ use Rattle.reader.specs.Order.{valueBehind, heading, headForms, firstBad
 use Rattle.reader.specs.Said.{started, withLine, restSaid, recordsSaid, said}
 use Rattle.reader.specs.Reading.{wasRead, notRead, writes, judged, reading}
 use Rattle.reader.proofs.Text.{told, toldAll, told-join, Clean, clean-none, clean-more, clean-append, bytes-parts}
-use Rattle.reader.proofs.ValuesBack.{Short}
+use Rattle.shapes.proofs.ValuesBack.{Short}
 use Rattle.reader.proofs.ScanLaws.{Good, lastLines, end-held, end-numbered}
 use Rattle.reader.proofs.HeadBack.{head-clean, head-good, head-said}
 use Rattle.reader.proofs.RecordsBack.{withPrograms, records-clean, records-good, records-said}

@@ -9,7 +9,7 @@ use mathlib.Core.Option.{Option, none, some}
 use Rattle.text.specs.Text.{text, behind}
 use Rattle.text.proofs.Words.{behind-append}
 use Rattle.page.specs.Page.{line, heldKey, numberKey, endKey, lastWord}
-use Rattle.reader.specs.Shapes.{there, otherwise, figure, runIn, numbered}
+use Rattle.shapes.specs.Shapes.{there, otherwise, figure, runIn, numbered}
 use Rattle.reader.specs.Order.{Form, heldForm, numberForm, endForm, Place, heading, recording, chaining, holding, numbering}
 use Rattle.reader.specs.Order.{ended, Choice, choice, chainsAhead, recordsAhead, recordAhead}
 use Rattle.reader.specs.Order.{valueBehind, afterKind, afterOne, behindLine, firstBad}

@@ -27,7 +27,8 @@ use Rattle.reader.specs.declared.parts.Numbered.{Numbered}
 use Rattle.reader.specs.Order.{heading, headForms, firstBad}
 use Rattle.reader.specs.Said.{onBook, started, said}
 use Rattle.reader.specs.Reading.{notRead, judged, reading}
-use Rattle.reader.specs.Inner.{byte, narrowRecord}
+use Rattle.shapes.specs.Inner.{byte}
+use Rattle.reader.specs.Inner.{narrowRecord}
 use Rattle.reader.specs.Walks.{ahead, Onward, withPrograms, withChains, Holds, Keeps, narrow}
 use Rattle.reader.specs.Walks.{HeadIs, RecordsAre, RecordsRead, ChainsAre, ChainsRead, HeldRead, NumbersRead, EndRead}
 use Rattle.reader.proofs.Narrowing.{narrow-judged}

@@ -1,4 +1,3 @@
-pub mod Shapes
 pub mod Order
 pub mod Said
 pub mod Reading

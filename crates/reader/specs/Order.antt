@@ -10,7 +10,7 @@ use Rattle.lists.specs.Lists.{alike}
 use Rattle.text.specs.Text.{text, behind}
 use Rattle.records.specs.Names.{nameOf}
 use Rattle.page.specs.Page.{headKeys, recordKeys, suspendKey, heldKey, numberKey, endKey, chained, keyOfChain, firstWord, lastWord, markWord}
-use Rattle.reader.specs.Shapes.{there, otherwise, figure, figureOrDash, reasonOf, listed, runIn, numbered}
+use Rattle.shapes.specs.Shapes.{there, otherwise, figure, figureOrDash, reasonOf, listed, runIn, numbered}
 
 -- a kind of line: its key, and whether a value has its shape
 pub record Form : Type 0 where

@@ -22,7 +22,7 @@ use Rattle.rules.specs.Rules.{sizes}
 use Rattle.rules.specs.Keeper.{lists, State}
 use Rattle.page.specs.Page.{clockKey, tracksKey, systemKey, numbersKey, programsKey, idKey, nameKey, priorityKey, stateKey, whyKey, dueKey}
 use Rattle.page.specs.Page.{intervalKey, headKeys, recordKeys, heldKey, numberKey, chained, keyOfChain}
-use Rattle.reader.specs.Shapes.{otherwise, figure, figureOrDash, reasonOf, listed, runIn, Numbered, numbered}
+use Rattle.shapes.specs.Shapes.{otherwise, figure, figureOrDash, reasonOf, listed, runIn, Numbered, numbered}
 use Rattle.reader.specs.Order.{markForm, valueBehind}
 
 -- the value of the line of that key among some lines; a number there

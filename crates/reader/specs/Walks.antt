@@ -26,7 +26,8 @@ use Rattle.reader.specs.declared.parts.Numbered.{Numbered}
 use Rattle.reader.specs.Order.{heading, recording, recordsAhead, chainsAhead, holding, numbering, headForms, recordForms, chainForms}
 use Rattle.reader.specs.Order.{firstBad}
 use Rattle.reader.specs.Said.{onBook, withChain, withRecord, started, restSaid, chainsSaid, recordsSaid, said}
-use Rattle.reader.specs.Inner.{byte, narrowRecord, narrowResource, numberIn, NoLine}
+use Rattle.shapes.specs.Inner.{byte, narrowResource, numberIn, NoLine}
+use Rattle.reader.specs.Inner.{narrowRecord}
 
 -- the lines from a place on
 abbrev pub ahead : List ℕ → ℕ → List (List ℕ)

@@ -1,8 +1,6 @@
 // A page read back: exactly the bytes that the writer makes from some sound tables are read.
 mod holding;
-mod lines;
 mod parts;
-mod values;
 
 ghost use mathlib.Core.Path.{_≡_};
 ghost use Prim.Native.Nat.{_≤_};

@@ -9,10 +9,10 @@ use lib.ListN.{getD}
 use borrow.Author.Needs.{needs}
 use Rattle.page.specs.Page.{chained, keyOfChain}
 use borrow.Author.Tests.{not-true, not-false}
-use Rattle.reader.specs.Shapes.{listed}
-use Rattle.reader.specs.Inner.{unbroken, ValueAt, ValueIs}
-use Rattle.reader.proofs.MarkedLines.{chain-unbroken}
-use Rattle.reader.proofs.LineLaws.{value-as, no-line-as, line-unshaped, line-unkeyed}
+use Rattle.shapes.specs.Shapes.{listed}
+use Rattle.shapes.specs.Inner.{unbroken, ValueAt, ValueIs}
+use Rattle.shapes.proofs.MarkedLines.{chain-unbroken}
+use Rattle.shapes.proofs.LineLaws.{value-as, no-line-as, line-unshaped, line-unkeyed}
 use Rattle.reader.proofs.ChainsLaws.{SoFar, Next, none-yet, next-of, all-read, bad-chain, one-read}
 use Rattle.reader.proofs.parts.read_chains.Statement.{statement}
 use Rattle.reader.proofs.parts.read_chains.Tie as tie

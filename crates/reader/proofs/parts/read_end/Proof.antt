@@ -2,7 +2,7 @@
 -- Assumes nothing.
 use native.Mathlib.Omega.{arith}
 use mathlib.Core.Path.{subst}
-use Rattle.reader.specs.Inner.{WordAt}
+use Rattle.shapes.specs.Inner.{WordAt}
 use Rattle.reader.proofs.EndLaws.{no-end, all-over, more-behind}
 use borrow.Author.Needs.{needs}
 use Rattle.reader.proofs.parts.read_end.Statement.{statement}

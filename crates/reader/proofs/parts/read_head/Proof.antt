@@ -6,8 +6,8 @@ use mathlib.Core.Bool.{true}
 use borrow.Author.Needs.{needs}
 use Rattle.text.specs.Text.{text}
 use Rattle.page.specs.Page.{firstWord, pageKey, clockKey, tracksKey, systemKey, numbersKey, programsKey}
-use Rattle.reader.specs.Shapes.{figure}
-use Rattle.reader.specs.Inner.{LineIs, wordIs, WordAt, FigureAt}
+use Rattle.shapes.specs.Shapes.{figure}
+use Rattle.shapes.specs.Inner.{LineIs, wordIs, WordAt, FigureAt}
 use Rattle.reader.proofs.HeadLaws as laws
 use Rattle.reader.proofs.parts.read_head.Statement.{statement}
 use Rattle.reader.proofs.parts.read_head.Tie as tie

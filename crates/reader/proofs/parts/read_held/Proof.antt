@@ -13,8 +13,8 @@ use Rattle.tracks.specs.Tracks.{tableAt}
 use Rattle.tracks.specs.Inner.{Fit}
 use Rattle.tracks.proofs.Turns.{filled-places}
 use Rattle.page.specs.Page.{heldKey}
-use Rattle.reader.specs.Inner.{heldIn, runOf, LineIs, RunAt}
-use Rattle.reader.proofs.LineLaws.{past-end}
+use Rattle.shapes.specs.Inner.{heldIn, runOf, LineIs, RunAt}
+use Rattle.shapes.proofs.LineLaws.{past-end}
 use Rattle.reader.proofs.HeldLaws.{SoFar, none-yet, putRun, put-in, put-over, put-back, all-held, one-more}
 use Rattle.reader.proofs.parts.read_held.Statement.{statement}
 use Rattle.reader.proofs.parts.read_held.Tie as tie

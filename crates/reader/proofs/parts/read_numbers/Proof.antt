@@ -9,8 +9,8 @@ use borrow.Author.Needs.{needs}
 use Rattle.text.specs.Text.{text}
 use Rattle.records.specs.declared.Numbers.{Numbers}
 use Rattle.page.specs.Page.{numberKey}
-use Rattle.reader.specs.Inner.{numberIn, numberedOf, LineIs, ResourceAt}
-use Rattle.reader.proofs.LineLaws.{past-end}
+use Rattle.shapes.specs.Inner.{numberIn, numberedOf, LineIs, ResourceAt}
+use Rattle.shapes.proofs.LineLaws.{past-end}
 use Rattle.reader.proofs.NumberLaws.{SoFar, none-yet, putNumber, put-in, put-over, put-under, all-read, one-more}
 use Rattle.reader.proofs.parts.read_numbers.Statement.{statement}
 use Rattle.reader.proofs.parts.read_numbers.Tie as tie

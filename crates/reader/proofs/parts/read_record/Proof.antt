@@ -8,8 +8,8 @@ use borrow.Author.Needs.{needs}
 use Rattle.text.specs.Text.{text}
 use Rattle.records.specs.Names.{nameOf}
 use Rattle.page.specs.Page.{idKey, nameKey, priorityKey, stateKey, whyKey, dueKey, intervalKey}
-use Rattle.reader.specs.Shapes.{figure, figureOrDash}
-use Rattle.reader.specs.Inner.{LineIs, FigureAt, NameAt, ReasonAt, reasonIn}
+use Rattle.shapes.specs.Shapes.{figure, figureOrDash}
+use Rattle.shapes.specs.Inner.{LineIs, FigureAt, NameAt, ReasonAt, reasonIn}
 use Rattle.reader.proofs.RecordLaws as laws
 use Rattle.reader.proofs.parts.read_record.Statement.{statement}
 use Rattle.reader.proofs.parts.read_record.Tie as tie

@@ -1,0 +1,10 @@
+pub mod Pieces
+pub mod ValueLaws
+pub mod ValuesBack
+pub mod Joined
+pub mod NameBack
+pub mod LineLaws
+pub mod Marks
+pub mod MarkedFigures
+pub mod MarkedValues
+pub mod MarkedLines
