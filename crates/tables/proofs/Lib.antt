@@ -7,6 +7,7 @@ pub mod Readied
 pub mod OneOutcome
 pub mod Demanded
 pub mod Removal
+pub mod Held
 pub mod TickRecords
 pub mod Turns
 pub mod Wakes

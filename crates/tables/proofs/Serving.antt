@@ -36,5 +36,3 @@ asked-sound t q e = rw (e, asked)
 pub asked-unsound : (t : Tables) (q : Request) → sound t ≡ false → told (record { answer = NotSound; tables = t }) ≡ asked t q
 unfolding asked
 asked-unsound t q e = rw (e, asked)
-
--- events one after the other

@@ -3,16 +3,16 @@
 use Prim.Native.Nat.{ℕ, _+_}
 use mathlib.Core.Path.{_≡_}
 use mathlib.Core.Logic.{_≢_}
-use mathlib.Core.Bool.{cond}
+use mathlib.Core.Bool.{true, false, cond}
 use mathlib.Core.List.{List, [], _∷_}
 use lib.Dec.{eqb}
 use Rattle.limits.specs.Limits as limits
 use Rattle.records.specs.declared.Program.{Program}
 use Rattle.records.specs.declared.Why.the-variants.{Nothing, Son}
-use Rattle.records.specs.Records.{Known, find, inState, waitOver, withTimer}
+use Rattle.records.specs.Records.{Known, find, inState, waitOver, withTimer, withMark}
 use Rattle.tracks.specs.Tracks.{LowestRun}
-use Rattle.rules.specs.Book.{at, whyOf}
-use Rattle.rules.specs.Requests.{OF, EXEC5, EXEC16, EXEC5ALL, EXEC6, CLEAR, FREE, operator, TICK, running}
+use Rattle.rules.specs.Book.{at, whyOf, put}
+use Rattle.rules.specs.Requests.{SS, OF, EXEC5, EXEC16, EXEC5ALL, EXEC6, CLEAR, FREE, Request, operator, TICK, running}
 use Rattle.rules.specs.Claims.{NoRun, Gained}
 use Rattle.rules.specs.Counts.{Freed, awoken, roused}
 use Rattle.tables.specs.declared.Tables.{Tables}
@@ -57,6 +57,20 @@ pub record Removed (t : Tables) (nm : List ℕ) (f : ℕ) : Type 0 where
   pub over : at (plain (asked t (operator (OF 8) nm) .tables) .book) f ≡ waitOver (at (plain t .book) f)
   pub unnamed : find (plain (asked t (operator (OF 8) nm) .tables) .book .programs) nm ≡ 0
   pub unawaited : (q : ℕ) → Known q → whyOf (plain (asked t (operator (OF 8) nm) .tables) .book) q ≢ Son (find (plain t .book .programs) nm)
+
+-- SS of the program of that name, p, which waits: done, with value 0. Where its mark stands the tables are the very same; else p has the mark
+-- and nothing else is another.
+pub record Held (t : Tables) (nm : List ℕ) (p : ℕ) : Type 0 where
+  pub done : asked t (operator SS nm) .number ≡ 0
+  pub value : asked t (operator SS nm) .values ≡ 0 ∷ []
+  pub again : at (plain t .book) p .suspend ≡ true → asked t (operator SS nm) .tables ≡ t
+  pub marks : at (plain t .book) p .suspend ≡ false
+      → plain (asked t (operator SS nm) .tables)
+      ≡ record { book = put p (withMark (at (plain t .book) p)) (plain t .book); kept = plain t .kept }
+
+-- A request q, no FRESH, wakes p, which has nothing else to do with it: p's wait is over.
+abbrev pub Over : Tables → Request → ℕ → Type 0
+Over t q p = at (plain (asked t q .tables) .book) p ≡ waitOver (at (plain t .book) p)
 
 -- A tick at any clock, the last of a day among them, with timers due: what becomes of a record r where the clock is now `now`. A due timer
 -- moves on, or goes; a dormant program is scheduled.
