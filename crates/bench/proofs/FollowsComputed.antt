@@ -11,7 +11,8 @@ use Rattle.rules.specs.Plans.{woken, need, either, found}
 use Rattle.rules.specs.Rules.{named, inside, waits, frees, clears, endsIn, order, dueAt, takes, gives, allocated, call, asCaller, plan}
 use Rattle.rules.specs.Keeper.{act, step}
 use Rattle.rules.specs.Engine.{madeBy, writtenIn, pagedIn}
-use Rattle.rules.specs.Test.{testNames, testZeros, testChains, testWhys, testSystem, testUsers, testUnlocked, testLimits, testDues}
+use Rattle.rules.specs.Test.{testNames, testZeros, testChains, testWhys, testMarks, testSystem, testUsers, testUnlocked}
+use Rattle.rules.specs.Test.{testLimits, testDues}
 use Rattle.chains.specs.Links.{walk, read, testLinks, linksOf}
 use Rattle.ledger.specs.Ledger.{testBlank}
 use Rattle.tables.specs.Sound.{sound}
@@ -36,7 +37,7 @@ use Rattle.bench.specs.Follows.{walkAll, walks, partAll, partings}
 pub walks-computed : walkAll walks ≡ walks
 unfolding
     same digits decimal numberOf parts behind entry linesOf timeOf nameOf all find lowestUnused need either found named inside waits woken
-    frees clears endsIn order dueAt takes gives allocated call asCaller plan act step testNames testZeros testChains testWhys testSystem
+    frees clears endsIn order dueAt takes gives allocated call asCaller plan act step testNames testZeros testChains testWhys testMarks testSystem
     testUsers testUnlocked testLimits testDues walk read testLinks linksOf testBlank sound served asked madeBy bytes usedIn recordLines
     chainLines heldLine heldLines numberLine numberLines lines page writtenIn pagedIn valueBehind behindLine firstBad valueOf withLine
     restSaid chainsSaid recordsSaid said writes reading linesIn keyOf hasKey occurrence listedBehind listedLines execs numbers forms lineOf

@@ -3,6 +3,7 @@
 -- Assumes nothing.
 use Prim.Native.Nat.{ℕ}
 use Prim.Native.String.{String}
+use mathlib.Core.Bool.{Bool}
 use mathlib.Core.List.{List, [], _∷_}
 use lib.ListN.{getD, replicate}
 use Rattle.text.specs.Text.{text}
@@ -20,6 +21,7 @@ pub data Step : Type 0 where
   ask : Request → ℕ → List ℕ → Step  -- a request with parameters that no line carries
   chain : ℕ → List ℕ → Step  -- the chain of a state
   noted : ℕ → ℕ → ℕ → ℕ → ℕ → Step  -- a program: its state, the son it awaits, its due and interval
+  mark : ℕ → Bool → Step  -- whether a program's mark stands
   clock : ℕ → Step
   written : ℕ → ℕ → List ℕ → List ℕ → Step  -- PAGE with a buffer of so many zeros: its number and values, and the buffer after it
 
@@ -44,6 +46,7 @@ tell t (chain s c ∷ ss) = chain s (getD (plain t .kept) s []) ∷ tell t ss
 tell t (noted p s k d i ∷ ss) =
     noted p (at (plain t .book) p .state) (sonOf (at (plain t .book) p .why)) (at (plain t .book) p .due) (at (plain t .book) p .interval)
     ∷ tell t ss
+tell t (mark p m ∷ ss) = mark p (at (plain t .book) p .suspend) ∷ tell t ss
 tell t (clock c ∷ ss) = clock (plain t .book .clock) ∷ tell t ss
 tell t (written n a vs buf ∷ ss) =
     let r : Written = step linked t (page (replicate n 0)) in

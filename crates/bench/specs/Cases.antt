@@ -3,6 +3,7 @@
 -- Assumes nothing.
 use Prim.Native.Nat.{ℕ, _+_}
 use Prim.Native.String.{String}
+use mathlib.Core.Bool.{true, false}
 use mathlib.Core.List.{List, [], _∷_, _++_}
 use lib.ListN.{set, replicate}
 use Rattle.text.specs.Text.{text}
@@ -13,7 +14,7 @@ use Rattle.rules.specs.Book.{put, withClock, freshBook}
 use Rattle.rules.specs.Keeper.{lists, State}
 use Rattle.tables.specs.declared.Tables.{Tables}
 use Rattle.tables.specs.Tables.{lay, smallest}
-use Rattle.bench.specs.Case.{Step, key, ask, chain, noted, clock, written, Case, Printed, Bench}
+use Rattle.bench.specs.Case.{Step, key, ask, chain, noted, mark, clock, written, Case, Printed, Bench}
 
 -- a case that starts with the smallest tables, as `sheet` does
 abbrev case : List Step → Case
@@ -197,7 +198,60 @@ needsCaller = case
 abbrev wrongState : Case
 wrongState = case (
     ok "FRESH,1,1,0" 0 ∷ ok "LOAD,A,10" 1 ∷ ok "LOAD,B,10" 2 ∷ ok "LOAD,C,20" 3 ∷ ok "RU,A" 0 ∷ waits "EXEC,4,1,0" 5 ∷ ok "RU,C" 0
-    ∷ key "EXEC,9,A" 5 (5 ∷ []) ∷ waits "EXEC,9,B" 3 ∷ key "EXEC,9,C" 5 (3 ∷ []) ∷ key "GO,B" 5 (1 ∷ []) ∷ key "SS,C" 5 (3 ∷ []) ∷ [])
+    ∷ key "EXEC,9,A" 5 (5 ∷ []) ∷ waits "EXEC,9,B" 3 ∷ key "EXEC,9,C" 5 (3 ∷ []) ∷ key "GO,B" 5 (1 ∷ []) ∷ key "RU,C" 5 (3 ∷ [])
+    ∷ ok "SS,B" 0 ∷ key "SS,B" 5 (6 ∷ []) ∷ ok "LOAD,D,1" 4 ∷ key "SS,D" 5 (0 ∷ []) ∷ [])
+
+-- SS of a program that waits (request (ii)). One of three equals waits marked for tracks: it goes behind its equal in chain 6
+abbrev heldTracks : Case
+heldTracks = case (
+    ok "FRESH,2,0,0" 0 ∷ ok "LOAD,H,10" 1 ∷ ok "LOAD,A,10" 2 ∷ ok "LOAD,B,10" 3 ∷ ok "LOAD,C,10" 4 ∷ ok "LOAD,Z,10" 5 ∷ ok "RU,Z" 0 ∷ ok "SS,Z" 0
+    ∷ ok "RU,H" 0 ∷ ok "EXEC,4,2,0" 0 ∷ ok "SS,H" 0 ∷ ok "RU,A" 0 ∷ waits "EXEC,4,1,0" 5 ∷ ok "RU,B" 0 ∷ waits "EXEC,4,1,0" 5 ∷ ok "RU,C" 0
+    ∷ waits "EXEC,4,1,0" 5 ∷ mark 3 false ∷ ok "SS,B" 0 ∷ mark 3 true ∷ ok "SS,B" 0 ∷ mark 3 true ∷ key "GO,B" 5 (5 ∷ [])
+    ∷ chain 5 (2 ∷ 3 ∷ 4 ∷ []) ∷ ok "GO,H" 0 ∷ ok "EXEC,5,ALL" 2 ∷ chain 1 (1 ∷ 2 ∷ 4 ∷ []) ∷ chain 5 [] ∷ chain 6 (5 ∷ 3 ∷ [])
+    ∷ noted 3 6 0 0 0 ∷ mark 3 false ∷ ok "GO,B" 0 ∷ chain 1 (1 ∷ 2 ∷ 4 ∷ 3 ∷ []) ∷ [])
+
+-- the same for a son, for any number and for a lock: who is marked goes to chain 6, and is counted with the others
+abbrev heldWalk : String → List ℕ → List ℕ → Case
+heldWalk ss one six = case (
+    ok "FRESH,1,0,1" 0 ∷ ok "LOAD,F,10" 1 ∷ ok "LOAD,H,10" 2 ∷ ok "LOAD,N,10" 3 ∷ ok "LOAD,L,10" 4 ∷ ok "RU,F" 0 ∷ waits "EXEC,9,H" 3
+    ∷ ok "RN,ALLOC,L,0" 1 ∷ ok "RN,LOCK,1,0" 1 ∷ ok "SS,H" 0 ∷ ok "RU,N" 0 ∷ waits "RN,ALLOC,L,0" 3 ∷ ok "RU,L" 0 ∷ waits "RN,LOCK,1,0" 3
+    ∷ ok ss 0 ∷ chain 3 (1 ∷ 3 ∷ 4 ∷ []) ∷ ok "GO,H" 0 ∷ ok "EXEC,6" 3 ∷ chain 1 one ∷ chain 3 [] ∷ chain 6 six ∷ [])
+
+abbrev heldSon : Case
+heldSon = heldWalk "SS,F" (3 ∷ 4 ∷ []) (1 ∷ [])
+
+abbrev heldNumber : Case
+heldNumber = heldWalk "SS,N" (1 ∷ 4 ∷ []) (3 ∷ [])
+
+abbrev heldLock : Case
+heldLock = heldWalk "SS,L" (1 ∷ 3 ∷ []) (4 ∷ [])
+
+-- a lock cleared, with one of three marked; and a number freed
+abbrev heldClear : Case
+heldClear = case (
+    ok "FRESH,1,0,2" 0 ∷ ok "LOAD,H,10" 1 ∷ ok "LOAD,B,10" 2 ∷ ok "LOAD,C,10" 3 ∷ ok "LOAD,D,10" 4 ∷ ok "RU,H" 0 ∷ ok "RN,ALLOC,G,0" 1
+    ∷ ok "RN,LOCK,1,0" 1 ∷ ok "SS,H" 0 ∷ ok "RU,B" 0 ∷ waits "RN,LOCK,1,0" 3 ∷ ok "RU,C" 0 ∷ waits "RN,LOCK,1,0" 3 ∷ ok "RU,D" 0
+    ∷ waits "RN,LOCK,1,0" 3 ∷ ok "SS,C" 0 ∷ ok "GO,H" 0 ∷ ok "RN,CLEAR,1" 3 ∷ chain 1 (1 ∷ 2 ∷ 4 ∷ []) ∷ chain 3 [] ∷ chain 6 (3 ∷ []) ∷ mark 3 false
+    ∷ [])
+
+abbrev heldFree : Case
+heldFree = case (
+    ok "FRESH,1,0,1" 0 ∷ ok "LOAD,H,10" 1 ∷ ok "LOAD,B,10" 2 ∷ ok "LOAD,C,10" 3 ∷ ok "RU,H" 0 ∷ ok "RN,ALLOC,G,0" 1 ∷ ok "SS,H" 0 ∷ ok "RU,B" 0
+    ∷ waits "RN,ALLOC,L,0" 3 ∷ ok "RU,C" 0 ∷ waits "RN,ALLOC,L,0" 3 ∷ ok "SS,B" 0 ∷ ok "GO,H" 0 ∷ ok "RN,FREE,1" 2 ∷ chain 1 (1 ∷ 3 ∷ [])
+    ∷ chain 6 (2 ∷ []) ∷ [])
+
+-- PR, TICK and EXEC 12 leave the mark
+abbrev markStays : Case
+markStays = case (
+    ok "FRESH,1,1,0" 0 ∷ ok "LOAD,A,10" 1 ∷ ok "LOAD,B,10" 2 ∷ ok "RU,A" 0 ∷ waits "EXEC,4,1,0" 5 ∷ ok "SS,A" 0 ∷ ok "PR,A,5" 10 ∷ mark 1 true
+    ∷ ok "RU,B" 0 ∷ ok "EXEC,12,A,1,2,1" 1 ∷ mark 1 true ∷ ok "TICK" 0 ∷ noted 1 5 0 3 2 ∷ mark 1 true ∷ chain 5 (1 ∷ []) ∷ [])
+
+-- ending takes it away, and the next program loaded in the record does not meet it
+abbrev markGoes : Case
+markGoes = case (
+    ok "FRESH,1,1,0" 0 ∷ ok "LOAD,A,10" 1 ∷ ok "RU,A" 0 ∷ waits "EXEC,4,1,0" 5 ∷ ok "SS,A" 0 ∷ ok "OF,A,1" 0 ∷ mark 1 false ∷ ok "RU,A" 0
+    ∷ waits "EXEC,4,1,0" 5 ∷ mark 1 false ∷ ok "SS,A" 0 ∷ ok "OF,A,8" 0 ∷ mark 1 false ∷ ok "LOAD,B,10" 1 ∷ ok "RU,B" 0
+    ∷ waits "EXEC,4,1,0" 5 ∷ mark 1 false ∷ [])
 
 -- a refused FRESH keeps the tables; an accepted one begins anew
 abbrev refusedFresh : Case
@@ -237,6 +291,7 @@ bench = record {
   cases =
       bench1 ∷ bench2 ∷ bench3 ∷ bench4 ∷ bench5 ∷ bench6 ∷ bench7 ∷ bench8 ∷ bench9 ∷ bench10 ∷ behindEquals ∷ gap ∷ movedOn
       ∷ removedSon ∷ allWake ∷ oneWalk ∷ discFirst ∷ notItself ∷ lockGoes ∷ lockerEnds ∷ onlyCleared ∷ kept ∷ pricedAnew ∷ byNumber
-      ∷ largeNumbers ∷ notSound ∷ needsCaller ∷ wrongState ∷ refusedFresh ∷ notTheCaller ∷ fatherNext ∷ [];
+      ∷ largeNumbers ∷ notSound ∷ needsCaller ∷ wrongState ∷ heldTracks ∷ heldSon ∷ heldNumber ∷ heldLock ∷ heldClear
+      ∷ heldFree ∷ markStays ∷ markGoes ∷ refusedFresh ∷ notTheCaller ∷ fatherNext ∷ [];
   sheets = sheets;
 }

@@ -1,8 +1,8 @@
--- Pages, requests and next pages, and what is shown of them; and texts that no two pages are, and how they differ.
+-- Pages, requests and next pages, and what is shown of them; and texts with the same lines in another order, and how they differ.
 -- Assumes nothing.
 use Prim.Native.Nat.{ℕ}
 use Prim.Native.String.{String}
-use mathlib.Core.List.{List, [], _∷_}
+use mathlib.Core.List.{List, [], _∷_, _++_}
 use Rattle.text.specs.Text.{text}
 use Rattle.following.specs.Differences.{differences}
 use Rattle.following.specs.Following.{Step}
@@ -51,6 +51,14 @@ holds =
     "page=rte2" ∷ "clock=0" ∷ "tracks=4" ∷ "system=1" ∷ "numbers=0" ∷ "programs=1" ∷ "id=1" ∷ "name=LOG" ∷ "priority=10" ∷ "state=1" ∷ "why=-"
     ∷ "due=-" ∷ "interval=-" ∷ "chain1=1" ∷ "chain3=" ∷ "chain5=" ∷ "chain6=" ∷ "held=1-2:1" ∷ "end=page" ∷ []
 
+-- two programs wait, A and B; the lines of A's mark and of B's
+abbrev bothWait : List String → List String → List String
+bothWait a b =
+    ("page=rte2" ∷ "clock=0" ∷ "tracks=1" ∷ "system=1" ∷ "numbers=0" ∷ "programs=2" ∷ "id=1" ∷ "name=A" ∷ "priority=10" ∷ "state=5" ∷ "why=tracks:1"
+    ∷ "due=-" ∷ "interval=-" ∷ a)
+    ++ ("id=2" ∷ "name=B" ∷ "priority=10" ∷ "state=5" ∷ "why=tracks:1" ∷ "due=-" ∷ "interval=-" ∷ b)
+    ++ ("chain1=" ∷ "chain3=" ∷ "chain5=1,2" ∷ "chain6=" ∷ "end=page" ∷ [])
+
 abbrev leg : List String → List String → Leg
 leg rs n = record { requests = rs; next = n }
 
@@ -85,6 +93,13 @@ walks =
     ∷ "line 10: state=1 on the sheet, state=6 by the requests" ∷ "line 14: chain1=1 on the sheet, chain1= by the requests"
     ∷ "line 17: chain6= on the sheet, chain6=1 by the requests" ∷ "1: EXEC,7 -> answer=0,value=0" ∷ "next: answer=0,value=0"
     ∷ "next: follows" ∷ [])
+    -- the mark is A's on the sheet and B's by the request: neither list has a line, so it is told where the pages part
+    ∷ walk (bothWait [] []) (leg ("SS,B" ∷ []) (bothWait ("suspend=1" ∷ []) []) ∷ [])
+    ("first: answer=0,value=0" ∷ "1: SS,B -> answer=0,value=0" ∷ "next: answer=0,value=0" ∷ "next: does not follow"
+    ∷ "line 14: suspend=1 on the sheet, id=2 by the requests" ∷ [])
+    ∷ walk (bothWait [] []) (leg ("SS,B" ∷ "SS,B" ∷ "GO,B" ∷ []) (bothWait [] ("suspend=1" ∷ [])) ∷ [])
+    ("first: answer=0,value=0" ∷ "1: SS,B -> answer=0,value=0" ∷ "2: SS,B -> answer=0,value=0"
+    ∷ "3: GO,B -> answer=5,value=5 (refused: the program is in the wrong state)" ∷ "next: answer=0,value=0" ∷ "next: follows" ∷ [])
     -- pages that are none: a line, none for 0, none past the end; the step behind has no first page
     ∷ walk ("page=rte2" ∷ "clok=0" ∷ []) (leg ("EXEC,7" ∷ []) rests ∷ [])
     ("first: answer=15,value=2" ∷ "clok=0" ∷ "requests: not keyed in, without a first page" ∷ "next: answer=0,value=0" ∷ [])

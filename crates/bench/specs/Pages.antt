@@ -31,6 +31,15 @@ page tracks name chain held last =
     "page=rte2" ∷ "clock=0" ∷ tracks ∷ "system=1" ∷ "numbers=1" ∷ "programs=1" ∷ "id=1" ∷ name ∷ "priority=10" ∷ "state=1" ∷ "why=-" ∷ "due=-"
     ∷ "interval=-" ∷ chain ∷ "chain3=" ∷ "chain5=" ∷ "chain6=" ∷ held ∷ last ∷ []
 
+-- a program that waits for tracks, or is said to run; the lines behind its why, up to the chains
+abbrev waiter : String → String → List String → String → String → List String
+waiter state why ls one five =
+    ("page=rte2" ∷ "clock=0" ∷ "tracks=1" ∷ "system=1" ∷ "numbers=0" ∷ "programs=1" ∷ "id=1" ∷ "name=A" ∷ "priority=10" ∷ state ∷ why ∷ ls)
+    ++ (one ∷ "chain3=" ∷ five ∷ "chain6=" ∷ "end=page" ∷ [])
+
+abbrev waits : List String → List String
+waits ls = waiter "state=5" "why=tracks:1" ls "chain1=" "chain5=1"
+
 abbrev of : List String → List ℕ → ℕ → ℕ → Paged
 of ls more n v = record { lines = ls; behind = more; number = n; values = v ∷ [] }
 
@@ -50,4 +59,13 @@ pages =
     ∷ of (page "tracks=4" "name=WHZAT" "chain1=1" "held=1-2:1" "end=pag") [] 15 19
     ∷ of (page "tracks=4" "name=WHZAT" "chain1=1" "held=1-2:1" "end=page") (10 ∷ []) 15 20
     ∷ of (page "tracks=4" "name=WHZAT" "chain1=1" "held=1-2:1" "held=3-3:global") [] 15 20
+    -- a mark behind a record: one, none, another figure, two, one before interval, one without its byte 10; and in state 1
+    ∷ of (waits ("due=-" ∷ "interval=-" ∷ "suspend=1" ∷ [])) [] 0 0
+    ∷ of (waits ("due=-" ∷ "interval=-" ∷ [])) [] 0 0
+    ∷ of (waits ("due=-" ∷ "interval=-" ∷ "suspend=0" ∷ [])) [] 15 14
+    ∷ of (waits ("due=-" ∷ "interval=-" ∷ "suspend=1" ∷ "suspend=1" ∷ [])) [] 15 15
+    ∷ of (waits ("due=-" ∷ "suspend=1" ∷ "interval=-" ∷ [])) [] 15 13
+    ∷ of ("page=rte2" ∷ "clock=0" ∷ "tracks=1" ∷ "system=1" ∷ "numbers=0" ∷ "programs=0" ∷ []) (text "suspend=1") 15 7
+    ∷ of ("page=rte2" ∷ "clock=0" ∷ "tracks=1" ∷ "system=1" ∷ "numbers=0" ∷ "programs=0" ∷ "suspend=1" ∷ []) [] 15 7
+    ∷ of (waiter "state=1" "why=-" ("due=-" ∷ "interval=-" ∷ "suspend=1" ∷ []) "chain1=1" "chain5=") [] 15 0
     ∷ []
