@@ -37,10 +37,10 @@ pub struct Program {
     pub name: [u8; 5],
     pub priority: u16,
     pub state: u8,
+    pub suspend: bool,
     pub why: Why,
     pub due: u64,
     pub interval: u64,
-    pub suspend: bool,
 }
 
 // A resource number: its owner is 0 where it is free, a program, or GLOBAL; its lock is 0 where it is clear, or a program.
@@ -217,10 +217,12 @@ impl Program {
         same_name(own, name)
     }
 
+    // The mark goes with the state that it stood in.
     pub fn in_state(self, state: u8, why: Why) -> Program
         ensures { λ r. ⌜ r ≡ inState state why self ⌝ }
     {
         let name = self.name;
+        let suspend = false;
         Program {
             used: self.used,
             name,
@@ -229,7 +231,7 @@ impl Program {
             why,
             due: self.due,
             interval: self.interval,
-            suspend: false,
+            suspend,
         }
     }
 

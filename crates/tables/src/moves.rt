@@ -48,19 +48,19 @@ impl Tables {
     }
 
     // p, which stands in no chain, has this record from now on, and enters the chain of its state.
-    pub(crate) fn entered(self, p: u8, r: Program) -> Tables
-        requires { ⌜ CanJoin self p (r .state) ⌝ }
-        ensures { λ t. ⌜ Says t (enter lists p r (plain self)) ⌝ }
+    pub(crate) fn entered(self, p: u8, x: Program) -> Tables
+        requires { ⌜ CanJoin self p (x .state) ⌝ }
+        ensures { λ t. ⌜ Says t (enter lists p x (plain self)) ⌝ }
     {
         let i = p as usize - 1;
         let mut ledger = self.ledger;
         let links = self.links;
-        ledger.programs[i] = r;
-        if r.state == DORMANT {
+        ledger.programs[i] = x;
+        if x.state == DORMANT {
             return Tables { ledger, links };
         }
         let programs = ledger.programs;
-        let more = chains::enter(links, programs, r.state as usize, p);
+        let more = chains::enter(links, programs, x.state as usize, p);
         Tables {
             ledger,
             links: more,
