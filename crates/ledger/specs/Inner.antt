@@ -62,7 +62,7 @@ pub record Sized (T S R c : ℕ) : Type 0 where
 unfoldable pub timed : ℕ → ℕ → ℕ → Bool
 timed c d i = cond (eqb d 0) (eqb i 0) (ltb c d && leb (d - c) farthest && leb i farthest)
 
--- the mark, in a state
+-- a program's mark, by its state
 abbrev pub markFits : Bool → ℕ → Bool
 markFits m s = not m || inWait s
 
