@@ -12,7 +12,7 @@ use Rattle.limits.specs.Limits.{states}
 use Rattle.lists.specs.Lists.{same, count}
 use Rattle.lists.proofs.Laws.{same-refl, same-ne, count-append}
 use Rattle.lists.proofs.Tests.{clash}
-use Rattle.text.specs.Text.{text, decimal, between}
+use Rattle.text.specs.Text.{text, decimal, behind, between}
 use Rattle.records.specs.declared.Why.{Why}
 use Rattle.records.specs.declared.Why.the-variants.{Nothing, Tracks, Son, Lock, Number}
 use Rattle.records.specs.Records.{Known}
@@ -22,8 +22,8 @@ use Rattle.rules.specs.Sound.{suits, Chains, Whys}
 use Rattle.rules.proofs.shared.Places.{known-or, none-other}
 use Rattle.page.specs.Page.{chainKey, chained, keyOfChain, chainLine, chainLines}
 use Rattle.shapes.specs.Shapes.{there, otherwise, listed}
-use Rattle.reader.specs.Order.{holding, recordsAhead}
-use Rattle.reader.specs.Said.{withChain, restSaid, chainsSaid}
+use Rattle.reader.specs.Order.{valueBehind, holding, recordsAhead}
+use Rattle.reader.specs.Said.{markedBy, withChain, restSaid, chainsSaid}
 use Rattle.shapes.proofs.Pieces.{decimal-only, clean-line}
 use Rattle.reader.proofs.Text.{content, told, Clean, clean-none, clean-more}
 use Rattle.shapes.proofs.ValuesBack.{Short, listed-back}
@@ -97,6 +97,11 @@ module _ (b : Book) (m : List (List ℕ)) (C : Chains b m) where
       (chain-step (value 3) (listed-there 3 (omega arith) (omega arith))
       (chain-step (value 5) (listed-there 5 (omega arith) (omega arith))
       (chain-step (value 6) (listed-there 6 (omega arith) (omega arith)) g)))
+
+  -- the first of them is no mark
+  pub chains-unmarked : (rs : List (List ℕ)) → markedBy (told (chainLines m) rs) ≡ false
+  unfolding chainLines valueBehind behind
+  chains-unmarked rs = refl
 
   -- a state that no why fits has no program
   module _ (W : Whys b) (k : ℕ) (low : 1 ≤ k) (high : k < states) (un : (p : ℕ) (w : Why) → suits b p k w ≡ false) where

@@ -8,7 +8,7 @@ use mathlib.Core.Bool.{Bool, true, false}
 use mathlib.Core.List.{List, [], _∷_, _++_}
 use mathlib.Core.Option.{Option, none, some}
 use lib.ListN.{length, drop}
-use Rattle.lists.specs.Lists.{hit}
+use Rattle.lists.specs.Lists.{hit, same}
 use Rattle.text.specs.Text.{text}
 use Rattle.page.specs.Page.{line, suspendKey, markWord, markLine}
 use Rattle.shapes.specs.Shapes.{there}
@@ -17,7 +17,7 @@ use Rattle.reader.specs.Order.{Place, markForm, marking, recordsAhead, c
 use Rattle.reader.specs.Order.{behindLine, behindAll, firstBad}
 use Rattle.reader.specs.Said.{markedBy}
 use Rattle.reader.specs.Walks.{ahead}
-use Rattle.reader.proofs.Text.{content, told}
+use Rattle.reader.proofs.Text.{content, told, Clean, clean-none, clean-more}
 use Rattle.reader.proofs.ScanLaws.{Good, good-step, value-behind, pass}
 use Rattle.reader.proofs.LineLaws.{scan-on}
 use Rattle.reader.proofs.HeadLaws.{word-there}
@@ -59,7 +59,7 @@ some-line n k [] h e = absurd (omega arith)
 some-line n k (l ∷ []) h e = absurd (omega (arith, not-ended n k l))
 some-line n k (l ∷ m ∷ ls) h e = omega arith
 
-pub unmarked-scan : (n k : ℕ) (ls : List (List ℕ)) → (2 ≤ length ls → markedBy ls ≡ false)
+unmarked-scan : (n k : ℕ) (ls : List (List ℕ)) → (2 ≤ length ls → markedBy ls ≡ false)
     → firstBad (marking (recordsAhead n)) k ls ≡ firstBad (recordsAhead n) k ls
 unfolding firstBad
 unmarked-scan n k [] h = refl
@@ -109,3 +109,24 @@ mark-off s g w l =
           ∙ ap (λ (x : ℕ). firstBad (recordsAhead n) x (ahead s g)) (let e : k ≡ k + 0 = omega arith in e);
       says = λ n k j z. (no-mark s g l (some-line n k (ahead s g) j z), refl);
     }
+
+-- READ BACK
+-- a mark's line where it stands, otherwise none, before lines of which the first is no mark: what they say
+pub mark-told : (b : Bool) (rs : List (List ℕ)) → markedBy rs ≡ false
+    → (markedBy (told (markLine b) rs) ≡ b) × (drop (hit b) (told (markLine b) rs) ≡ rs)
+mark-told true rs e = (marked-value (text markWord) rs, refl)
+mark-told false rs e = (e, refl)
+
+-- they are well formed, and have no byte 10
+pub mark-good : (b : Bool) (n : ℕ) (rs : List (List ℕ)) → markedBy rs ≡ false → Good (recordsAhead n) rs
+    → Good (marking (recordsAhead n)) (told (markLine b) rs)
+unfolding behindLine
+mark-good true n rs e g =
+    good-step (content (line suspendKey (text markWord))) rs
+    (pass markForm (λ v. recordsAhead n) (mayCome (recordsAhead n)) (text markWord) refl) g
+mark-good false n rs e g = record { none = λ k. unmarked-scan n k rs (λ h. e) ∙ g .none k }
+
+pub mark-clean : (b : Bool) → Clean (markLine b)
+unfolding same
+mark-clean true = clean-more refl clean-none
+mark-clean false = clean-none

@@ -215,8 +215,19 @@ module _ (s : List ℕ) (at : ℕ) where
                             suspend = mark;
                           })
                               (reason-is (reasonOf (l5 .value)) why (l5 .shaped));
-                          beyond = omega (arith, l1 .beyond, l2 .beyond, l3 .beyond, l4 .beyond, l5 .beyond, l6 .beyond, l7 .beyond,
-                              m .beyond, e₁, e₂);
+                          beyond = omega (
+                            arith,
+                            l1 .beyond,
+                            l2 .beyond,
+                            l3 .beyond,
+                            l4 .beyond,
+                            l5 .beyond,
+                            l6 .beyond,
+                            l7 .beyond,
+                            m .beyond,
+                            e₁,
+                            e₂,
+                          );
                           within = omega (arith, m .within, e₂);
                           scan = λ n line. scan-7 n line ∙ m .scan n (suc (suc (suc (suc (suc (suc (suc line)))))))
                               ∙ ap₂ (λ (x y : ℕ). firstBad (recordsAhead n) x (ahead s y))

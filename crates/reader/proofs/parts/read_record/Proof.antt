@@ -1,15 +1,16 @@
--- `read_record` reads the seven lines of a record.
+-- `read_record` reads the seven lines of a record, and the mark's where it stands.
 -- Assumes nothing.
 use Prim.Native.Nat.{ℕ}
-use mathlib.Core.Path.{refl, subst}
-use mathlib.Core.Bool.{true}
+use mathlib.Core.Path.{refl, _∙_, subst}
+use mathlib.Core.Bool.{true, false}
 use mathlib.Core.List.{List, [], _∷_}
 use borrow.Author.Needs.{needs}
 use Rattle.text.specs.Text.{text}
 use Rattle.records.specs.Names.{nameOf}
 use Rattle.page.specs.Page.{idKey, nameKey, priorityKey, stateKey, whyKey, dueKey, intervalKey}
 use Rattle.shapes.specs.Shapes.{figure, figureOrDash}
-use Rattle.shapes.specs.Inner.{LineIs, FigureAt, NameAt, ReasonAt, reasonIn}
+use Rattle.shapes.specs.Inner.{LineIs, FigureAt, NameAt, ReasonAt, WordAt, reasonIn}
+use Rattle.reader.proofs.MarkLaws.{mark-on, mark-off}
 use Rattle.reader.proofs.RecordLaws as laws
 use Rattle.reader.proofs.parts.read_record.Statement.{statement}
 use Rattle.reader.proofs.parts.read_record.Tie as tie
@@ -155,25 +156,56 @@ returns-7 c =
     (subst (FigureAt figureOrDash _ _ _) (c .before .enum-told7 .given .1) (c .before .before .before .dashed-at2 .ensures)) _
     (c .stopped7 .ensures)
 
+-- the line behind them is read from the last of them on
+abbrev up-8 : tie.After-word-at → tie.After-interval
+up-8 c = c .before .before .before .before .before .before
+
 returns-8 : tie.Need-returns-8
 returns-8 c =
-    let c7 = c .before .before .before in
+    let c8 = c .before .before in
+    let c7 = up-8 c8 in
     let c6 = up-7 c7 in
     let c5 = up-6 c6 in
     let c4 = up-5 c5 in
     let c3 = up-4 c4 in
     let c2 = up-3 c3 in
     let c1 = up-2 c2 in
-    laws.record-read _ _ (line-1 c1) (line-2 c2) (line-3 c3) (line-4 c4) (line-5 c5) (line-6 c6) (line-7 c7) _ refl refl refl
+    laws.record-read _ _ (line-1 c1) (line-2 c2) (line-3 c3) (line-4 c4) (line-5 c5) (line-6 c6) (line-7 c7)
+    (mark-off _ _ (line-7 c7 .within) (subst (WordAt _ _ _ _) (c .enum-told8 .given .1) (c8 .word-at .ensures))) _ refl refl refl
     (λ i. record {
       used = true;
       name = letters c2;
-      priority = c .before .two-bytes .ensures i;
-      state = c .byte .ensures i;
+      priority = c8 .before .before .before .before .two-bytes .ensures i;
+      state = c8 .before .before .before .byte .ensures i;
       why = c5 .why .given .0 .0;
       due = c6 .due .given .0 .0;
       interval = c7 .interval .given .0 .0;
+      suspend = false;
     })
+
+returns-9 : tie.Need-returns-9
+returns-9 c =
+    let h = c .before .before in
+    let c8 = h .before .before in
+    let c7 = up-8 c8 in
+    let c6 = up-7 c7 in
+    let c5 = up-6 c6 in
+    let c4 = up-5 c5 in
+    let c3 = up-4 c4 in
+    let c2 = up-3 c3 in
+    let c1 = up-2 c2 in
+    laws.record-read _ _ (line-1 c1) (line-2 c2) (line-3 c3) (line-4 c4) (line-5 c5) (line-6 c6) (line-7 c7)
+    (mark-on _ _ _ (subst (WordAt _ _ _ _) (h .h .given .1) (c8 .word-at .ensures))) _ refl refl refl
+    (c .with-mark .ensures ∙ (λ i. record {
+      used = true;
+      name = letters c2;
+      priority = c8 .before .before .before .before .two-bytes .ensures i;
+      state = c8 .before .before .before .byte .ensures i;
+      why = c5 .why .given .0 .0;
+      due = c6 .due .given .0 .0;
+      interval = c7 .interval .given .0 .0;
+      suspend = true;
+    }))
 
 pub read-record-spec : {M : Type 1} → statement M
 read-record-spec =
@@ -186,4 +218,7 @@ read-record-spec =
     (λ c κs. (line-4 (c .before .before) .within, refl)) (λ c. search needs) (λ c. search needs) (λ c κs. search needs) returns-5
     (λ c. search needs) (λ c κs. (line-5 (c .before .before) .within, refl)) (λ c. search needs) (λ c. search needs)
     (λ c κs. search needs) returns-6 (λ c. search needs) (λ c κs. (line-6 (c .before .before) .within, refl)) (λ c. search needs)
-    (λ c. search needs) (λ c κs. search needs) returns-7 (λ c κs. search needs) (λ c κs. search needs) returns-8)
+    (λ c. search needs) (λ c κs. search needs) returns-7 (λ c κs. search needs) (λ c κs. search needs)
+    (λ c. search needs) (λ c. search needs)
+    (λ c κs. (line-7 (c .before .before .before .before .before) .within, (refl, refl))) (λ c. search needs) (λ c. search needs) returns-8
+    (λ c κs. search needs) returns-9)
