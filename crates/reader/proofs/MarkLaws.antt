@@ -83,8 +83,8 @@ mark-on s g h l =
       beyond = omega (arith, l .beyond);
       within = l .within;
       scan = λ n k.
-          scan-on (wordIs (text markWord)) s g (marking (recordsAhead n)) (choice markForm (recordsAhead n)) (mayCome (recordsAhead n)) refl l
-          (word-there (text markWord) (l .value)) k
+          scan-on (wordIs (text markWord)) s g (marking (recordsAhead n)) (choice markForm (recordsAhead n)) (mayCome (recordsAhead n))
+          refl l (word-there (text markWord) (l .value)) k
           ∙ ap (λ (x : ℕ). firstBad (recordsAhead n) x (ahead s h)) (let e : suc k ≡ k + 1 = omega arith in e);
       says = λ n k j z. (
         ap markedBy (l .cut) ∙ marked-value (l .value) (ahead s h) ∙ ap there (l .shaped),

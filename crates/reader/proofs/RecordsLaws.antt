@@ -75,12 +75,17 @@ module _ {s : List ℕ} {at line count : ℕ} {programs : List Program} {o n : �
       → programs′ ≡ putAt (r .id) (r .program) programs → SoFar s at line count programs′ (r .at) (n + r .good) left
   one-more left p r q programs′ e =
       record {
-        onward = record { within = q .within; some = omega (arith, p .onward .some); counted = omega (arith, q .beyond, p .onward .counted) };
+        onward = record {
+          within = q .within;
+          some = omega (arith, p .onward .some);
+          counted = omega (arith, q .beyond, p .onward .counted);
+        };
         told = putAt (r .id) (q .told) (p .told);
         held = e ∙ ap₂ (λ (x : Program) (ps : List Program). cond (known (r .id)) (set ps (r .id - 1) x) ps) (q .held) (p .held)
             ∙ put-held (known (r .id)) (r .id - 1) (q .told) (p .told);
         scan = p .scan ∙ q .scan left n;
-        says = λ z a f. p .says (q .scan left n ∙ z) a f ∙ q .says left (n + r .good) (omega (arith, p .onward .some)) z (withPrograms (p .told) a)
+        says = λ z a f. p .says (q .scan left n ∙ z) a f
+            ∙ q .says left (n + r .good) (omega (arith, p .onward .some)) z (withPrograms (p .told) a)
             ∙ ap (λ (x : State lists). recordsSaid left x (ahead s (r .at))) (put-says (r .id) (q .told) (p .told) a);
       }
 

@@ -156,7 +156,7 @@ fn read_record(s: &[u8], at: usize) -> Record
     let Figure::Is(interval, g) = lines::dashed_at(s, f, &keys::INTERVAL) else {
         return stopped(6, at);
     };
-    let program = Program {
+    let mut program = Program {
         used: true,
         name: [n0, n1, n2, n3, n4],
         priority: values::two_bytes(priority),
@@ -174,11 +174,12 @@ fn read_record(s: &[u8], at: usize) -> Record
             program: program,
         };
     };
+    program.suspend = true;
     Record {
         good: 8,
         at: h,
         id: id,
-        program: program.with_mark(),
+        program: program,
     }
 }
 
