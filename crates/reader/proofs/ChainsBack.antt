@@ -55,6 +55,11 @@ chain-said s ss c h a rs =
     (value-behind (keyOfChain s) (between 44 (map decimal c)))
     ∙ ap (λ (o : Option (List ℕ)). chainsSaid ss (withChain s (otherwise [] o) a) rs) (listed-back c h)
 
+-- the first line of chains is no mark
+pub chains-unmarked : (m : List (List ℕ)) (rs : List (List ℕ)) → markedBy (told (chainLines m) rs) ≡ false
+unfolding chainLines valueBehind behind
+chains-unmarked m rs = refl
+
 -- seven chains, of which four are shown
 seven : (m : List (List ℕ)) → length m ≡ 7 → getD m 0 [] ≡ [] → getD m 2 [] ≡ [] → getD m 4 [] ≡ []
     → [] ∷ getD m 1 [] ∷ [] ∷ getD m 3 [] ∷ [] ∷ getD m 5 [] ∷ getD m 6 [] ∷ [] ≡ m
@@ -97,11 +102,6 @@ module _ (b : Book) (m : List (List ℕ)) (C : Chains b m) where
       (chain-step (value 3) (listed-there 3 (omega arith) (omega arith))
       (chain-step (value 5) (listed-there 5 (omega arith) (omega arith))
       (chain-step (value 6) (listed-there 6 (omega arith) (omega arith)) g)))
-
-  -- the first of them is no mark
-  pub chains-unmarked : (rs : List (List ℕ)) → markedBy (told (chainLines m) rs) ≡ false
-  unfolding chainLines valueBehind behind
-  chains-unmarked rs = refl
 
   -- a state that no why fits has no program
   module _ (W : Whys b) (k : ℕ) (low : 1 ≤ k) (high : k < states) (un : (p : ℕ) (w : Why) → suits b p k w ≡ false) where
