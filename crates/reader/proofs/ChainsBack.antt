@@ -12,7 +12,7 @@ use Rattle.limits.specs.Limits.{states}
 use Rattle.lists.specs.Lists.{same, count}
 use Rattle.lists.proofs.Laws.{same-refl, same-ne, count-append}
 use Rattle.lists.proofs.Tests.{clash}
-use Rattle.text.specs.Text.{text, decimal, between}
+use Rattle.text.specs.Text.{text, decimal, behind, between}
 use Rattle.records.specs.declared.Why.{Why}
 use Rattle.records.specs.declared.Why.the-variants.{Nothing, Tracks, Son, Lock, Number}
 use Rattle.records.specs.Records.{Known}
@@ -22,8 +22,8 @@ use Rattle.rules.specs.Sound.{suits, Chains, Whys}
 use Rattle.rules.proofs.shared.Places.{known-or, none-other}
 use Rattle.page.specs.Page.{chainKey, chained, keyOfChain, chainLine, chainLines}
 use Rattle.shapes.specs.Shapes.{there, otherwise, listed}
-use Rattle.reader.specs.Order.{holding, recordsAhead}
-use Rattle.reader.specs.Said.{withChain, restSaid, chainsSaid}
+use Rattle.reader.specs.Order.{valueBehind, holding, recordsAhead}
+use Rattle.reader.specs.Said.{markedBy, withChain, restSaid, chainsSaid}
 use Rattle.shapes.proofs.Pieces.{decimal-only, clean-line}
 use Rattle.reader.proofs.Text.{content, told, Clean, clean-none, clean-more}
 use Rattle.shapes.proofs.ValuesBack.{Short, listed-back}
@@ -54,6 +54,11 @@ chain-said s ss c h a rs =
     ap (λ (o : Option (List ℕ)). chainsSaid ss (withChain s (otherwise [] (listed (otherwise [] o))) a) rs)
     (value-behind (keyOfChain s) (between 44 (map decimal c)))
     ∙ ap (λ (o : Option (List ℕ)). chainsSaid ss (withChain s (otherwise [] o) a) rs) (listed-back c h)
+
+-- the first line of chains is no mark
+pub chains-unmarked : (m : List (List ℕ)) (rs : List (List ℕ)) → markedBy (told (chainLines m) rs) ≡ false
+unfolding chainLines valueBehind behind
+chains-unmarked m rs = refl
 
 -- seven chains, of which four are shown
 seven : (m : List (List ℕ)) → length m ≡ 7 → getD m 0 [] ≡ [] → getD m 2 [] ≡ [] → getD m 4 [] ≡ []

@@ -9,7 +9,7 @@ use mathlib.Core.Option.{Option, none, some}
 use lib.Dec.{leb, ltb}
 use lib.ListN.{length, set, take, drop, replicate, length-append, length-replicate, length-set}
 use borrow.Author.Tests.{leb-true}
-use Rattle.lists.specs.Lists.{upTo}
+use Rattle.lists.specs.Lists.{hit, upTo}
 use Rattle.lists.proofs.Tests.{both, upTo-true}
 use Rattle.text.specs.Text.{text}
 use Rattle.records.specs.declared.Program.{Program}
@@ -27,7 +27,7 @@ use Rattle.page.specs.Page.{recordKeys, headKeys, chained, heldKey, numberKey, 
 use Rattle.page.specs.Page.{clockKey, tracksKey, systemKey, numbersKey, programsKey, idKey}
 use Rattle.shapes.specs.Shapes.{otherwise, listed, runIn, Numbered, numbered}
 use Rattle.reader.specs.Order.{valueBehind}
-use Rattle.reader.specs.Said.{figureOf, withChain, started, headIn, recordIn, withRecord, withRun, withResource}
+use Rattle.reader.specs.Said.{figureOf, withChain, started, headIn, markedBy, recordIn, withRecord, withRun, withResource}
 use Rattle.reader.specs.Said.{withHeld, withNumbered, withLine, restSaid, chainsSaid, recordsSaid, said}
 
 -- a book's lists are as long as what they list, and no longer than tables have them
@@ -150,8 +150,9 @@ unfolding recordsSaid
 records-sized zero ls a Z = chains-sized chained ls a Z
 records-sized (suc n) ls a Z =
     let own : List (List ℕ) = take (length recordKeys) ls in
-    records-sized n (drop (length recordKeys) ls) (withRecord (figureOf idKey own) (recordIn own) a)
-    (record-sized (figureOf idKey own) (recordIn own) a Z)
+    let rest : List (List ℕ) = drop (length recordKeys) ls in
+    records-sized n (drop (hit (markedBy rest)) rest) (withRecord (figureOf idKey own) (recordIn own (markedBy rest)) a)
+    (record-sized (figureOf idKey own) (recordIn own (markedBy rest)) a Z)
 
 pub said-sized : (ls : List (List ℕ)) → Sized (said ls .book)
 unfolding said

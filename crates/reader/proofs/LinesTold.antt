@@ -18,7 +18,7 @@ use Rattle.tables.specs.Sound.{sound}
 use Rattle.tables.specs.Calls.{Result}
 use Rattle.tables.proofs.Agree.{sound-clauses}
 use Rattle.page.specs.Page.{page}
-use Rattle.reader.specs.Order.{Place, heading, recording, chaining, holding, numbering, ended, headForms, behindLine}
+use Rattle.reader.specs.Order.{Place, heading, recording, marking, chaining, holding, numbering, ended, headForms, behindLine}
 use Rattle.reader.specs.Order.{behindAll, firstBad}
 use Rattle.reader.specs.Said.{said}
 use Rattle.reader.specs.Reading.{wasRead, notRead, writes, judged, reading}
@@ -41,6 +41,7 @@ all-not ended n [] h = absurd (h refl refl)
 all-not ended n (c ∷ cs) h = refl
 all-not (heading fs) n l h = refl
 all-not (recording fs k) n l h = refl
+all-not (marking q) n l h = refl
 all-not (chaining fs) n l h = refl
 all-not holding n l h = refl
 all-not numbering n l h = refl
@@ -55,6 +56,7 @@ last-is ended n [] = at-end refl refl refl
 last-is ended n (c ∷ cs) = short (λ e f. nothing-not c cs f) refl
 last-is (heading fs) n l = short (λ e f. let z : _≡_ {A = ℕ} 0 1 = cc in omega arith) refl
 last-is (recording fs k) n l = short (λ e f. let z : _≡_ {A = ℕ} 0 1 = cc in omega arith) refl
+last-is (marking q) n l = short (λ e f. let z : _≡_ {A = ℕ} 0 1 = cc in omega arith) refl
 last-is (chaining fs) n l = short (λ e f. let z : _≡_ {A = ℕ} 0 1 = cc in omega arith) refl
 last-is holding n l = short (λ e f. let z : _≡_ {A = ℕ} 0 1 = cc in omega arith) refl
 last-is numbering n l = short (λ e f. let z : _≡_ {A = ℕ} 0 1 = cc in omega arith) refl

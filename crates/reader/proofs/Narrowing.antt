@@ -84,6 +84,7 @@ record-same b W L p P =
       why = y i;
       due = at b p .due;
       interval = at b p .interval;
+      suspend = at b p .suspend;
     }
 
 -- A SOUND STATE

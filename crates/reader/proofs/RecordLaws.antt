@@ -1,12 +1,13 @@
 -- A record of a page, line by line: the scan over its lines and what they say.
 -- Assumes nothing.
-use Prim.Native.Nat.{ℕ, suc, _+_, _<_}
+use Prim.Native.Nat.{ℕ, suc, _+_, _≤_, _<_}
 use native.Mathlib.Omega.{arith}
 use mathlib.Core.Path.{_≡_, refl, sym, ap, ap₂, _∙_}
-use mathlib.Core.Bool.{true}
+use mathlib.Core.Bool.{Bool, true}
 use mathlib.Core.List.{List, [], _∷_, _++_}
 use mathlib.Core.Option.{Option, none, some, Option·none-ne-some, Option·some-injective}
 use lib.ListN.{drop}
+use Rattle.lists.specs.Lists.{hit}
 use Rattle.text.specs.Text.{text, behind}
 use Rattle.records.specs.declared.Program.{Program}
 use Rattle.records.specs.declared.Why.{Why}
@@ -17,10 +18,11 @@ use Rattle.page.specs.Page.{idKey, nameKey, priorityKey, stateKey, whyKey, dueK
 use Rattle.reader.specs.declared.parts.Record.{Record}
 use Rattle.shapes.specs.Shapes.{there, otherwise, into, figure, figureOrDash, reasonOf}
 use Rattle.reader.specs.Order.{Place, recordAhead, recordForms, recordsAhead, valueBehind, firstBad}
-use Rattle.reader.specs.Said.{valueOf, withRecord, recordsSaid}
+use Rattle.reader.specs.Said.{valueOf, markedBy, withRecord, recordsSaid}
 use Rattle.shapes.specs.Inner.{LineIs, NoLine, byte, twoBytes, narrowWhy, reasonIn}
 use Rattle.reader.specs.Walks.{ahead, RecordRead}
 use Rattle.reader.proofs.LineLaws.{scan-on, scan-off}
+use Rattle.reader.proofs.MarkLaws.{MarkAt, hit-most}
 
 -- a reason in the tables' bytes is there where a reason is; and which it is
 reason-there : (v : List ℕ) → there (reasonOf v) ≡ there (reasonIn v)
@@ -38,9 +40,9 @@ reason-is (some x) w e = sym (Option·some-injective (narrowWhy x) w e)
 abbrev behindLines : ℕ → ℕ → Place
 behindLines k n = recordAhead (drop k recordForms) n
 
--- what seven lines say, by what their values are
-abbrev recorded : Option (List ℕ) → Option ℕ → Option ℕ → Option Why → Option ℕ → Option ℕ → Program
-recorded name priority state why due interval = record {
+-- what seven lines say, by what their values are and whether a mark stands behind them
+abbrev recorded : Option (List ℕ) → Option ℕ → Option ℕ → Option Why → Option ℕ → Option ℕ → Bool → Program
+recorded name priority state why due interval mark = record {
   used = true;
   name = otherwise [] name;
   priority = otherwise 0 priority;
@@ -48,13 +50,15 @@ recorded name priority state why due interval = record {
   why = otherwise Nothing why;
   due = otherwise 0 due;
   interval = otherwise 0 interval;
+  suspend = mark;
 }
 
 seven : (v₁ v₂ v₃ v₄ v₅ v₆ v₇ : List ℕ) (rs : List (List ℕ)) (n : ℕ) (a : State lists)
     → recordsSaid (suc n) a ((text idKey ++ (61 ∷ v₁)) ∷ (text nameKey ++ (61 ∷ v₂)) ∷ (text priorityKey ++ (61 ∷ v₃))
     ∷ (text stateKey ++ (61 ∷ v₄)) ∷ (text whyKey ++ (61 ∷ v₅)) ∷ (text dueKey ++ (61 ∷ v₆)) ∷ (text intervalKey ++ (61 ∷ v₇)) ∷ rs)
     ≡ recordsSaid n (withRecord (otherwise 0 (figure v₁))
-    (recorded (nameOf v₂) (figure v₃) (figure v₄) (reasonOf v₅) (figureOrDash v₆) (figureOrDash v₇)) a) rs
+    (recorded (nameOf v₂) (figure v₃) (figure v₄) (reasonOf v₅) (figureOrDash v₆) (figureOrDash v₇) (markedBy rs)) a)
+    (drop (hit (markedBy rs)) rs)
 unfolding recordsSaid valueOf valueBehind behind
 seven v₁ v₂ v₃ v₄ v₅ v₆ v₇ rs n a = refl
 
@@ -166,53 +170,73 @@ module _ (s : List ℕ) (at : ℕ) where
                     ∙ ap (λ (x : List (List ℕ)). (text whyKey ++ (61 ∷ l5 .value)) ∷ x) (l6 .cut
                     ∙ ap (λ (x : List (List ℕ)). (text dueKey ++ (61 ∷ l6 .value)) ∷ x) (l7 .cut))))))
 
-                told : Program
-                told = recorded (some nm) (some priority) (some state) (reasonOf (l5 .value)) (some due) (some interval)
+                module _ {mark : Bool} {h : ℕ} (m : MarkAt s g mark h) where
+                  told : Program
+                  told = recorded (some nm) (some priority) (some state) (reasonOf (l5 .value)) (some due) (some interval) mark
 
-                record-says : (n : ℕ) (a : State lists) → recordsSaid (suc n) a (ahead s at)
-                    ≡ recordsSaid n (withRecord id told a) (ahead s g)
-                unfolding told
-                record-says n a =
-                    ap (recordsSaid (suc n) a) cut-1
-                    ∙ seven (l1 .value) (l2 .value) (l3 .value) (l4 .value) (l5 .value) (l6 .value) (l7 .value) (ahead s g) n a
-                    ∙ (λ i. recordsSaid n (withRecord (otherwise 0 (l1 .shaped i))
-                    (recorded (l2 .shaped i) (l3 .shaped i) (l4 .shaped i) (reasonOf (l5 .value)) (l6 .shaped i) (l7 .shaped i)) a)
-                    (ahead s g))
+                  record-says : (n line : ℕ) → 1 ≤ line → firstBad (recordsAhead n) line (ahead s h) ≡ 0
+                      → (a : State lists) → recordsSaid (suc n) a (ahead s at) ≡ recordsSaid n (withRecord id told a) (ahead s h)
+                  unfolding told
+                  record-says n line k z a =
+                      let (e, f) = m .says n line k z in
+                      ap (recordsSaid (suc n) a) cut-1
+                      ∙ seven (l1 .value) (l2 .value) (l3 .value) (l4 .value) (l5 .value) (l6 .value) (l7 .value) (ahead s g) n a
+                      ∙ (λ i. recordsSaid n (withRecord (otherwise 0 (l1 .shaped i))
+                      (recorded (l2 .shaped i) (l3 .shaped i) (l4 .shaped i) (reasonOf (l5 .value)) (l6 .shaped i) (l7 .shaped i) (e i)) a)
+                      (drop (hit (e i)) (ahead s g)))
+                      ∙ ap (recordsSaid n (withRecord id told a)) f
 
-                -- the record that the code makes of them
-                pub record-read : (r : Record) → r .good ≡ 7 → r .at ≡ g → r .id ≡ id
-                    → r .program ≡ record {
-                      used = true;
-                      name = nm;
-                      priority = twoBytes priority;
-                      state = byte state;
-                      why = why;
-                      due = due;
-                      interval = interval;
-                    }
-                    → RecordRead s at r
-                unfolding told
-                record-read r e₁ e₂ e₃ e₄ =
-                    record {
-                      whole = λ h. record {
-                        told = told;
-                        held = e₄ ∙ ap (λ (w : Why). record {
-                          used = true;
-                          name = nm;
-                          priority = twoBytes priority;
-                          state = byte state;
-                          why = w;
-                          due = due;
-                          interval = interval;
-                        })
-                            (reason-is (reasonOf (l5 .value)) why (l5 .shaped));
-                        beyond = omega (arith, l1 .beyond, l2 .beyond, l3 .beyond, l4 .beyond, l5 .beyond, l6 .beyond, l7 .beyond, e₂);
-                        within = omega (arith, l7 .within, e₂);
-                        scan = λ n line. scan-7 n line ∙ ap₂ (λ (x y : ℕ). firstBad (recordsAhead n) x (ahead s y))
-                            (let e : suc (suc (suc (suc (suc (suc (suc line)))))) ≡ line + 7 = omega arith in e) (sym e₂);
-                        says = λ n a. record-says n a ∙ ap₂ (λ (x y : ℕ). recordsSaid n (withRecord x told a) (ahead s y)) (sym e₃)
-                            (sym e₂);
-                      };
-                      most = omega (arith, e₁);
-                      stops = λ h. absurd (omega (arith, e₁));
-                    }
+                  -- the record that the code makes of them
+                  pub record-read : (r : Record) → r .good ≡ 7 + hit mark → r .at ≡ h → r .id ≡ id
+                      → r .program ≡ record {
+                        used = true;
+                        name = nm;
+                        priority = twoBytes priority;
+                        state = byte state;
+                        why = why;
+                        due = due;
+                        interval = interval;
+                        suspend = mark;
+                      }
+                      → RecordRead s at r
+                  unfolding told
+                  record-read r e₁ e₂ e₃ e₄ =
+                      record {
+                        whole = λ k. record {
+                          told = told;
+                          held = e₄ ∙ ap (λ (w : Why). record {
+                            used = true;
+                            name = nm;
+                            priority = twoBytes priority;
+                            state = byte state;
+                            why = w;
+                            due = due;
+                            interval = interval;
+                            suspend = mark;
+                          })
+                              (reason-is (reasonOf (l5 .value)) why (l5 .shaped));
+                          beyond = omega (
+                            arith,
+                            l1 .beyond,
+                            l2 .beyond,
+                            l3 .beyond,
+                            l4 .beyond,
+                            l5 .beyond,
+                            l6 .beyond,
+                            l7 .beyond,
+                            m .beyond,
+                            e₁,
+                            e₂,
+                          );
+                          within = omega (arith, m .within, e₂);
+                          scan = λ n line. scan-7 n line ∙ m .scan n (suc (suc (suc (suc (suc (suc (suc line)))))))
+                              ∙ ap₂ (λ (x y : ℕ). firstBad (recordsAhead n) x (ahead s y))
+                              (let e : suc (suc (suc (suc (suc (suc (suc line)))))) + hit mark ≡ line + r .good = omega (arith, e₁) in e)
+                              (sym e₂);
+                          says = λ n line k z a.
+                              record-says n line k (ap (λ (y : ℕ). firstBad (recordsAhead n) line (ahead s y)) (sym e₂) ∙ z) a
+                              ∙ ap₂ (λ (x y : ℕ). recordsSaid n (withRecord x told a) (ahead s y)) (sym e₃) (sym e₂);
+                        };
+                        most = omega (arith, e₁, hit-most mark);
+                        stops = λ k. absurd (omega (arith, e₁));
+                      }

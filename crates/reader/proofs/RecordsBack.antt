@@ -3,14 +3,14 @@
 use Prim.Native.Nat.{ℕ, suc, _-_, _≤_}
 use native.Mathlib.Omega.{arith}
 use native.Mathlib.Decide.{ℕ-discrete}
-use mathlib.Core.Path.{_≡_, refl, sym, ap, ap₂, _∙_}
+use mathlib.Core.Path.{_≡_, refl, sym, ap, ap₂, _∙_, subst}
 use mathlib.Core.Bool.{Bool, true, false, cond, _||_}
 use mathlib.Core.List.{List, [], _∷_, map}
 use mathlib.Core.Option.{Option, some}
 use lib.Dec.{ltb, eqb}
-use lib.ListN.{length, getD, set, replicate, length-replicate, getD-replicate}
+use lib.ListN.{length, getD, drop, set, replicate, length-replicate, getD-replicate}
 use borrow.Author.Tests.{eqb-true, ltb-false}
-use Rattle.lists.specs.Lists.{same, count, keep, join, upTo}
+use Rattle.lists.specs.Lists.{hit, same, count, keep, join, upTo}
 use Rattle.lists.proofs.Laws.{same-refl, count-append, count-keep, keep-in}
 use Rattle.lists.proofs.Tests.{false-true, both, upTo-true}
 use Rattle.text.specs.Text.{text, decimal, behind}
@@ -24,16 +24,17 @@ use Rattle.rules.specs.Keeper.{lists, State}
 use Rattle.rules.specs.Sound.{suits, Names, Zeros, Whys, Limits, Dues}
 use Rattle.rules.proofs.shared.Places.{known-is, all-in, all-one}
 use Rattle.page.specs.Page.{idKey, nameKey, priorityKey, stateKey, whyKey, dueKey, intervalKey, tracksWord, sonWord, lockWord}
-use Rattle.page.specs.Page.{Line, chained, reason, orDash, usedIn, recorded, recordLines}
+use Rattle.page.specs.Page.{Line, chained, reason, orDash, usedIn, markLine, recorded, recordLines}
 use Rattle.shapes.specs.Shapes.{there, otherwise, figure, figureOrDash, reasonOf}
 use Rattle.reader.specs.Order.{valueBehind, recordsAhead}
-use Rattle.reader.specs.Said.{valueOf, onBook, withRecord, chainsSaid, recordsSaid}
+use Rattle.reader.specs.Said.{valueOf, onBook, markedBy, withRecord, chainsSaid, recordsSaid}
 use Rattle.shapes.proofs.Pieces.{decimal-only, clean-line}
-use Rattle.reader.proofs.Text.{told, Clean, clean-none, clean-more, clean-append}
+use Rattle.reader.proofs.Text.{told, told-append, Clean, clean-none, clean-more, clean-append}
 use Rattle.shapes.proofs.ValuesBack.{Short, figure-decimal, dash-back, Fitting, reason-back}
 use Rattle.shapes.proofs.Joined.{dash-only}
 use Rattle.shapes.proofs.NameBack.{name-back, name-clean}
 use Rattle.reader.proofs.ScanLaws.{Good, record-step}
+use Rattle.reader.proofs.MarkLaws.{mark-told, mark-good, mark-clean}
 use Rattle.reader.proofs.HeadBack.{figure-there, figure-clean}
 use Rattle.reader.proofs.Copying.{copied, Copies, copies-all}
 
@@ -92,8 +93,8 @@ readable b N Z W L D p P u =
     }
 
 -- ONE RECORD
-abbrev read : Option (List ℕ) → Option ℕ → Option ℕ → Option Why → Option ℕ → Option ℕ → Program
-read name priority state why due interval = record {
+abbrev read : Option (List ℕ) → Option ℕ → Option ℕ → Option Why → Option ℕ → Option ℕ → Bool → Program
+read name priority state why due interval mark = record {
   used = true;
   name = otherwise [] name;
   priority = otherwise 0 priority;
@@ -101,6 +102,7 @@ read name priority state why due interval = record {
   why = otherwise Nothing why;
   due = otherwise 0 due;
   interval = otherwise 0 interval;
+  suspend = mark;
 }
 
 reason-clean : (w : Why) → count 10 (reason w) ≡ 0
@@ -129,28 +131,31 @@ module _ (p : ℕ) (r : Program) (K : Readable p r) where
       (clean-more (clean-line (text dueKey) (orDash (ltb 0 (r .due)) (r .due)) refl
       (dash-only 10 (ltb 0 (r .due)) (r .due) (λ l. absurd (omega arith)) refl))
       (clean-more (clean-line (text intervalKey) (orDash (ltb 0 (r .due)) (r .interval)) refl
-      (dash-only 10 (ltb 0 (r .due)) (r .interval) (λ l. absurd (omega arith)) refl)) clean-none))))))
+      (dash-only 10 (ltb 0 (r .due)) (r .interval) (λ l. absurd (omega arith)) refl)) (mark-clean (r .suspend))))))))
 
-  record-good : (n : ℕ) (rs : List (List ℕ)) → Good (recordsAhead n) rs → Good (recordsAhead (suc n)) (told (recorded p r) rs)
-  record-good n rs g =
+  record-good : (n : ℕ) (rs : List (List ℕ)) → markedBy rs ≡ false → Good (recordsAhead n) rs
+      → Good (recordsAhead (suc n)) (told (recorded p r) rs)
+  record-good n rs u g =
       record-step (decimal p) (figure-there p (omega (arith, K .known)))
       (record-step (bare (r .name)) (ap there (name-back (r .name) (K .name)))
       (record-step (decimal (r .priority)) (figure-there (r .priority) (K .priority))
       (record-step (decimal (r .state)) (figure-there (r .state) (K .state))
       (record-step (reason (r .why)) (ap there (reason-back (r .why) (K .why)))
       (record-step (orDash (ltb 0 (r .due)) (r .due)) (ap there due-back)
-      (record-step (orDash (ltb 0 (r .due)) (r .interval)) (ap there interval-back) g))))))
+      (record-step (orDash (ltb 0 (r .due)) (r .interval)) (ap there interval-back)
+      (mark-good (r .suspend) n rs u g)))))))
 
   read-back : read (nameOf (bare (r .name))) (figure (decimal (r .priority))) (figure (decimal (r .state))) (reasonOf (reason (r .why)))
-      (figureOrDash (orDash (ltb 0 (r .due)) (r .due))) (figureOrDash (orDash (ltb 0 (r .due)) (r .interval))) ≡ r
+      (figureOrDash (orDash (ltb 0 (r .due)) (r .due))) (figureOrDash (orDash (ltb 0 (r .due)) (r .interval))) (r .suspend) ≡ r
   read-back =
       ap₂ (λ (x : Option (List ℕ)) (y : Option ℕ). read x y (figure (decimal (r .state))) (reasonOf (reason (r .why)))
-      (figureOrDash (orDash (ltb 0 (r .due)) (r .due))) (figureOrDash (orDash (ltb 0 (r .due)) (r .interval))))
+      (figureOrDash (orDash (ltb 0 (r .due)) (r .due))) (figureOrDash (orDash (ltb 0 (r .due)) (r .interval))) (r .suspend))
       (name-back (r .name) (K .name)) (figure-decimal (r .priority) (K .priority))
       ∙ ap₂ (λ (x : Option ℕ) (y : Option Why). read (some (r .name)) (some (r .priority)) x y
-      (figureOrDash (orDash (ltb 0 (r .due)) (r .due))) (figureOrDash (orDash (ltb 0 (r .due)) (r .interval))))
+      (figureOrDash (orDash (ltb 0 (r .due)) (r .due))) (figureOrDash (orDash (ltb 0 (r .due)) (r .interval))) (r .suspend))
       (figure-decimal (r .state) (K .state)) (reason-back (r .why) (K .why))
-      ∙ ap₂ (read (some (r .name)) (some (r .priority)) (some (r .state)) (some (r .why))) due-back interval-back
+      ∙ ap₂ (λ (x y : Option ℕ). read (some (r .name)) (some (r .priority)) (some (r .state)) (some (r .why)) x y (r .suspend))
+      due-back interval-back
       ∙ (let u = K .used in λ i. record {
         used = sym u i;
         name = r .name;
@@ -159,14 +164,20 @@ module _ (p : ℕ) (r : Program) (K : Readable p r) where
         why = r .why;
         due = r .due;
         interval = r .interval;
+        suspend = r .suspend;
       })
 
-  record-said : (n : ℕ) (a : State lists) (rs : List (List ℕ))
+  record-said : (n : ℕ) (a : State lists) (rs : List (List ℕ)) → markedBy rs ≡ false
       → recordsSaid (suc n) a (told (recorded p r) rs) ≡ recordsSaid n (withRecord p r a) rs
   unfolding recordsSaid valueOf valueBehind behind
-  record-said n a rs =
-      ap₂ (λ (q : Option ℕ) (x : Program). recordsSaid n (withRecord (otherwise 0 q) x a) rs)
-      (figure-decimal p (omega (arith, K .known))) read-back
+  record-said n a rs u =
+      let (e, f) = mark-told (r .suspend) rs u in
+      let rest : List (List ℕ) = told (markLine (r .suspend)) rs in
+      ap (λ (m : Bool). recordsSaid n (withRecord (otherwise 0 (figure (decimal p))) (read (nameOf (bare (r .name)))
+      (figure (decimal (r .priority))) (figure (decimal (r .state))) (reasonOf (reason (r .why)))
+      (figureOrDash (orDash (ltb 0 (r .due)) (r .due))) (figureOrDash (orDash (ltb 0 (r .due)) (r .interval))) m) a)
+      (drop (hit m) rest)) e
+      ∙ (λ i. recordsSaid n (withRecord (otherwise 0 (figure-decimal p (omega (arith, K .known)) i)) (read-back i) a) (f i))
 
 -- ALL OF THEM
 -- the state with other programs
@@ -190,11 +201,23 @@ module _ (ps : List Program) where
   each-clean [] R = clean-none
   each-clean (p ∷ c) R = clean-append (record-clean p (recordAt ps p) (first-of p c R)) (each-clean c (others-of p c R))
 
-  each-good : (c : List ℕ) → Each c → (rs : List (List ℕ)) → Good (recordsAhead 0) rs
+  -- what stands behind a record begins with an id, or is what stands behind all of them: no mark
+  next-unmarked : (c : List ℕ) (rs : List (List ℕ)) → markedBy rs ≡ false → markedBy (told (linesOf c) rs) ≡ false
+  unfolding valueBehind behind
+  next-unmarked [] rs u = u
+  next-unmarked (p ∷ c) rs u = refl
+
+  next-told : (p : ℕ) (c : List ℕ) (rs : List (List ℕ))
+      → told (linesOf (p ∷ c)) rs ≡ told (recorded p (recordAt ps p)) (told (linesOf c) rs)
+  next-told p c rs = told-append (recorded p (recordAt ps p)) (linesOf c) rs
+
+  each-good : (c : List ℕ) → Each c → (rs : List (List ℕ)) → markedBy rs ≡ false → Good (recordsAhead 0) rs
       → Good (recordsAhead (length c)) (told (linesOf c) rs)
-  each-good [] R rs g = g
-  each-good (p ∷ c) R rs g =
-      record-good p (recordAt ps p) (first-of p c R) (length c) (told (linesOf c) rs) (each-good c (others-of p c R) rs g)
+  each-good [] R rs u g = g
+  each-good (p ∷ c) R rs u g =
+      subst (Good (recordsAhead (suc (length c)))) (sym (next-told p c rs))
+      (record-good p (recordAt ps p) (first-of p c R) (length c) (told (linesOf c) rs) (next-unmarked c rs u)
+      (each-good c (others-of p c R) rs u g))
 
   put-with : (p : ℕ) → Known p → (r : Program) (qs : List Program) (a : State lists)
       → withRecord p r (withPrograms qs a) ≡ withPrograms (set qs (p - 1) r) a
@@ -202,16 +225,17 @@ module _ (ps : List Program) where
       ap (λ (t : Bool). record { book = cond t (withPrograms (set qs (p - 1) r) a .book) (withPrograms qs a .book); kept = a .kept })
       (known-is p P)
 
-  each-said : (c : List ℕ) → Each c → (qs : List Program) (a : State lists) (rs : List (List ℕ))
+  each-said : (c : List ℕ) → Each c → (qs : List Program) (a : State lists) (rs : List (List ℕ)) → markedBy rs ≡ false
       → recordsSaid (length c) (withPrograms qs a) (told (linesOf c) rs)
       ≡ chainsSaid chained (withPrograms (copied missing (λ r. false) ps c qs) a) rs
   unfolding recordsSaid
-  each-said [] R qs a rs = refl
-  each-said (p ∷ c) R qs a rs =
+  each-said [] R qs a rs u = refl
+  each-said (p ∷ c) R qs a rs u =
       let K = first-of p c R in
-      record-said p (recordAt ps p) K (length c) (withPrograms qs a) (told (linesOf c) rs)
+      ap (recordsSaid (suc (length c)) (withPrograms qs a)) (next-told p c rs)
+      ∙ record-said p (recordAt ps p) K (length c) (withPrograms qs a) (told (linesOf c) rs) (next-unmarked c rs u)
       ∙ ap (λ (x : State lists). recordsSaid (length c) x (told (linesOf c) rs)) (put-with p (K .known) (recordAt ps p) qs a)
-      ∙ each-said c (others-of p c R) (set qs (p - 1) (recordAt ps p)) a rs
+      ∙ each-said c (others-of p c R) (set qs (p - 1) (recordAt ps p)) a rs u
 
 -- the used ones of a sound book, put into unused ones
 module _ (b : Book) (l : length (b .programs) ≡ 32) (N : Names b) (Z : Zeros b) (W : Whys b) (L : Limits b) (D : Dues b) where
@@ -244,16 +268,16 @@ module _ (b : Book) (l : length (b .programs) ≡ 32) (N : Names b) (Z : Zeros b
   unfolding recordLines
   records-clean = each-clean (b .programs) (usedIn (b .programs)) used-each
 
-  pub records-good : (rs : List (List ℕ)) → Good (recordsAhead 0) rs
+  pub records-good : (rs : List (List ℕ)) → markedBy rs ≡ false → Good (recordsAhead 0) rs
       → Good (recordsAhead (length (usedIn (b .programs)))) (told (recordLines (b .programs)) rs)
   unfolding recordLines
   records-good = each-good (b .programs) (usedIn (b .programs)) used-each
 
-  pub records-said : (a : State lists) (rs : List (List ℕ))
+  pub records-said : (a : State lists) (rs : List (List ℕ)) → markedBy rs ≡ false
       → recordsSaid (length (usedIn (b .programs))) (withPrograms (replicate 32 unused) a) (told (recordLines (b .programs)) rs)
       ≡ chainsSaid chained (withPrograms (b .programs) a) rs
   unfolding recordLines
-  records-said a rs =
-      each-said (b .programs) (usedIn (b .programs)) used-each (replicate 32 unused) a rs
+  records-said a rs u =
+      each-said (b .programs) (usedIn (b .programs)) used-each (replicate 32 unused) a rs u
       ∙ ap (λ (qs : List Program). chainsSaid chained (withPrograms qs a) rs)
       (copies-all missing (λ r. false) (b .programs) (usedIn (b .programs)) (replicate 32 unused) used-copies)

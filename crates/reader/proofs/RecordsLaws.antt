@@ -28,7 +28,7 @@ pub record SoFar (s : List ℕ) (at line count : ℕ) (programs : List Program) 
   pub told : List Program
   pub held : programs ≡ map narrowRecord told
   pub scan : firstBad (recordsAhead count) line (ahead s at) ≡ firstBad (recordsAhead left) n (ahead s o)
-  pub says : (a : State lists) → a .book .programs ≡ replicate mostPrograms unused
+  pub says : firstBad (recordsAhead left) n (ahead s o) ≡ 0 → (a : State lists) → a .book .programs ≡ replicate mostPrograms unused
       → recordsSaid count a (ahead s at) ≡ recordsSaid left (withPrograms told a) (ahead s o)
 
 pub none-yet : (s : List ℕ) (at line count : ℕ) (r : Program) → r ≡ unused → Onward s at line
@@ -39,7 +39,7 @@ none-yet s at line count r u h =
       told = replicate mostPrograms unused;
       held = ap (replicate mostPrograms) u;
       scan = refl;
-      says = λ a e. ap (λ (ps : List Program). recordsSaid count (withPrograms ps a) (ahead s at)) e;
+      says = λ z a e. ap (λ (ps : List Program). recordsSaid count (withPrograms ps a) (ahead s at)) e;
     }
 
 -- the records with one put where its id says
@@ -72,15 +72,20 @@ put-says id x ps a = go (known id)
 module _ {s : List ℕ} {at line count : ℕ} {programs : List Program} {o n : ℕ} where
   -- one more
   pub one-more : (left : ℕ) → SoFar s at line count programs o n (suc left) → (r : Record) → RecordIs s o r → (programs′ : List Program)
-      → programs′ ≡ putAt (r .id) (r .program) programs → SoFar s at line count programs′ (r .at) (n + 7) left
+      → programs′ ≡ putAt (r .id) (r .program) programs → SoFar s at line count programs′ (r .at) (n + r .good) left
   one-more left p r q programs′ e =
       record {
-        onward = record { within = q .within; some = omega arith; counted = omega (arith, q .beyond, p .onward .counted) };
+        onward = record {
+          within = q .within;
+          some = omega (arith, p .onward .some);
+          counted = omega (arith, q .beyond, p .onward .counted);
+        };
         told = putAt (r .id) (q .told) (p .told);
         held = e ∙ ap₂ (λ (x : Program) (ps : List Program). cond (known (r .id)) (set ps (r .id - 1) x) ps) (q .held) (p .held)
             ∙ put-held (known (r .id)) (r .id - 1) (q .told) (p .told);
         scan = p .scan ∙ q .scan left n;
-        says = λ a f. p .says a f ∙ q .says left (withPrograms (p .told) a)
+        says = λ z a f. p .says (q .scan left n ∙ z) a f
+            ∙ q .says left (n + r .good) (omega (arith, p .onward .some)) z (withPrograms (p .told) a)
             ∙ ap (λ (x : State lists). recordsSaid left x (ahead s (r .at))) (put-says (r .id) (q .told) (p .told) a);
       }
 

@@ -34,7 +34,7 @@ use Rattle.shapes.proofs.ValuesBack.{Short}
 use Rattle.reader.proofs.ScanLaws.{Good, lastLines, end-held, end-numbered}
 use Rattle.reader.proofs.HeadBack.{head-clean, head-good, head-said}
 use Rattle.reader.proofs.RecordsBack.{withPrograms, records-clean, records-good, records-said}
-use Rattle.reader.proofs.ChainsBack.{chains-clean, chains-good, chains-said}
+use Rattle.reader.proofs.ChainsBack.{chains-clean, chains-good, chains-unmarked, chains-said}
 use Rattle.reader.proofs.HeldBack.{withTracks, held-clean, held-good, held-said}
 use Rattle.reader.proofs.NumbersBack.{withNumbers, numbers-clean, numbers-good, numbers-said}
 
@@ -102,6 +102,7 @@ module _ (a : State lists) (S : Sound a) where
       head-good (a .book .clock) (a .book .tracks) (a .book .system) (a .book .numbers) (length (usedIn (a .book .programs)))
       clock-short tracks-short system-short numbers-short (used-short (a .book .programs)) behindHead
       (records-good (a .book) (S .shape .programs) (S .names) (S .zeros) (S .whys) (S .limits) (S .dues) behindRecords
+      (chains-unmarked (a .kept) behindChains)
       (chains-good (a .book) (a .kept) (S .chains) behindChains
       (held-good (a .book) (S .shape .holders) (S .limits) (S .system) behindHeld
       (numbers-good (a .book) (S .shape .resources) (S .limits) (S .unlocked) lastLines end-held end-numbered))))
@@ -146,6 +147,7 @@ module _ (a : State lists) (S : Sound a) where
       clock-short tracks-short system-short numbers-short (used-short (a .book .programs)) behindHead
       ∙ ap (λ (x : State lists). recordsSaid (length (usedIn (a .book .programs))) x behindHead) started-fresh
       ∙ records-said (a .book) (S .shape .programs) (S .names) (S .zeros) (S .whys) (S .limits) (S .dues) fresh behindRecords
+      (chains-unmarked (a .kept) behindChains)
       ∙ chains-said (a .book) (a .kept) (S .chains) (S .whys) (S .shape .chains) (S .shape .dormant) (recordsIn .book) behindChains
       ∙ held-said (a .book) (S .shape .holders) (S .limits) (S .system) chainsIn refl behindHeld
       ∙ numbers-said (a .book) (S .shape .resources) (S .limits) (S .unlocked) tracksIn refl lastLines

@@ -128,7 +128,8 @@ module _ (s : List ℕ) (at : ℕ) where
 
               said-is : EndRead s (n .at) (n .line) 0 → said (ahead s at) ≡ a₄
               said-is E =
-                  H .says ∙ R .says a₀ (started-programs (h .clock) (h .tracks) (h .system) (h .numbers)) ∙ C .says a₁
+                  H .says ∙ R .says (C .scan ∙ D .scan ∙ N .scan ∙ E .scan) a₀
+                  (started-programs (h .clock) (h .tracks) (h .system) (h .numbers)) ∙ C .says a₁
                   ∙ D .of a₂ held₂ .says ∙ N .of a₃ kept₃ .says ∙ E .says refl a₄
 
               tables-are : (x : Tables) → x .ledger .programs ≡ r .programs → x .ledger .clock .ticks ≡ h .clock

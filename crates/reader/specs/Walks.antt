@@ -47,14 +47,18 @@ pub record HeadRead (s : List ℕ) (at : ℕ) (r : Head) : Type 0 where
 pub record RecordIs (s : List ℕ) (at : ℕ) (r : Record) : Type 0 where
   pub told : Program
   pub held : r .program ≡ narrowRecord told
-  pub beyond : at + 14 ≤ r .at
+  pub beyond : at + r .good ≤ r .at
   pub within : r .at ≤ length s
-  pub scan : (n line : ℕ) → firstBad (recording recordForms n) line (ahead s at) ≡ firstBad (recordsAhead n) (line + 7) (ahead s (r .at))
-  pub says : (n : ℕ) (a : State lists) → recordsSaid (suc n) a (ahead s at) ≡ recordsSaid n (withRecord (r .id) told a) (ahead s (r .at))
+  pub scan : (n line : ℕ) → firstBad (recording recordForms n) line (ahead s at)
+      ≡ firstBad (recordsAhead n) (line + r .good) (ahead s (r .at))
+  -- what it says, where the lines behind it are well formed: a mark that is not ended is none
+  pub says : (n line : ℕ) → 1 ≤ line → firstBad (recordsAhead n) line (ahead s (r .at)) ≡ 0
+      → (a : State lists) → recordsSaid (suc n) a (ahead s at) ≡ recordsSaid n (withRecord (r .id) told a) (ahead s (r .at))
 
+-- seven lines, and the mark's where it stands
 pub record RecordRead (s : List ℕ) (at : ℕ) (r : Record) : Type 0 where
-  pub whole : r .good ≡ 7 → RecordIs s at r
-  pub most : r .good ≤ 7
+  pub whole : 7 ≤ r .good → RecordIs s at r
+  pub most : r .good ≤ 8
   pub stops : r .good < 7 → (n line : ℕ) → firstBad (recording recordForms n) line (ahead s at) ≡ line + r .good
 
 -- where a part is read: the next begins at `at`, with line `line`
@@ -72,7 +76,8 @@ pub record RecordsAre (s : List ℕ) (at line count : ℕ) (r : Records) : Type 
   pub told : List Program
   pub held : r .programs ≡ map narrowRecord told
   pub scan : firstBad (recordsAhead count) line (ahead s at) ≡ firstBad (chainsAhead chainForms) (r .line) (ahead s (r .at))
-  pub says : (a : State lists) → a .book .programs ≡ replicate mostPrograms unused
+  pub says : firstBad (chainsAhead chainForms) (r .line) (ahead s (r .at)) ≡ 0
+      → (a : State lists) → a .book .programs ≡ replicate mostPrograms unused
       → recordsSaid count a (ahead s at) ≡ chainsSaid chained (withPrograms told a) (ahead s (r .at))
 
 pub record RecordsRead (s : List ℕ) (at line count : ℕ) (r : Records) : Type 0 where

@@ -36,7 +36,8 @@ pub(crate) struct Head {
     pub(crate) programs: u64,
 }
 
-// A record's lines: how many of them are well formed, and, where all are, what they say and the place behind them.
+// A record's lines: how many of them are well formed, and, where all seven are, what they say and the place behind them. The mark's line is
+// the eighth of a record that has one.
 pub(crate) struct Record {
     pub(crate) good: u64,
     pub(crate) at: usize,
@@ -155,7 +156,7 @@ fn read_record(s: &[u8], at: usize) -> Record
     let Figure::Is(interval, g) = lines::dashed_at(s, f, &keys::INTERVAL) else {
         return stopped(6, at);
     };
-    let program = Program {
+    let mut program = Program {
         used: true,
         name: [n0, n1, n2, n3, n4],
         priority: values::two_bytes(priority),
@@ -163,10 +164,20 @@ fn read_record(s: &[u8], at: usize) -> Record
         why: why,
         due: due,
         interval: interval,
+        suspend: false,
     };
+    let Place::At(h) = lines::word_at(s, g, &keys::SUSPEND, &keys::MARK) else {
+        return Record {
+            good: 7,
+            at: g,
+            id: id,
+            program: program,
+        };
+    };
+    program.suspend = true;
     Record {
-        good: 7,
-        at: g,
+        good: 8,
+        at: h,
         id: id,
         program: program,
     }
@@ -200,7 +211,7 @@ pub(crate) fn read_records(s: &[u8], at: usize, line: u64, count: u64) -> Record
             }
         }
         o = r.at;
-        n += 7;
+        n += r.good;
         left -= 1;
     }
     Records {

@@ -1,15 +1,20 @@
--- `read_record` reads the seven lines of a record.
+-- `read_record` reads the seven lines of a record, and the mark's where it stands.
 -- Assumes nothing.
-use Prim.Native.Nat.{ℕ}
-use mathlib.Core.Path.{refl, subst}
-use mathlib.Core.Bool.{true}
+use Prim.Native.Nat.{ℕ, _+_}
+use mathlib.Core.Path.{_≡_, refl, _∙_, subst}
+use mathlib.Core.Bool.{Bool, true}
 use mathlib.Core.List.{List, [], _∷_}
 use borrow.Author.Needs.{needs}
+use Rattle.lists.specs.Lists.{hit}
 use Rattle.text.specs.Text.{text}
+use Rattle.records.specs.declared.Program.{Program}
 use Rattle.records.specs.Names.{nameOf}
 use Rattle.page.specs.Page.{idKey, nameKey, priorityKey, stateKey, whyKey, dueKey, intervalKey}
 use Rattle.shapes.specs.Shapes.{figure, figureOrDash}
-use Rattle.shapes.specs.Inner.{LineIs, FigureAt, NameAt, ReasonAt, reasonIn}
+use Rattle.shapes.specs.Inner.{LineIs, FigureAt, NameAt, ReasonAt, WordAt, reasonIn}
+use Rattle.reader.specs.declared.parts.Record.{Record}
+use Rattle.reader.specs.Walks.{RecordRead}
+use Rattle.reader.proofs.MarkLaws.{MarkAt, mark-on, mark-off}
 use Rattle.reader.proofs.RecordLaws as laws
 use Rattle.reader.proofs.parts.read_record.Statement.{statement}
 use Rattle.reader.proofs.parts.read_record.Tie as tie
@@ -155,25 +160,66 @@ returns-7 c =
     (subst (FigureAt figureOrDash _ _ _) (c .before .enum-told7 .given .1) (c .before .before .before .dashed-at2 .ensures)) _
     (c .stopped7 .ensures)
 
-returns-8 : tie.Need-returns-8
-returns-8 c =
-    let c7 = c .before .before .before in
+-- all seven lines, and a mark behind them or none
+abbrev up-8 : tie.After-word-at → tie.After-interval
+up-8 c = c .before .before .before .before .before .before
+
+abbrev start-8 : tie.After-word-at → tie.Start
+start-8 c = start-7 (up-8 c)
+
+abbrev behind : tie.After-word-at → ℕ
+behind c = up-8 c .interval .given .0 .1 .0
+
+abbrev made : tie.After-word-at → Bool → Program
+made c mark =
+    let c7 = up-8 c in
+    let c6 = up-7 c7 in
+    let c5 = up-6 c6 in
+    record {
+      used = true;
+      name = letters (up-3 (up-4 (up-5 c5)));
+      priority = c .before .before .before .before .two-bytes .result;
+      state = c .before .before .before .byte .result;
+      why = c5 .why .given .0 .0;
+      due = c6 .due .given .0 .0;
+      interval = c7 .interval .given .0 .0;
+      suspend = mark;
+    }
+
+whole : (c : tie.After-word-at) {mark : Bool} {h : ℕ} → MarkAt (start-8 c .args .s .now) (behind c) mark h → (r : Record)
+    → r .good ≡ 7 + hit mark → r .at ≡ h → r .id ≡ up-2 (up-3 (up-4 (up-5 (up-6 (up-7 (up-8 c)))))) .id .given .0 .0
+    → r .program ≡ made c mark → RecordRead (start-8 c .args .s .now) (start-8 c .args .at) r
+whole c {mark} m r e₁ e₂ e₃ e₄ =
+    let c7 = up-8 c in
     let c6 = up-7 c7 in
     let c5 = up-6 c6 in
     let c4 = up-5 c5 in
     let c3 = up-4 c4 in
     let c2 = up-3 c3 in
     let c1 = up-2 c2 in
-    laws.record-read _ _ (line-1 c1) (line-2 c2) (line-3 c3) (line-4 c4) (line-5 c5) (line-6 c6) (line-7 c7) _ refl refl refl
-    (λ i. record {
+    laws.record-read _ _ (line-1 c1) (line-2 c2) (line-3 c3) (line-4 c4) (line-5 c5) (line-6 c6) (line-7 c7) m r e₁ e₂ e₃
+    (e₄ ∙ (λ i. record {
       used = true;
       name = letters c2;
-      priority = c .before .two-bytes .ensures i;
-      state = c .byte .ensures i;
+      priority = c .before .before .before .before .two-bytes .ensures i;
+      state = c .before .before .before .byte .ensures i;
       why = c5 .why .given .0 .0;
       due = c6 .due .given .0 .0;
       interval = c7 .interval .given .0 .0;
-    })
+      suspend = mark;
+    }))
+
+returns-8 : tie.Need-returns-8
+returns-8 c =
+    let l = c .before .before in
+    whole l (mark-off _ _ (line-7 (up-8 l) .within) (subst (WordAt _ _ _ _) (c .enum-told8 .given .1) (l .word-at .ensures)))
+    _ refl refl refl refl
+
+returns-9 : tie.Need-returns-9
+returns-9 c =
+    let h = c .before in
+    let l = h .before .before in
+    whole l (mark-on _ _ _ (subst (WordAt _ _ _ _) (h .h .given .1) (l .word-at .ensures))) _ refl refl refl refl
 
 pub read-record-spec : {M : Type 1} → statement M
 read-record-spec =
@@ -186,4 +232,7 @@ read-record-spec =
     (λ c κs. (line-4 (c .before .before) .within, refl)) (λ c. search needs) (λ c. search needs) (λ c κs. search needs) returns-5
     (λ c. search needs) (λ c κs. (line-5 (c .before .before) .within, refl)) (λ c. search needs) (λ c. search needs)
     (λ c κs. search needs) returns-6 (λ c. search needs) (λ c κs. (line-6 (c .before .before) .within, refl)) (λ c. search needs)
-    (λ c. search needs) (λ c κs. search needs) returns-7 (λ c κs. search needs) (λ c κs. search needs) returns-8)
+    (λ c. search needs) (λ c κs. search needs) returns-7 (λ c κs. search needs) (λ c κs. search needs)
+    (λ c. search needs) (λ c. search needs)
+    (λ c κs. (line-7 (c .before .before .before .before .before) .within, (refl, refl))) (λ c. search needs) (λ c. search needs) returns-8
+    returns-9)

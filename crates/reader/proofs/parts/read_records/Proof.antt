@@ -83,8 +83,8 @@ array-set-from-programs c =
 -- src/parts.rt:203:9
 add-n : tie.Need-add-n Inv-loop μ-loop
 add-n c =
-    let r = c .before .before .before .read-record .ensures .whole (omega arith) in
-    omega (arith, r .beyond, r .within, c .before .before .before .before .before .loop .inv .onward .counted)
+    let r = c .before .before .before .before .read-record .ensures .whole (omega arith) in
+    omega (arith, r .beyond, r .within, c .before .before .before .before .before .before .loop .inv .onward .counted)
 
 -- src/parts.rt:204:9
 sub-left : tie.Need-sub-left Inv-loop μ-loop
@@ -99,7 +99,8 @@ loop-less c =
 -- src/parts.rt:185:5
 loop-again : tie.Need-loop-again Inv-loop μ-loop
 loop-again c =
-    one-more _ (more (c .before .before .before .before)) _ (c .before .before .before .read-record .ensures .whole (omega arith)) _ (put c)
+    let r = c .before .before .before .before in
+    one-more _ (more (r .before)) _ (r .read-record .ensures .whole (omega arith)) _ (put (c .before))
 
 -- src/parts.rt:175:1
 returns-2 : tie.Need-returns-2 Inv-loop μ-loop
