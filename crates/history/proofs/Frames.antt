@@ -1,5 +1,5 @@
 -- The frame (demand 3), of any tables, sound or not: no call alters the record of a program that it does not touch, and one that may only
--- be woken changes in state and why alone. What makes no request leaves the tables; a request asked of sound tables is the rule's, which
+-- be woken stays as it is, or its wait is over. What makes no request leaves the tables; a request asked of sound tables is the rule's, which
 -- has the frame; and tables that are not sound stay as they are.
 -- Assumes nothing.
 use Prim.Native.Nat.{ℕ}
@@ -19,6 +19,8 @@ use Rattle.tables.specs.declared.Tables.{Tables}
 use Rattle.tables.specs.Tables.{plain, freshly, Arrays}
 use Rattle.tables.specs.Sound.{sound}
 use Rattle.tables.specs.Calls.{asked}
+use Rattle.tables.proofs.Agree.{sound-clauses}
+use Rattle.tables.proofs.Plain.{sound-plain}
 use Rattle.tables.proofs.Demanded.{after-is}
 use Rattle.page.specs.Paging.{Written, linked, paged}
 use Rattle.console.specs.Line.{Line, bad, PAGE, lineOf}
@@ -99,7 +101,7 @@ module _ (t : Tables) (A : Arrays t) (p : ℕ) (P : Known p) where
   frame (calls.page buf) n = paged-same buf
   frame (calls.line bytes buf) n = keyed-same bytes buf n
 
-  -- of one that may only be woken: the record stays, or changes in state and why alone
+  -- of one that may only be woken: the record stays, or its wait is over
   asked-stirred : (c : Made) → Bystander t c p → (q : Request) → Asks q c → Stirred (before t p) (at (plain (asked t q .tables) .book) p)
   asked-stirred c B q a = go (sound t) refl
     where
@@ -108,7 +110,7 @@ module _ (t : Tables) (A : Arrays t) (p : ℕ) (P : Known p) where
 
       go : (b : Bool) → sound t ≡ b → Stirred (before t p) (at (plain (asked t q .tables) .book) p)
       go true e = subst (λ (x : State lists). Stirred (before t p) (at (x .book) p)) (sym (after-is t A e q))
-          (rules.stirred lists (plain t) q p P old (B .apart q a))
+          (rules.stirred (plain t) (sound-plain t A (sound-clauses t e)) q p P old (B .apart q a))
       go false e = stays (same (asked t q .tables) (asked-stays t e q))
 
   keyed-stirred : (bytes buf : List ℕ) → Bystander t (calls.line bytes buf) p
