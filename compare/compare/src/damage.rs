@@ -38,7 +38,7 @@ pub fn damage(prng: &mut Prng, raw: &mut Raw) {
 }
 
 /// The mark of a record that is not used, or of a program in some state, if there is one.
-fn change_mark(prng: &mut Prng, raw: &mut Raw) {
+pub fn change_mark(prng: &mut Prng, raw: &mut Raw) {
     let state = prng.pick(&[None, Some(0), Some(1), Some(3), Some(5), Some(6)]);
     let so = |record: &&mut RawRecord| match state {
         Some(state) => record.used && record.state == state,
