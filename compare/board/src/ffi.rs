@@ -2,7 +2,7 @@
 //! against the library's source. All the unsafe code there is stands in this file.
 
 /// The tables as bytes; `pack` says which byte is what.
-pub const TABLES: usize = 1_237;
+pub const TABLES: usize = 1_269;
 
 /// An answer as bytes: its number and five values.
 pub const ANSWER: usize = 48;

@@ -2,8 +2,8 @@
 //! another form, another length, noise. Some of it is still sound, and has to work.
 
 use crate::ffi::TABLES;
-use crate::pack::{narrow, Bytes, AT_RECORDS, RECORD};
-use comparer::damage::damage;
+use crate::pack::{narrow, older, Bytes, AT_RECORDS, MARK, OLDER, RECORD};
+use comparer::damage::{change_mark, damage};
 use comparer::prng::Prng;
 use engine::raw::{Raw, RawWhy, LINKS, SLOTS};
 use engine::tables::{CHAINS, FURTHEST, RECORDS};
@@ -44,14 +44,16 @@ pub fn noise(prng: &mut Prng, bytes: &mut Bytes) {
 }
 
 /// One byte of a record such that the same tables are read in the bytes, and yet they are not in
-/// packed form: a `used` above 1, a kind of why above 4, a number where the why has none, a son or
-/// a lock of 256 and more.
+/// packed form: a `used` or a mark above 1, a kind of why above 4, a number where the why has none,
+/// a son or a lock of 256 and more.
 pub fn reform(prng: &mut Prng, bytes: &mut Bytes) {
     let at = AT_RECORDS + RECORD * prng.below(RECORDS as u64) as usize;
     let kind = bytes[at + 9];
     let any = prng.between(1, 255) as u8;
     let more = prng.between(1, 251) as u8;
+    let marked = bytes[at + MARK] == 1;
     let (place, value) = match prng.below(4) {
+        _ if marked && prng.chance(1, 2) => (MARK, prng.pick(&[2, 255, 1 + more])),
         0 if bytes[at] == 1 => (0, prng.pick(&[2, 1 + more])),
         1 if kind == 4 => (9, prng.pick(&[5, 4 + more])),
         2 if kind == 0 || kind == 4 => (10, prng.pick(&[1, any])),
@@ -62,18 +64,23 @@ pub fn reform(prng: &mut Prng, bytes: &mut Bytes) {
     bytes[at + place] = value;
 }
 
-/// Bytes of another length: some taken off the end, all of them, or some more put behind.
-pub fn resize(prng: &mut Prng, bytes: &mut Vec<u8>) {
+/// Bytes of another length: some taken off the end, all of them, some more put behind, or the same
+/// tables in the form without marks.
+pub fn resize(prng: &mut Prng, bytes: &Bytes) -> Vec<u8> {
+    if prng.chance(1, 4) {
+        return older(bytes);
+    }
     let fewer = prng.below(TABLES as u64) as usize;
-    let size = prng.pick(&[0, 1, 12, fewer, TABLES - 1, TABLES + 1, TABLES + 28, 2 * TABLES]);
-    let more = prng.below(256) as u8;
-    bytes.resize(size, more);
+    let sizes = [0, 1, 12, fewer, OLDER, TABLES - 1, TABLES + 1, TABLES + RECORD, 2 * TABLES];
+    let mut bytes = bytes.to_vec();
+    bytes.resize(prng.pick(&sizes), prng.below(256) as u8);
+    bytes
 }
 
 /// One to three fields change places, or one takes the value of another.
 pub fn exchange(prng: &mut Prng, raw: &mut Raw) {
     for _ in 0..prng.between(1, 3) {
-        match prng.below(12) {
+        match prng.below(13) {
             0 => swap_links(prng, raw),
             1 => bend_link(prng, raw),
             2 | 3 => swap_neighbours(prng, raw),
@@ -83,6 +90,7 @@ pub fn exchange(prng: &mut Prng, raw: &mut Raw) {
             8 => swap_sons(prng, raw),
             9 => swap_holders(prng, raw),
             10 => swap_limits(prng, raw),
+            11 => change_mark(prng, raw),
             _ => {
                 damage(prng, raw);
                 narrow(raw);
@@ -164,7 +172,7 @@ fn move_state(prng: &mut Prng, raw: &mut Raw) {
 fn swap_parts(prng: &mut Prng, raw: &mut Raw) {
     let (one, two) = (place(prng, raw), place(prng, raw));
     let (mut first, mut second) = (raw.records[one], raw.records[two]);
-    match prng.below(8) {
+    match prng.below(9) {
         0 => std::mem::swap(&mut first.state, &mut second.state),
         1 => std::mem::swap(&mut first.why, &mut second.why),
         2 => std::mem::swap(&mut first.priority, &mut second.priority),
@@ -172,6 +180,7 @@ fn swap_parts(prng: &mut Prng, raw: &mut Raw) {
         4 => first.name = second.name,
         5 => std::mem::swap(&mut first.due, &mut second.due),
         6 => std::mem::swap(&mut first.due, &mut first.interval),
+        7 => std::mem::swap(&mut first.suspend, &mut second.suspend),
         _ => std::mem::swap(&mut first, &mut second),
     }
     raw.records[two] = second;

@@ -1,10 +1,9 @@
 //! Texts, pages and pairs of texts whose speed is measured.
 
+use comparer::make;
 use comparer::script::generate;
 use comparer::texts::Pair;
-use engine::raw::{Raw, RawNumber, RawRecord, RawWhy, GLOBAL, LINKS};
-use engine::tables::{CEILING, DISC, FURTHEST, LOWEST_PRIORITY, RECORDS};
-use engine::{sheet, Engine};
+use engine::sheet;
 
 /// Generated scripts one after the other, so many lines in all.
 pub fn mixed(lines: usize) -> Vec<u8> {
@@ -122,36 +121,9 @@ pub fn by_tracks(tracks: usize, lines: usize) -> Vec<u8> {
     repeated(fragments(tracks), &cycle, lines)
 }
 
-/// The longest page that sound tables have: every number has as many digits as it can, every record
-/// waits for tracks, and no two neighbours of 256 tracks have one holder.
+/// The longest page that sound tables have.
 pub fn full_page() -> Vec<u8> {
-    let (engine, _) = Engine::fresh(256, 0, 16);
-    let mut raw = Raw::of(&engine);
-    raw.clock = CEILING;
-    let mut slot = usize::from(DISC);
-    for p in 1..=RECORDS {
-        let mut name = *b"WAIT0";
-        name[3] = b'A' + (p / 10) as u8;
-        name[4] = b'0' + (p % 10) as u8;
-        raw.records[p - 1] = RawRecord {
-            used: true,
-            name,
-            priority: LOWEST_PRIORITY,
-            state: u64::from(DISC),
-            why: RawWhy::Tracks(256),
-            due: CEILING + FURTHEST,
-            interval: FURTHEST,
-        };
-        raw.links[slot] = p as u8;
-        slot = LINKS + p;
-    }
-    for (track, holder) in raw.tracks.iter_mut().enumerate() {
-        *holder = if track % 2 == 0 { GLOBAL } else { RECORDS as u8 };
-    }
-    for number in &mut raw.numbers {
-        *number = RawNumber { owner: GLOBAL, lock: RECORDS as u8 };
-    }
-    raw.engine().expect("sound tables").page_bytes()
+    make::largest().engine().expect("sound tables").page_bytes()
 }
 
 /// The page of three programs, one of which waits for another.

@@ -76,6 +76,7 @@ fn programs_fit(engine: &Engine, running: Set) -> bool {
         once && program.priority <= LOWEST_PRIORITY
             && (program.state == DORMANT || CHAINS.contains(&program.state))
             && why_fits(engine, program)
+            && mark_fits(program)
             && timer_fits(engine, program)
     })
 }
@@ -88,6 +89,11 @@ fn why_fits(engine: &Engine, program: &Program) -> bool {
         Why::Lock(r) => program.state == GENERAL_WAIT && (1..=engine.numbers.len()).contains(&r),
         Why::Son(_) | Why::Number => program.state == GENERAL_WAIT,
     }
+}
+
+/// Request (ii).
+fn mark_fits(program: &Program) -> bool {
+    !program.suspend || program.state == GENERAL_WAIT || program.state == DISC
 }
 
 fn timer_fits(engine: &Engine, program: &Program) -> bool {

@@ -1,4 +1,4 @@
-//! The engine's raw tables as the 1,237 bytes that the library takes, and back. Numbers are
+//! The engine's raw tables as the 1,269 bytes that the library takes, and back. Numbers are
 //! little-endian:
 //!
 //! | place | bytes | what |
@@ -10,10 +10,11 @@
 //! | 13 | 256 | the holder of each track |
 //! | 269 | 16 x 2 | each resource number: owner, lock |
 //! | 301 | 40 | links |
-//! | 341 | 32 x 28 | records: used, name 5, priority 2, state, why kind, why number 2, due 8, interval 8 |
+//! | 341 | 32 x 29 | records: used, name 5, priority 2, state, why kind, why number 2, due 8, interval 8, mark |
 //!
 //! A why has the kind 0 (nothing), 1 (tracks), 2 (son), 3 (lock) or 4 (number); only 1 to 3 have a
-//! number, a son and a lock one below 256. `used` is 0 or 1. The library answers 14 to other bytes.
+//! number, a son and a lock one below 256. `used` is 0 or 1, and so is the mark of request (ii). The
+//! library answers 14 to other bytes, those of the form without marks among them.
 //! `unpack` reads any bytes, some the same as others, so that `in_form` is a test of its own;
 //! `unpack` of `pack` always is the tables.
 
@@ -28,7 +29,11 @@ pub const AT_TRACKS: usize = 13;
 pub const AT_NUMBERS: usize = AT_TRACKS + 256;
 pub const AT_LINKS: usize = AT_NUMBERS + 32;
 pub const AT_RECORDS: usize = AT_LINKS + SLOTS;
-pub const RECORD: usize = 28;
+pub const RECORD: usize = 29;
+/// In a record, its last byte.
+pub const MARK: usize = 28;
+/// How long the form without marks is: a record has a byte less there.
+pub const OLDER: usize = TABLES - RECORDS;
 
 /// The kinds of a why, as bytes.
 const NOTHING: u8 = 0;
@@ -73,6 +78,7 @@ fn put_record(rest: &mut &mut [u8], record: &RawRecord) {
     put(rest, &two(number));
     put(rest, &record.due.to_le_bytes());
     put(rest, &record.interval.to_le_bytes());
+    put(rest, &[u8::from(record.suspend)]);
 }
 
 fn put(rest: &mut &mut [u8], part: &[u8]) {
@@ -103,7 +109,7 @@ fn record_in_form(record: &[u8]) -> bool {
         SON | LOCK => high == 0,
         _ => false,
     };
-    used <= 1 && number
+    used <= 1 && number && record[MARK] <= 1
 }
 
 /// The tables in bytes that are in packed form.
@@ -154,7 +160,9 @@ fn record_of(rest: &mut &[u8]) -> RawRecord {
         LOCK => RawWhy::Lock(count % 256),
         _ => RawWhy::Number,
     };
-    RawRecord { used, name, priority, state, why, due: number(rest, 8), interval: number(rest, 8) }
+    let (due, interval) = (number(rest, 8), number(rest, 8));
+    let suspend = take(rest, 1)[0] != 0;
+    RawRecord { used, name, priority, state, why, due, interval, suspend }
 }
 
 fn take<'a>(rest: &mut &'a [u8], size: usize) -> &'a [u8] {
@@ -167,6 +175,13 @@ fn number(rest: &mut &[u8], size: usize) -> u64 {
     let mut eight = [0; 8];
     eight[..size].copy_from_slice(take(rest, size));
     u64::from_le_bytes(eight)
+}
+
+/// The same tables in the form without marks.
+pub fn older(bytes: &Bytes) -> Vec<u8> {
+    let (front, records) = bytes.split_at(AT_RECORDS);
+    let records = records.chunks_exact(RECORD).flat_map(|record| &record[..MARK]);
+    front.iter().chain(records).copied().collect()
 }
 
 /// Cuts every number to what its bytes hold, so that the tables can be packed.

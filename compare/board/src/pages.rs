@@ -1,7 +1,7 @@
 //! A page read back: what the library makes of it and what the engine does.
 
 use crate::ffi::{self, Reply, ANSWER, TABLES};
-use crate::pack::pack;
+use crate::pack::{pack, OLDER, RECORD};
 use crate::show;
 use crate::tables::{answered, margins_kept, reply_of, with_margins, within, FILL};
 use comparer::absurd::{every_byte, fixed};
@@ -128,7 +128,7 @@ pub fn agree(seed: u64, count: u64, total: &mut Count) -> Result<(), String> {
         let case = lend(&mut prng, page);
         let what = format!("page {} of seed {}, {}", place + 1, seed, kind.what());
         let answer = check(&case, &what, total)?;
-        total.kinds.add(kind, answer);
+        total.kinds.add(kind, &case.page, answer);
     }
     Ok(())
 }
@@ -137,8 +137,8 @@ pub fn agree(seed: u64, count: u64, total: &mut Count) -> Result<(), String> {
 fn lend(prng: &mut Prng, page: Vec<u8>) -> Case {
     let any = prng.below(TABLES as u64) as usize;
     let tables = match prng.below(24) {
-        0 => prng.pick(&[0, 1, any, TABLES - 1, TABLES - 1]),
-        1 | 2 => prng.pick(&[TABLES + 1, TABLES + 28, 2 * TABLES]),
+        0 => prng.pick(&[0, 1, any, OLDER, TABLES - 1, TABLES - 1]),
+        1 | 2 => prng.pick(&[TABLES + 1, TABLES + RECORD, 2 * TABLES]),
         _ => TABLES,
     };
     let any = prng.below(ANSWER as u64) as usize;
@@ -156,7 +156,7 @@ fn lend(prng: &mut Prng, page: Vec<u8>) -> Case {
 pub fn lengths(total: &mut Count) -> Result<(), String> {
     let example = comparer::absurd::EXAMPLE.as_bytes();
     for page in [example, &example[1..], b""] {
-        for size in [0, 1, 12, TABLES - 1, TABLES, TABLES + 1, 2 * TABLES] {
+        for size in [0, 1, 12, OLDER, TABLES - 1, TABLES, TABLES + 1, 2 * TABLES] {
             for answer_size in [0, 8, ANSWER - 1, ANSWER, ANSWER + 1, 2 * ANSWER] {
                 let (tables, answer) = (vec![FILL; size], vec![FILL; answer_size]);
                 let case = Case { page: page.to_vec(), tables, answer };

@@ -39,7 +39,7 @@ fn record_line(p: usize, record: &RawRecord) -> String {
         RawWhy::Number => String::from("number"),
     };
     format!(
-        "program {}: {}name \"{}\", priority {}, state {}, why {}, due {}, interval {}",
+        "program {}: {}name \"{}\", priority {}, state {}, why {}, due {}, interval {}{}",
         p,
         if record.used { "" } else { "unused, " },
         shown(&record.name),
@@ -47,7 +47,8 @@ fn record_line(p: usize, record: &RawRecord) -> String {
         record.state,
         why,
         record.due,
-        record.interval
+        record.interval,
+        if record.suspend { ", marked" } else { "" }
     )
 }
 

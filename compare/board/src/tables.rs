@@ -3,13 +3,13 @@
 use crate::ask;
 use crate::ffi::{self, Reply, ANSWER, TABLES};
 use crate::harm;
-use crate::pack::{formed, in_form, pack};
+use crate::pack::{formed, in_form, pack, OLDER};
 use crate::show;
 use comparer::make;
 use comparer::prng::Prng;
 use comparer::report::shown;
-use engine::raw::Raw;
-use engine::{parse, Answer, Value};
+use engine::raw::{Raw, RawRecord};
+use engine::{parse, Answer, Request, Value};
 use std::collections::BTreeMap;
 
 /// Where tables come from.
@@ -128,10 +128,10 @@ impl Cases {
             Kind::Reformed => harm::reform(prng, &mut tables),
             Kind::Reached | Kind::Unreached | Kind::Exchanged | Kind::Resized => {}
         }
-        let mut tables = tables.to_vec();
-        if kind == Kind::Resized {
-            harm::resize(prng, &mut tables);
-        }
+        let tables = match kind {
+            Kind::Resized => harm::resize(prng, &tables),
+            _ => tables.to_vec(),
+        };
         let size = ask::answer(prng);
         // No byte that is there beforehand is one that an absent value has.
         let answer = (0..size).map(|_| prng.between(1, 255) as u8).collect();
@@ -228,13 +228,18 @@ pub struct Count {
     requests: BTreeMap<String, (u64, u64)>,
     /// Tables whose bytes are not in packed form.
     no_form: u64,
+    /// Sound tables with a mark, and others that have one in a record where none may stand.
+    marked: u64,
+    mismarked: u64,
+    /// Calls by which a program was marked, lost its mark by its ending, or went to chain 6 with it.
+    marks: [u64; 3],
     /// Answers with too little room, and with more than they need.
     short: u64,
     longer: u64,
 }
 
 impl Count {
-    fn add(&mut self, case: &Case, sound: bool, outcome: &Outcome) {
+    pub fn add(&mut self, case: &Case, sound: bool, outcome: &Outcome) {
         let kind = self.kinds.entry(case.kind).or_default();
         kind.0 += 1;
         kind.1 += u64::from(sound);
@@ -242,6 +247,7 @@ impl Count {
             *count += 1;
         }
         self.no_form += u64::from(!in_form(&case.tables));
+        self.add_marks(case, sound, outcome);
         self.short += u64::from(case.answer.len() < ANSWER);
         self.longer += u64::from(case.answer.len() > ANSWER);
         if sound && case.answer.len() >= ANSWER {
@@ -258,6 +264,30 @@ impl Count {
         }
     }
 
+    fn add_marks(&mut self, case: &Case, sound: bool, outcome: &Outcome) {
+        let (before, after) = match (formed(&case.tables), formed(&outcome.tables)) {
+            (Some(before), Some(after)) => (before.records, after.records),
+            _ => return,
+        };
+        let marked = before.iter().any(|record| record.suspend);
+        self.marked += u64::from(sound && marked);
+        let waits = |record: &RawRecord| record.used && [3, 5].contains(&record.state);
+        self.mismarked += u64::from(before.iter().any(|record| record.suspend && !waits(record)));
+        let each = || before.iter().zip(&after);
+        let ended = |(old, new): (&RawRecord, &RawRecord)| old.suspend && new.state == 0;
+        let woken = |(old, new): (&RawRecord, &RawRecord)| old.suspend && new.state == 6;
+        let happened = sound && !matches!(parse(&case.line), Some(Request::Fresh(..)));
+        self.marks[0] += u64::from(each().any(|(old, new)| !old.suspend && new.suspend));
+        self.marks[1] += u64::from(happened && each().any(ended));
+        self.marks[2] += u64::from(happened && each().any(woken));
+    }
+
+    /// Sound tables with a mark, tables with one where none may stand, and how often a mark was set,
+    /// was gone by an ending, and led to chain 6.
+    pub fn marks(&self) -> (u64, u64, [u64; 3]) {
+        (self.marked, self.mismarked, self.marks)
+    }
+
     pub fn sum(&self) -> u64 {
         self.kinds.values().map(|(all, _)| all).sum()
     }
@@ -268,12 +298,18 @@ impl Count {
             text += &format!("{:28}{:>10}{:>10}\n", kind.what(), all, sound);
         }
         text += &format!("{:28}{:>10}\n", "not in packed form", self.no_form);
+        text += &format!("{:28}{:>10}{:>10}\n", "with a mark", "", self.marked);
+        text += &format!("{:28}{:>10}\n", "a mark where none may stand", self.mismarked);
         text += &format!("{:28}{:>10}\n", "too few bytes for the answer", self.short);
         text += &format!("{:28}{:>10}\n", "more bytes than it needs", self.longer);
         text +=
             &format!("\n{:28}{:>10}{:>10}\n", "request, on sound tables", "accepted", "refused");
         for (name, (accepted, refused)) in &self.requests {
             text += &format!("{:28}{:>10}{:>10}\n", name, accepted, refused);
+        }
+        text += &format!("\n{:28}{:>10}\n", "mark", "times");
+        for (what, times) in ["set", "gone by an ending", "to chain 6"].iter().zip(self.marks) {
+            text += &format!("{:28}{:>10}\n", what, times);
         }
         text += &format!("\n{:28}{:>10}\n", "answer", "times");
         for (number, times) in self.answers.iter().enumerate() {
@@ -347,7 +383,7 @@ fn report(
 /// Every pair of a length of tables and one of the answer, right and wrong.
 pub fn lengths() -> Result<(), String> {
     let tables = [pack(&make::unreached(&mut Prng::new(1))).to_vec(), vec![0; TABLES]].concat();
-    for size in [0, 1, 12, TABLES - 1, TABLES, TABLES + 1, 2 * TABLES] {
+    for size in [0, 1, 12, OLDER, TABLES - 1, TABLES, TABLES + 1, 2 * TABLES] {
         for answer_size in [0, 8, ANSWER - 1, ANSWER, ANSWER + 1, 2 * ANSWER] {
             let case = Case {
                 kind: Kind::Resized,

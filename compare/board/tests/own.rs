@@ -2,8 +2,10 @@
 //! and the engine's own test.
 
 use board::ffi::{Reply, TABLES};
-use board::pack::{in_form, pack, unpack, Bytes, AT_LINKS, AT_NUMBERS, AT_RECORDS, RECORD};
-use board::tables::{engine_side, Cases, Kind};
+use board::pack::{
+    in_form, older, pack, unpack, Bytes, AT_LINKS, AT_NUMBERS, AT_RECORDS, MARK, OLDER, RECORD,
+};
+use board::tables::{engine_side, Cases, Count, Kind};
 use board::{load, natural};
 use comparer::make;
 use comparer::prng::Prng;
@@ -17,6 +19,7 @@ use engine::{sheet, Engine, Holder, Timer, Why};
 #[test]
 fn places() {
     assert_eq!((AT_NUMBERS, AT_LINKS, AT_RECORDS), (269, 301, 341));
+    assert_eq!((RECORD, MARK, TABLES, OLDER), (29, 28, 1_269, 1_237));
     assert_eq!(AT_RECORDS + 32 * RECORD, TABLES);
     let (engine, _) = Engine::fresh(256, 1, 16);
     let mut raw = Raw::of(&engine);
@@ -33,15 +36,25 @@ fn places() {
         why: RawWhy::Tracks(0x0100),
         due: 0x11,
         interval: 0x2200,
+        suspend: true,
     };
     let bytes = pack(&raw);
     assert_eq!(bytes[..14], [8, 7, 6, 5, 4, 3, 2, 1, 0, 1, 1, 0, 16, 34]);
     assert_eq!((bytes[268], bytes[299], bytes[300]), (33, 33, 32));
     assert_eq!((bytes[307], bytes[340]), (9, 7));
     let record = [1, b'W', b'H', b'Z', b'A', b'T', 0x34, 0x12, 5, 1, 0, 1];
-    assert_eq!(bytes[1_209..1_221], record);
-    assert_eq!(bytes[1_221..], [0x11, 0, 0, 0, 0, 0, 0, 0, 0, 0x22, 0, 0, 0, 0, 0, 0]);
+    assert_eq!(bytes[1_240..1_252], record);
+    assert_eq!(bytes[1_252..], [0x11, 0, 0, 0, 0, 0, 0, 0, 0, 0x22, 0, 0, 0, 0, 0, 0, 1]);
     assert_eq!(unpack(&bytes), raw);
+    // The form without marks is what it was, and is none any more.
+    let without = older(&bytes);
+    assert_eq!(without.len(), 1_237);
+    assert_eq!((&without[..341], &without[1_209..1_221]), (&bytes[..341], &record[..]));
+    assert_eq!(without[1_221..], bytes[1_252..1_268]);
+    assert!(in_form(&bytes) && !in_form(&without));
+    raw.records[31].suspend = false;
+    assert_eq!(pack(&raw)[..1_268], bytes[..1_268]);
+    assert_eq!(pack(&raw)[1_268], 0);
 }
 
 /// Bytes that are read as others, which are in packed form.
@@ -52,8 +65,9 @@ fn read_as_others() {
     bytes[at] = 200;
     bytes[at + 9] = 9;
     bytes[at + 10] = 7;
+    bytes[at + 28] = 9;
     let record = unpack(&bytes).records[0];
-    assert_eq!(record, RawRecord { used: true, why: RawWhy::Number, ..UNUSED });
+    assert_eq!(record, RawRecord { used: true, why: RawWhy::Number, suspend: true, ..UNUSED });
     bytes[at + 11] = 1;
     for (kind, why) in [(1, RawWhy::Tracks(263)), (2, RawWhy::Son(7)), (3, RawWhy::Lock(7))] {
         bytes[at + 9] = kind;
@@ -72,6 +86,7 @@ fn forms() {
         in_form(&bytes)
     };
     assert!(with(&[]) && with(&[(0, 1)]) && !with(&[(0, 2)]) && !with(&[(0, 255)]));
+    assert!(with(&[(28, 1)]) && (2..=255).all(|mark| !with(&[(28, mark)])));
     for (kind, low, high) in
         [(0, false, false), (1, true, true), (2, true, false), (3, true, false), (4, false, false)]
     {
@@ -80,7 +95,7 @@ fn forms() {
         assert_eq!(with(&[(9, kind), (11, 1)]), high);
     }
     assert!(!with(&[(9, 5)]) && !with(&[(9, 9)]) && !with(&[(9, 255)]));
-    assert!([0, 1, TABLES - 1, TABLES + 1].iter().all(|size| !in_form(&vec![0; *size])));
+    assert!([0, 1, OLDER, TABLES - 1, TABLES + 1].iter().all(|size| !in_form(&vec![0; *size])));
     for place in [0, 11, 12, 13, 268, 300, 340, AT_RECORDS + 1, AT_RECORDS + 8, AT_RECORDS + 12] {
         let mut bytes = [0; TABLES];
         bytes[place] = 255;
@@ -117,11 +132,18 @@ fn an_answer() {
 fn the_cases_go_everywhere() {
     let mut cases = Cases::new(1);
     let (mut answers, mut reformed) = ([0; 15], 0);
+    let (mut mark_bytes, mut without) = (0, 0);
+    let mut count = Count::default();
     for _ in 0..20_000 {
         let case = cases.next_case();
         let (sound, outcome) = engine_side(&case);
         assert!(sound || !matches!(case.kind, Kind::Reached | Kind::Unreached));
         answers[outcome.number as usize] += 1;
+        count.add(&case, sound, &outcome);
+        without += u32::from(case.tables.len() == OLDER);
+        let records = || case.tables[AT_RECORDS..].chunks_exact(RECORD);
+        let whole = case.tables.len() == TABLES;
+        mark_bytes += u32::from(whole && records().any(|record| record[MARK] > 1));
         // Read leniently they would be sound.
         let other_form = !in_form(&case.tables)
             && Bytes::try_from(case.tables).map_or(false, |bytes| unpack(&bytes).sound());
@@ -129,6 +151,12 @@ fn the_cases_go_everywhere() {
     }
     assert!(answers.iter().all(|times| *times > 0), "{:?}", answers);
     assert!(reformed > 500, "{}", reformed);
+    assert!(mark_bytes > 100 && without > 100, "{} {}", mark_bytes, without);
+    let (marked, mismarked, marks) = count.marks();
+    println!("{}", count.print());
+    // Some 10,000 of them are sound.
+    let often = marked > 2_000 && mismarked > 300 && marks.iter().all(|times| *times > 50);
+    assert!(often, "{}", count.print());
     let mut prng = Prng::new(1);
     let (mut dormant_owner, mut mutual, mut beyond, mut full) = (0, 0, 0, 0);
     for _ in 0..5_000 {
@@ -191,12 +219,13 @@ fn change(prng: &mut Prng, engine: &mut Engine) {
         _ => {
             let other = engine.programs.values().next().map(|program| program.name);
             if let Some(program) = engine.programs.get_mut(&p) {
-                match prng.below(6) {
+                match prng.below(7) {
                     0 => program.name[prng.below(5) as usize] = prng.pick(b" A1a"),
                     1 => program.name = other.unwrap_or(program.name),
                     2 => program.priority = prng.pick(&[0, 32_767, 32_768]),
                     3 => program.state = prng.below(8) as u8,
                     4 => program.why = prng.pick(&whys),
+                    5 => program.suspend = !program.suspend,
                     _ => {
                         let last = clock + 1_474_200_000;
                         // A due of 0 is no timer in the raw form.
@@ -279,7 +308,8 @@ fn timed_pages() {
         let page = make::unreached(&mut prng).engine().expect("sound tables").page_bytes();
         assert!(page.len() <= full.len());
     }
-    assert!(full.len() <= 8_192);
+    println!("the longest page has {} bytes", full.len());
+    assert_eq!(full.len(), 8_186);
 }
 
 /// The pairs that are timed have the lines that their names say.
@@ -292,7 +322,7 @@ fn timed_pairs() {
         assert_eq!(answer, engine::Answer::new(0, count as u64));
         (lines(&pair.original).len(), lines(&pair.copy).len(), list[..count].to_vec())
     };
-    assert_eq!(listed(&load::same_pages()), (507, 507, vec![]));
+    assert_eq!(listed(&load::same_pages()), (539, 539, vec![]));
     assert_eq!(listed(&load::one_figure()).2.len(), 1);
     let end = engine::desk::find(&load::full_page(), b"", b"end", 1);
     assert_eq!((end.answer.number, end.end), (0, load::full_page().len() - 1));

@@ -16,12 +16,13 @@ pub fn absurd(prng: &mut Prng, lines: &mut Lines) {
     }
 }
 
-fn record(id: u64) -> Lines {
+fn record(id: u64, marked: bool) -> Lines {
     let name = [b'A' + (id / 26 % 26) as u8, b'A' + (id % 26) as u8];
     let name = String::from_utf8_lossy(&name).to_string();
     let lines = [format!("id={}", id), format!("name={}", name)];
     let rest = ["priority=1", "state=0", "why=-", "due=-", "interval=-"];
-    lines.into_iter().chain(rest.map(String::from)).collect()
+    let mark = Some("suspend=1").filter(|_| marked);
+    lines.into_iter().chain(rest.into_iter().chain(mark).map(String::from)).collect()
 }
 
 /// 33 to 40 records or more, upward or not, counted rightly or nearly.
@@ -34,7 +35,8 @@ fn many_records(prng: &mut Prng, lines: &mut Lines) {
         1 => (k - 1) % 32 + 1,
         _ => 32,
     };
-    let records: Lines = (1..=count).flat_map(|k| record(id(k))).collect();
+    let marks = prng.chance(1, 4);
+    let records: Lines = (1..=count).flat_map(|k| record(id(k), marks)).collect();
     lines.splice(start + 1..end, records);
     let told = prng.pick(&[count, count, count, count, count - 1, count + 1]);
     lines[start] = format!("programs={}", told);
@@ -90,8 +92,8 @@ fn wild_sizes(prng: &mut Prng, lines: &mut Lines) {
 pub const EXAMPLE: &str = "page=rte2\nclock=7\ntracks=9\nsystem=1\nnumbers=3\nprograms=5\n\
     id=1\nname=A\npriority=10\nstate=1\nwhy=-\ndue=-\ninterval=-\n\
     id=2\nname=WHZAT\npriority=10\nstate=3\nwhy=son:1\ndue=8\ninterval=0\n\
-    id=3\nname=C3\npriority=9\nstate=3\nwhy=lock:2\ndue=100\ninterval=17\n\
-    id=17\nname=D\npriority=0\nstate=5\nwhy=tracks:9\ndue=-\ninterval=-\n\
+    id=3\nname=C3\npriority=9\nstate=3\nwhy=lock:2\ndue=100\ninterval=17\nsuspend=1\n\
+    id=17\nname=D\npriority=0\nstate=5\nwhy=tracks:9\ndue=-\ninterval=-\nsuspend=1\n\
     id=32\nname=E\npriority=32767\nstate=3\nwhy=number\ndue=-\ninterval=-\n\
     chain1=1\nchain3=3,2,32\nchain5=17\nchain6=\n\
     held=1-3:17\nheld=4-4:global\nheld=7-8:17\nnumber=1:global:-\nnumber=3:2:32\nend=page\n";
@@ -121,7 +123,7 @@ pub fn fixed() -> Vec<(&'static str, Vec<u8>)> {
         for place in 0..=lines.len() {
             let mut more = lines.clone();
             more.insert(place, line.to_string());
-            pages.push(("a line that a page has not", bytes_of(&more)));
+            pages.push(("a line that a page has not, or not there", bytes_of(&more)));
         }
     }
     let million = "1".repeat(1_000_000);

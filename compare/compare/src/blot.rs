@@ -45,13 +45,14 @@ pub fn line(prng: &mut Prng, lines: &mut Lines) {
     }
 }
 
-/// Lines that a page has not, those of later requests among them, each with the key before which it
-/// would stand.
-pub const STRANGE: [(&str, &str); 10] = [
+/// Lines that a page has not, those of later requests among them, or has at other places, each with
+/// the key before which it would stand.
+pub const STRANGE: [(&str, &str); 11] = [
     ("", "end"),
     ("=", "clock"),
     ("suspend=1", "chain1"),
     ("suspend=0", "chain1"),
+    ("suspend=2", "chain1"),
     ("year=1975", "tracks"),
     ("year=1976", "tracks"),
     ("chain4=", "chain5"),
@@ -59,6 +60,58 @@ pub const STRANGE: [(&str, &str); 10] = [
     ("mail=1:0", "end"),
     ("class=1", "end"),
 ];
+
+/// A line of the mark that is none: of another value, doubled, or at another place.
+pub fn mark(prng: &mut Prng, lines: &mut Lines) {
+    let right = String::from("suspend=1");
+    let behind: Vec<usize> = having(lines, "interval").iter().map(|at| at + 1).collect();
+    let head = having(lines, "programs").first().map_or(0, |at| at + 1);
+    // Behind an interval, where a mark may stand; without any record, behind the head.
+    let at = if behind.is_empty() { head } else { prng.pick(&behind) };
+    let marked = lines.get(at).map_or(false, |line| key(line) == "suspend");
+    match prng.below(8) {
+        // Of another value: in the place of one that stands there, or as the only one.
+        0..=2 => {
+            let values = ["0", "0", "2", "2", "3", "9", "10", "11", "01", "00", "-", "", "1 ", "A"];
+            let new = format!("suspend={}", prng.pick(&values));
+            if marked {
+                lines[at] = new;
+            } else {
+                lines.insert(at, new);
+            }
+        }
+        3 => {
+            for _ in usize::from(marked)..prng.pick(&[2, 2, 2, 3]) {
+                lines.insert(at, right.clone());
+            }
+        }
+        // Before the interval, or further up in its record.
+        4 if !behind.is_empty() => {
+            let up = prng.pick(&[1, 1, 1, 2, 3, 4, 5, 6, 7]);
+            if marked {
+                lines.remove(at);
+            }
+            lines.insert(at.saturating_sub(up), right);
+        }
+        // Behind the next id, or behind chain1.
+        5 => {
+            let next = (at..lines.len()).find(|at| ["id", "chain1"].contains(&key(&lines[*at])));
+            if marked {
+                lines.remove(at);
+            }
+            let next = next.map_or(lines.len(), |next| next + 1 - usize::from(marked));
+            lines.insert(next, right);
+        }
+        // In the head, in front of it and right behind it.
+        6 => lines.insert(prng.below(head as u64 + 1) as usize, right),
+        // Among the lines behind the records.
+        _ => {
+            let from = having(lines, "chain1").first().map_or(0, |at| at + 1);
+            let at = from + prng.below((lines.len() - from) as u64 + 1) as usize;
+            lines.insert(at.min(lines.len()), right);
+        }
+    }
+}
 
 /// A number with a zero in front of it, stretched, or gone.
 pub fn digits(prng: &mut Prng, lines: &mut Lines) {

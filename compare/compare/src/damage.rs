@@ -2,7 +2,7 @@
 //! are to be refused with 14; those that are still sound have to work.
 
 use crate::prng::Prng;
-use engine::raw::{Raw, RawWhy, SLOTS};
+use engine::raw::{Raw, RawRecord, RawWhy, SLOTS};
 
 const WILD: [u64; 20] =
     [0, 1, 2, 3, 4, 5, 6, 7, 8, 16, 32, 33, 34, 255, 256, 257, 32_767, 32_768, 1 << 40, u64::MAX];
@@ -13,7 +13,7 @@ pub fn damage(prng: &mut Prng, raw: &mut Raw) {
     let now = raw.clock;
     let last = now.saturating_add(1_474_200_000).min(u64::MAX - 1);
     let record = &mut raw.records[prng.below(32) as usize];
-    match prng.below(14) {
+    match prng.below(15) {
         0 => record.used = !record.used,
         1 => record.name[prng.below(5) as usize] = prng.pick(&[0, b' ', b'A', b'1', b'a', 255]),
         2 => record.priority = value,
@@ -27,12 +27,27 @@ pub fn damage(prng: &mut Prng, raw: &mut Raw) {
         10 => raw.numbers[prng.below(16) as usize].lock = byte,
         11 => raw.links[prng.below(SLOTS as u64) as usize] = byte,
         12 => exchange_links(prng, raw),
+        13 => change_mark(prng, raw),
         _ => match prng.below(4) {
             0 => raw.clock = prng.pick(&[value, 1_000_000_000_000, 1_000_000_000_001]),
             1 => raw.t = value,
             2 => raw.s = value,
             _ => raw.r = value,
         },
+    }
+}
+
+/// The mark of a record that is not used, or of a program in some state, if there is one.
+pub fn change_mark(prng: &mut Prng, raw: &mut Raw) {
+    let state = prng.pick(&[None, Some(0), Some(1), Some(3), Some(5), Some(6)]);
+    let so = |record: &&mut RawRecord| match state {
+        Some(state) => record.used && record.state == state,
+        None => !record.used,
+    };
+    let mut fitting: Vec<&mut RawRecord> = raw.records.iter_mut().filter(so).collect();
+    if !fitting.is_empty() {
+        let place = prng.below(fitting.len() as u64) as usize;
+        fitting[place].suspend = !fitting[place].suspend;
     }
 }
 

@@ -15,8 +15,8 @@ use std::os::unix::ffi::OsStrExt;
 use std::path::{Path, PathBuf};
 use std::time::Duration;
 
-/// The pairs that `compare desk` takes unless it is told another count: two turns of kinds, and more.
-pub const CI_FILED: usize = 60;
+/// The pairs that `compare desk` takes unless it is told another count: some turns of kinds.
+pub const CI_FILED: usize = 120;
 
 /// How many lines are asked for in each pair.
 const FINDS: usize = 3;
@@ -140,8 +140,14 @@ pub fn run(
 /// Sizes of files, beside those of the blocks in which a program may read them.
 const SIZES: [usize; 10] = [0, 1, 4_095, 4_096, 4_097, 8_192, 65_535, 65_536, 65_537, 200_000];
 
+/// Lines without `=` that are the keys of others, and keys that are the same up to byte 0, in another
+/// order: nothing is to be listed.
+const LOOKALIKES: [&[u8]; 2] =
+    [b"a\nb\na=1\nb=1\na\0b=1\na\0c=2\n", b"a=1\nb\na\0c=2\nb=1\na\0b=1\n"];
+
 /// A text of each of these sizes with nothing in the copy, and with the copy's last byte another;
-/// every byte as a key; very long lines that differ in the key's last byte, or in their own.
+/// every byte as a key; very long lines that differ in the key's last byte, or in their own; and
+/// `LOOKALIKES`.
 pub fn fixed() -> Vec<(String, Pair)> {
     let mut pairs = Vec::new();
     for size in SIZES {
@@ -163,6 +169,12 @@ pub fn fixed() -> Vec<(String, Pair)> {
         let [original, copy] = [one, two].map(|end| (long.clone() + end).into_bytes());
         pairs.push((String::from("a line of 100,000 bytes"), original, copy));
     }
+    let [original, copy] = LOOKALIKES.map(|text| text.to_vec());
+    pairs.push((
+        String::from("lines that look like keys, and keys that look alike"),
+        original,
+        copy,
+    ));
     let pair = |(what, original, copy)| (what, Pair { original, copy });
     pairs.into_iter().map(pair).collect()
 }

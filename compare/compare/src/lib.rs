@@ -10,6 +10,7 @@
 //! | `spoil` | lines that are nearly right, and lines that are not |
 //! | `tangle` | an opening in which many wait for one program |
 //! | `script` | a whole script from a seed |
+//! | `marks` | who woke by what, marked or not, and how often |
 //! | `corners` | fixed inputs |
 //! | `forms` | fixed inputs made from the forms of a line |
 //! | `damage` | tables that are not sound |
@@ -47,6 +48,7 @@ pub mod following;
 pub mod forms;
 pub mod looking;
 pub mod make;
+pub mod marks;
 pub mod miscopy;
 pub mod nooks;
 pub mod other;

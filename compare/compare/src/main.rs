@@ -5,6 +5,7 @@ use comparer::differ::{self, shortest, Count, Failure};
 use comparer::filed::{self, Folder, Program, CI_FILED};
 use comparer::following::{self, CI_TRIPLES};
 use comparer::looking::{self, Trial, CI_PAIRS};
+use comparer::marks;
 use comparer::other::Other;
 use comparer::pages::{in_turn, turn, Pages};
 use comparer::reading::{self, CI_PAGES};
@@ -152,14 +153,13 @@ fn run(options: Options) -> Result<u8, String> {
         _ => return Err(USAGE.to_string()),
     };
     let mut count = Count::default();
-    let failure = differ::run(&other, options.seeds, options.lines, &mut count)?;
+    let failure = differ::run(&other, options.seeds.clone(), options.lines, &mut count)?;
     match failure {
         None => {
-            println!(
-                "{} runs, {} scripts, {} lines: no difference",
-                count.runs, count.scripts, count.lines
-            );
-            Ok(0)
+            let marks = marks::Count::of_scripts(options.seeds, options.lines).print();
+            let Count { runs, scripts, lines } = count;
+            let said = format!("{runs} runs, {scripts} scripts, {lines} lines: no difference\n");
+            print((marks + &said).as_bytes())
         }
         Some(failure) => show(&other, &failure, options.save),
     }
@@ -185,7 +185,7 @@ fn pages(options: Options) -> Result<u8, String> {
         None => {
             let mut total = reading::Count::default();
             for (kind, page) in Pages::new(seed).take(count) {
-                total.add(kind, engine::read(&page).1);
+                total.add(kind, &page, engine::read(&page).1);
             }
             return print(total.print().as_bytes());
         }

@@ -9,7 +9,7 @@ use engine::raw::{
     Raw, RawNumber, RawRecord, RawWhy, BLANK_NUMBER, GLOBAL, LINKS, SLOTS, SYSTEM, UNUSED,
 };
 use engine::sheet::{lines, print_line};
-use engine::tables::{CEILING, CHAINS, DISC, FURTHEST, GENERAL_WAIT, RECORDS};
+use engine::tables::{CEILING, CHAINS, DISC, FURTHEST, GENERAL_WAIT, LOWEST_PRIORITY, RECORDS};
 use engine::Engine;
 
 const DAY: u64 = 8_640_000;
@@ -87,6 +87,8 @@ fn put_programs(prng: &mut Prng, raw: &mut Raw) {
     let of_hundred = prng.pick(&[0, 5, 15, 30, 60, 90, 100]);
     let few = prng.chance(1, 2);
     let ties = prng.pick(&[0, 1, 10, 32_767]);
+    // Of those who wait, so many of four are marked.
+    let marks = prng.pick(&[0, 1, 1, 2, 3, 4]);
     let mut names = Vec::new();
     for place in 0..RECORDS {
         if !prng.chance(of_hundred, 100) {
@@ -99,7 +101,10 @@ fn put_programs(prng: &mut Prng, raw: &mut Raw) {
         let name = name(prng, &names);
         names.push(name);
         let why = RawWhy::Nothing;
-        raw.records[place] = RawRecord { used: true, name, priority, state, why, due, interval };
+        let marked = state == u64::from(DISC) || state == u64::from(GENERAL_WAIT);
+        let suspend = marked && prng.chance(marks, 4);
+        raw.records[place] =
+            RawRecord { used: true, name, priority, state, why, due, interval, suspend };
     }
 }
 
@@ -211,4 +216,36 @@ fn put_links(prng: &mut Prng, raw: &mut Raw) {
             slot = LINKS + usize::from(p);
         }
     }
+}
+
+/// The tables with the longest page: every number has as many digits as it can, every record waits
+/// for tracks and is marked, and no two neighbours of 256 tracks have one holder.
+pub fn largest() -> Raw {
+    let (engine, _) = Engine::fresh(256, 0, 16);
+    let mut raw = Raw::of(&engine);
+    raw.clock = CEILING;
+    let mut slot = usize::from(DISC);
+    for p in 1..=RECORDS {
+        let mut name = *b"WAITA";
+        name[4] = if p <= 26 { b'A' + p as u8 - 1 } else { b'0' + p as u8 - 27 };
+        raw.records[p - 1] = RawRecord {
+            used: true,
+            name,
+            priority: LOWEST_PRIORITY,
+            state: u64::from(DISC),
+            why: RawWhy::Tracks(256),
+            due: CEILING + FURTHEST,
+            interval: FURTHEST,
+            suspend: true,
+        };
+        raw.links[slot] = p as u8;
+        slot = LINKS + p;
+    }
+    for (track, holder) in raw.tracks.iter_mut().enumerate() {
+        *holder = if track % 2 == 0 { GLOBAL } else { RECORDS as u8 };
+    }
+    for number in &mut raw.numbers {
+        *number = RawNumber { owner: GLOBAL, lock: RECORDS as u8 };
+    }
+    raw
 }

@@ -1,6 +1,7 @@
 //! Fixed runs of sheets, each for something that a `follow` program may get wrong.
 
 use crate::absurd::EXAMPLE;
+use crate::make;
 use crate::sheets::{Content, Run, Sheet};
 use engine::sheet::{lines, print_line};
 use engine::{read, Engine};
@@ -10,6 +11,7 @@ pub fn fixed() -> Vec<Run> {
     let mut runs = counts_of_arguments();
     runs.extend([seven_or_one(), given_outranks(), gone_and_back(), all_refusals()]);
     runs.extend([nothing_changed(), more_and_fewer(), unread_requests(), strange_names()]);
+    runs.extend([marks(), longest_page()]);
     runs.extend(no_pages());
     runs.extend([lines_shown(), long_files_of_requests(), many_lines()]);
     runs
@@ -178,6 +180,48 @@ fn largest() -> Vec<u8> {
     }
     script += &" RN,ALLOC,G,1".repeat(16);
     page(&script)
+}
+
+/// Who waits is marked, keeps the mark, wakes to chain 6 or ends; pages on which the mark is
+/// missing, is one too many, or stands at another program, which the desk does not list.
+fn marks() -> Run {
+    let start =
+        "FRESH,4,1,2 LOAD,A,10 LOAD,B,10 LOAD,C,10 LOAD,D,10 RU,A RN,ALLOC,L,0 RN,LOCK,1,0 \
+                 EXEC,4,3,0 RU,B RU,C RU,D PR,A,10 EXEC,4,1,0 RN,LOCK,1,0 EXEC,4,2,0";
+    let waiting = |more: &str| page(&format!("{} {}", start, more));
+    let [none, second, third] = ["", "SS,B", "SS,C"].map(waiting);
+    let [both, all] = ["SS,B SS,C", "SS,B SS,C SS,D"].map(waiting);
+    let kept = b"SS,B\nSS,B\nGO,B\nRU,B\nPR,B,10\nEXEC,12,B,1,0,1\nTICK\nSS,A\nSS,A\nGO,A\n";
+    let wakes = b"EXEC,5,1,1\nRN,FREE,1\nGO,B\nSS,NONE\n";
+    let ends = b"OF,B,1\nOF,C,8\nLOAD,NEW,10\nRU,B\nEXEC,6\n";
+    let after = [&kept[..], wakes, ends].map(|asked| next_page(&all, asked));
+    let rest: [(&[u8], &[u8]); 16] = [
+        (b"SS,B", &second),
+        (b"", &third),
+        (b"SS,B", &both),
+        (b"", &second),
+        (b"SS,D", &all),
+        (b"", &none),
+        (b"SS,B\nSS,C", &third),
+        (b"SS,D", &all),
+        (kept, &after[0]),
+        (b"", &all),
+        (wakes, &after[1]),
+        (b"", &all),
+        (ends, &after[2]),
+        (b"", &all),
+        (wakes, &after[2]),
+        (b"SS,B\nSS,NEW", &none),
+    ];
+    steps("marks of those who wait", &none, &rest)
+}
+
+/// The longest page there is, asked for among requests.
+fn longest_page() -> Run {
+    let page = make::largest().engine().expect("sound tables").page_bytes();
+    let next = next_page(&page, b"PR,WAITA,1");
+    let asked = b"PAGE\nSS,WAITA\nGO,WAITA\nTICK\nPAGE";
+    steps("the longest page", &page, &[(asked, &page), (b"PR,WAITA,1\nPAGE", &next)])
 }
 
 /// Requests that cannot be read, before pages that can.

@@ -24,6 +24,7 @@ pub enum Kind {
     Misshapen,
     Miscounted,
     Twice,
+    Mark,
 }
 
 impl Kind {
@@ -43,15 +44,16 @@ impl Kind {
             Kind::Misshapen => "a field misshapen",
             Kind::Miscounted => "records miscounted",
             Kind::Twice => "two of these at once",
+            Kind::Mark => "a mark misplaced or misshapen",
         }
     }
 }
 
 /// Of a hundred pages, so many are of each kind.
-const KINDS: [(Kind, u64); 14] = [
+const KINDS: [(Kind, u64); 15] = [
     (Kind::Reached, 10),
-    (Kind::Unreached, 16),
-    (Kind::Twisted, 34),
+    (Kind::Unreached, 15),
+    (Kind::Twisted, 28),
     (Kind::Absurd, 4),
     (Kind::Byte, 6),
     (Kind::Line, 5),
@@ -63,6 +65,7 @@ const KINDS: [(Kind, u64); 14] = [
     (Kind::Misshapen, 5),
     (Kind::Miscounted, 2),
     (Kind::Twice, 5),
+    (Kind::Mark, 7),
 ];
 
 /// Each kind once for every seven of its hundred that are begun: 21 in all.
@@ -122,7 +125,14 @@ impl Pages {
         if kind == Kind::Twice {
             // The second time it may be no text any more.
             let lines = with_lines(&page, |lines| twist(prng, lines));
-            let kind = prng.pick(&[Kind::Byte, Kind::Digits, Kind::Line, Kind::Tail, Kind::Cut]);
+            let kind = prng.pick(&[
+                Kind::Byte,
+                Kind::Digits,
+                Kind::Line,
+                Kind::Tail,
+                Kind::Cut,
+                Kind::Mark,
+            ]);
             return changed(prng, kind, lines);
         }
         changed(prng, kind, page)
@@ -152,6 +162,7 @@ pub fn changed(prng: &mut Prng, kind: Kind, mut page: Vec<u8>) -> Vec<u8> {
         Kind::Twisted => return with_lines(&page, |lines| twist(prng, lines)),
         Kind::Absurd => return with_lines(&page, |lines| absurd(prng, lines)),
         Kind::Line => return with_lines(&page, |lines| blot::line(prng, lines)),
+        Kind::Mark => return with_lines(&page, |lines| blot::mark(prng, lines)),
         Kind::Digits => return with_lines(&page, |lines| blot::digits(prng, lines)),
         Kind::Misspelt => return with_lines(&page, |lines| blot::misspelt(prng, lines)),
         Kind::Misshapen => return with_lines(&page, |lines| blot::misshapen(prng, lines)),

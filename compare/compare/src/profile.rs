@@ -38,7 +38,7 @@ use Topic::*;
 const TOPICS: [(Topic, u64); 24] = [
     (Load, 8),
     (Run, 12),
-    (Suspend, 4),
+    (Suspend, 7),
     (Go, 6),
     (Priority, 8),
     (Off, 5),
@@ -74,7 +74,7 @@ const fn theme(loud: &'static [Topic], quiet: &'static [Topic]) -> Theme {
     Theme { loud, quiet, gaps: false }
 }
 
-const THEMES: [Theme; 10] = [
+const THEMES: [Theme; 11] = [
     theme(&[], &[]),
     theme(&[Claim, GiveBack, GiveAll, Off], &[]),
     Theme { loud: &[Claim, GiveBack], quiet: &[GiveAll, Off, Alloc, Lock, Son, Fresh], gaps: true },
@@ -85,6 +85,7 @@ const THEMES: [Theme; 10] = [
     theme(&[Alloc, Lock, Son, Off, Priority], &[Claim, Timer, Free, Clear]),
     theme(&[Claim, Lock, Alloc, Off, Run], &[GiveBack]),
     theme(&[Edge, Spoilt], &[]),
+    theme(&[Suspend, Son, Lock, Alloc, Claim, Run], &[Go, Pause, Start, Timer, Spoilt, Fresh]),
 ];
 
 const WORDS: [&str; 30] = [

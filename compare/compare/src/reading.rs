@@ -10,7 +10,7 @@ use std::panic::{catch_unwind, AssertUnwindSafe};
 
 /// The pages that the tests use and that `compare pages` takes unless it is told another count.
 /// Within them every wrong reader is found.
-pub const CI_PAGES: usize = 6_000;
+pub const CI_PAGES: usize = 8_000;
 
 /// Bytes that are put at every place of the example.
 const BYTES: &[u8] = b"0179/:;-,=\n\r\0 AZ[@az\xff";
@@ -97,6 +97,9 @@ pub fn page_lines(page: &[u8]) -> Vec<String> {
 #[derive(Default)]
 pub struct Count {
     kinds: BTreeMap<Kind, [u64; 3]>,
+    /// Of all these, the pages with a line suspend=1, and those with another line of that key.
+    marked: [u64; 3],
+    mismarked: [u64; 3],
 }
 
 /// 0, 15 with a line, 15 with 0.
@@ -109,8 +112,13 @@ pub fn class(answer: Answer) -> usize {
 }
 
 impl Count {
-    pub fn add(&mut self, kind: Kind, answer: Answer) {
-        self.kinds.entry(kind).or_default()[class(answer)] += 1;
+    pub fn add(&mut self, kind: Kind, page: &[u8], answer: Answer) {
+        let class = class(answer);
+        self.kinds.entry(kind).or_default()[class] += 1;
+        let lines = || page.split(|byte| *byte == b'\n');
+        let other = |line: &[u8]| line.starts_with(b"suspend=") && line != b"suspend=1";
+        self.marked[class] += u64::from(lines().any(|line| line == b"suspend=1"));
+        self.mismarked[class] += u64::from(lines().any(other));
     }
 
     pub fn sums(&self) -> [u64; 3] {
@@ -135,6 +143,13 @@ impl Count {
         for (kind, counts) in &self.kinds {
             text += &row(kind.what(), *counts);
         }
-        text + &row("all", self.sums())
+        text += &row("all", self.sums());
+        text += &row("with suspend=1", self.marked);
+        text + &row("with another suspend", self.mismarked)
+    }
+
+    /// Of the pages with a line suspend=1.
+    pub fn marked(&self) -> [u64; 3] {
+        self.marked
     }
 }

@@ -49,7 +49,7 @@ pub fn going_on(prng: &mut Prng, engine: &mut Engine, count: usize) -> Vec<Vec<u
 
 fn opening(prng: &mut Prng, profile: &Profile) -> Vec<String> {
     let mut opening = vec![format!("FRESH,{},{},{}", profile.t, profile.s, profile.r)];
-    if prng.chance(1, 6) {
+    if prng.chance(2, 5) {
         opening.extend(tangle(prng, profile));
     }
     opening

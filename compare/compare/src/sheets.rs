@@ -204,7 +204,7 @@ impl Iterator for Runs {
 fn crowded(prng: &mut Prng) -> Engine {
     let mut engine = Engine::smallest();
     let mut script = vec![String::from("FRESH,256,0,16")];
-    let programs = prng.pick(&[20, 31, 32, 32]);
+    let programs = prng.pick(&[20, 31, 32, 32, 32]);
     script.extend((1..=programs).map(|k| format!("LOAD,P{},{}", k, prng.pick(&[1, 10, 300]))));
     script.extend((1..=programs / 2).map(|k| format!("RU,P{}", k)));
     for _ in 0..prng.pick(&[8, 60, 256]) {
@@ -282,7 +282,9 @@ fn odd_line(prng: &mut Prng) -> Vec<u8> {
         4 => Vec::new(),
         5 => [front, &[byte]].concat(),
         6 => [&[byte], front].concat(),
-        7 => prng.pick(&["RU,NONE", "LOAD,P1,10", "LOAD,NEW,10"]).as_bytes().to_vec(),
+        7 => {
+            prng.pick(&["RU,NONE", "LOAD,P1,10", "LOAD,NEW,10", "LOAD,NEW,10"]).as_bytes().to_vec()
+        }
         _ => {
             let size = prng.pick(&[70, 71, 72, 72, 73, 73, 74, 75, 80, 144, 145, 146, 5_000]);
             let mut line = front.to_vec();

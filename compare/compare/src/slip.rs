@@ -33,11 +33,12 @@ fn figure(prng: &mut Prng, page: &[u8]) -> Vec<u8> {
 /// The page after a change of the tables. Whether they are sound then is not asked here.
 fn structure(prng: &mut Prng, engine: &Engine) -> Vec<u8> {
     let mut changed = engine.clone();
-    match prng.below(7) {
+    match prng.below(8) {
         0 | 1 => programs(prng, &mut changed),
         2 | 3 => tracks(prng, &mut changed),
         4 => numbers(prng, &mut changed),
         5 => equals(prng, &mut changed),
+        6 => marks(prng, &mut changed),
         _ => timers(prng, &mut changed),
     }
     changed.page_bytes()
@@ -103,6 +104,28 @@ fn equals(prng: &mut Prng, engine: &mut Engine) {
     for (p, entry) in entries {
         if let Some(program) = engine.programs.get_mut(&p) {
             program.entry = entry;
+        }
+    }
+}
+
+/// A mark is there, gone, or at another program that waits. The last shows as no line of its own:
+/// all lines of marks are alike.
+fn marks(prng: &mut Prng, engine: &mut Engine) {
+    let of_mark = |marked: bool| {
+        let waiting = engine.programs.iter().filter(|(_, it)| [3, 5].contains(&it.state));
+        waiting.filter(|(_, it)| it.suspend == marked).map(|(p, _)| *p).collect::<Vec<usize>>()
+    };
+    let (marked, unmarked) = (of_mark(true), of_mark(false));
+    let mut changed = Vec::new();
+    if !marked.is_empty() && prng.chance(3, 4) {
+        changed.push(prng.pick(&marked));
+    }
+    if !unmarked.is_empty() && (changed.is_empty() || prng.chance(1, 2)) {
+        changed.push(prng.pick(&unmarked));
+    }
+    for p in changed {
+        if let Some(program) = engine.programs.get_mut(&p) {
+            program.suspend = !program.suspend;
         }
     }
 }

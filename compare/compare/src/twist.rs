@@ -3,6 +3,7 @@
 
 use crate::prng::Prng;
 use engine::tables::{CEILING, FURTHEST};
+use std::ops::Range;
 
 /// The lines of a page, without their byte 10.
 pub type Lines = Vec<String>;
@@ -50,7 +51,7 @@ fn told(lines: &[String], wanted: &str) -> u64 {
 /// One to three changes of one kind or of several.
 pub fn twist(prng: &mut Prng, lines: &mut Lines) {
     for _ in 0..prng.pick(&[1, 1, 1, 2, 3]) {
-        match prng.below(10) {
+        match prng.below(11) {
             0 | 1 => one_number(prng, lines),
             2 => exchange(prng, lines),
             3 => runs(prng, lines),
@@ -59,6 +60,7 @@ pub fn twist(prng: &mut Prng, lines: &mut Lines) {
             6 => records(prng, lines),
             7 => waits(prng, lines),
             8 => timers(prng, lines),
+            9 => marks(prng, lines),
             _ => sizes(prng, lines),
         }
     }
@@ -175,7 +177,7 @@ fn ids(lines: &[String]) -> Vec<String> {
 fn holder(prng: &mut Prng, lines: &[String]) -> String {
     let mut holders = ids(lines);
     holders.push(String::from("global"));
-    let strange = prng.pick(&["0", "0", "33", "34", "32", "31", "255"]);
+    let strange = prng.pick(&["0", "0", "33", "33", "34", "32", "31", "255"]);
     if prng.chance(1, 4) {
         return strange.to_string();
     }
@@ -260,7 +262,9 @@ fn allocations(prng: &mut Prng, lines: &mut Lines) {
     let r = prng.pick(&[any, any, any, 0, any + 1, 17]);
     let owner = holder(prng, lines);
     let lock = if prng.chance(1, 2) { String::from("-") } else { holder(prng, lines) };
-    let lock = if lock == "global" && prng.chance(9, 10) { String::from("-") } else { lock };
+    // No number is locked globally.
+    let lock = if lock == "global" && prng.chance(4, 5) { String::from("-") } else { lock };
+    let lock = if prng.chance(1, 12) { String::from("global") } else { lock };
     let new = format!("number={}:{}:{}", r, owner, lock);
     if places.is_empty() || prng.chance(1, 4) {
         let before = |place: &&usize| {
@@ -335,8 +339,15 @@ pub fn chains(prng: &mut Prng, lines: &mut Lines) {
     lines[at] = format!("{}={}", one, members.join(","));
 }
 
-/// The lines of a record: seven from each id.
+/// The lines of a record without its mark: seven from each id.
 const RECORD: usize = 7;
+
+/// The lines of the record whose id stands here, with its mark if it has one.
+fn record_at(lines: &[String], at: usize) -> Range<usize> {
+    let behind = at + RECORD;
+    let marked = lines.get(behind).map_or(false, |line| key(line) == "suspend");
+    at..(behind + usize::from(marked)).min(lines.len())
+}
 
 /// Whole records that change places, come twice, go or are new, with the count or without it.
 fn records(prng: &mut Prng, lines: &mut Lines) {
@@ -352,19 +363,23 @@ fn records(prng: &mut Prng, lines: &mut Lines) {
         count += 1;
     } else {
         let (one, two) = (prng.pick(&places), prng.pick(&places));
-        let whole: Lines = lines[one..one + RECORD].to_vec();
+        let whole: Lines = lines[record_at(lines, one)].to_vec();
         match prng.below(6) {
             0 => {
-                for line in 0..RECORD {
-                    lines.swap(one + line, two + line);
-                }
+                // The later one first, so that the place of the other stays.
+                let (front, back) = (one.min(two), one.max(two));
+                let (first, second) = (record_at(lines, front), record_at(lines, back));
+                let other: Lines = lines[second.clone()].to_vec();
+                let moved: Lines = lines[first.clone()].to_vec();
+                lines.splice(second, moved);
+                lines.splice(first, other);
             }
             1 => {
                 lines.splice(two..two, whole);
                 count += 1;
             }
             2 => {
-                lines.drain(one..one + RECORD);
+                lines.drain(record_at(lines, one));
                 count = count.saturating_sub(1);
             }
             3 => lines[one + 1] = lines[two + 1].clone(),
@@ -402,6 +417,29 @@ fn waits(prng: &mut Prng, lines: &mut Lines) {
     lines[at] = format!("why={}", new);
     if prng.chance(1, 6) {
         lines[at - 1] = format!("state={}", prng.below(8));
+    }
+}
+
+/// The mark of a program that waits, or of any other, is there, gone, or at another program.
+fn marks(prng: &mut Prng, lines: &mut Lines) {
+    let marked = having(lines, "suspend");
+    if !marked.is_empty() && prng.chance(1, 2) {
+        lines.remove(prng.pick(&marked));
+        if prng.chance(1, 2) {
+            return;
+        }
+    }
+    let waits = |at: &usize| ["state=3", "state=5"].contains(&lines[*at].as_str());
+    let all = having(lines, "state");
+    let waiting: Vec<usize> = all.iter().copied().filter(waits).collect();
+    let fitting = if waiting.is_empty() || prng.chance(1, 3) { all } else { waiting };
+    if !fitting.is_empty() {
+        // Behind the interval, which is three lines below; one that is marked already has two then.
+        let at = prng.pick(&fitting) + 4;
+        let twice = lines.get(at).map_or(true, |line| key(line) == "suspend");
+        if !twice || prng.chance(1, 8) {
+            lines.insert(at.min(lines.len()), String::from("suspend=1"));
+        }
     }
 }
 

@@ -18,10 +18,11 @@ const UNREAD: &str = "without its requests";
 const NO_FIRST: &str = "without a first page";
 const NO_NEXT: &str = "the next is no page";
 const REFUSED: &str = "refused";
+const PARTING: &str = "nothing listed, where they part";
 
 /// What may come up; each of it has to. Those of triples come first, then those of files, of
 /// requests, and of differences.
-pub const ROWS: [&str; 36] = [
+pub const ROWS: [&str; 37] = [
     FOLLOWS,
     DOES_NOT,
     NO_NEXT,
@@ -58,6 +59,7 @@ pub const ROWS: [&str; 36] = [
     "line of both that differs",
     "line of the sheet alone",
     "line written alone",
+    PARTING,
 ];
 
 /// What a line of the output is; none where it is a line of a page that is none.
@@ -87,10 +89,18 @@ fn row(line: &str) -> Option<&'static str> {
     }
     if line.starts_with("line ") && line.contains(" on the sheet, ") {
         let alone = line.ends_with(" on the sheet, no such line by the requests");
-        return Some(if alone { "line of the sheet alone" } else { "line of both that differs" });
+        let row = if parting(line) { PARTING } else { "line of both that differs" };
+        return Some(if alone { "line of the sheet alone" } else { row });
     }
     let read = line.ends_with(": answer=0,value=0");
     request(line).or(Some("page read").filter(|_| read))
+}
+
+/// Whether two lines of different keys are shown: the desk lists none so.
+fn parting(line: &str) -> bool {
+    let key = |shown: &str| shown.split('=').next().map(String::from);
+    let sides = line.split_once(": ").and_then(|(_, shown)| shown.split_once(" on the sheet, "));
+    sides.map_or(false, |(sheet, written)| key(sheet) != key(written))
 }
 
 /// What a request came to, if it is one.

@@ -4,10 +4,11 @@ use crate::claims::{self, Wanted};
 use crate::prng::Prng;
 use crate::profile::{sizes, Profile, Topic};
 use engine::tables::{shown_name, DISC, DORMANT, GENERAL_WAIT, SCHEDULED, SUSPENDED};
-use engine::{Engine, Holder};
+use engine::{Engine, Holder, Program};
 
 const ANY: [u8; 5] = [DORMANT, SCHEDULED, GENERAL_WAIT, DISC, SUSPENDED];
 const IN_CHAIN: [u8; 4] = [SCHEDULED, GENERAL_WAIT, DISC, SUSPENDED];
+const WAITING: [u8; 2] = [GENERAL_WAIT, DISC];
 
 /// Needs a program that runs: without one the line is only answered with 2.
 fn needs_caller(topic: Topic) -> bool {
@@ -37,7 +38,7 @@ pub fn useful(engine: &Engine, topic: Topic) -> bool {
     match topic {
         Load => engine.programs.len() < 3 || engine.programs.len() % 4 != 0,
         Run | Son | Start => any_in(DORMANT),
-        Suspend => any_in(SCHEDULED),
+        Suspend => [SCHEDULED, GENERAL_WAIT, DISC].into_iter().any(any_in),
         Go => any_in(SUSPENDED),
         Priority | Off => engine.programs.len() > 2,
         Tick => engine.programs.values().any(|program| program.timer.is_some()),
@@ -73,13 +74,13 @@ fn operator(prng: &mut Prng, profile: &Profile, engine: &Engine, topic: Topic) -
             }
             format!("RU,{}", dormant)
         }
-        Topic::Suspend => format!("SS,{}", named(&[SCHEDULED])),
-        Topic::Go => format!("GO,{}", named(&[SUSPENDED])),
+        Topic::Suspend => format!("SS,{}", to_suspend(prng, profile, engine)),
+        Topic::Go => format!("GO,{}", marked_or(prng, profile, engine, &[SUSPENDED])),
         Topic::Priority => priority(prng, profile, engine),
         Topic::Off => {
             let states: &[u8] = if prng.chance(1, 6) { &ANY } else { &IN_CHAIN };
             let how = prng.pick(&[1, 8]);
-            format!("OF,{},{}", name(prng, profile, engine, states), how)
+            format!("OF,{},{}", marked_or(prng, profile, engine, states), how)
         }
         Topic::Fresh => {
             let (t, s, r) = sizes(prng);
@@ -106,7 +107,7 @@ fn running(prng: &mut Prng, profile: &Profile, engine: &Engine, topic: Topic) ->
         Topic::Timer => {
             let (resolution, multiple, offset) = claims::timer(prng, engine);
             let states: &[u8] = if prng.chance(1, 2) { &[DORMANT] } else { &ANY };
-            let named = name(prng, profile, engine, states);
+            let named = marked_or(prng, profile, engine, states);
             format!("EXEC,12,{},{},{},{}", named, resolution, multiple, offset)
         }
         Topic::Alloc => format!("RN,ALLOC,{},{}", prng.pick(&["L", "L", "L", "G"]), w),
@@ -143,7 +144,7 @@ fn priority(prng: &mut Prng, profile: &Profile, engine: &Engine) -> String {
     let caller = engine.caller().ok().filter(|_| prng.chance(1, 3));
     let named = match caller {
         Some(p) => shown_name(engine.programs[&p].name),
-        None => name(prng, profile, engine, &IN_CHAIN),
+        None => marked_or(prng, profile, engine, &IN_CHAIN),
     };
     let own = engine.programs.values().find(|program| shown_name(program.name) == named);
     let number = match own {
@@ -153,12 +154,43 @@ fn priority(prng: &mut Prng, profile: &Profile, engine: &Engine) -> String {
     format!("PR,{},{}", named, number)
 }
 
+/// Who is to be suspended: one that is scheduled or waits, mostly; now and then one that is marked
+/// already, is dormant, or is suspended.
+fn to_suspend(prng: &mut Prng, profile: &Profile, engine: &Engine) -> String {
+    let unmarked = |it: &Program| WAITING.contains(&it.state) && !it.suspend;
+    match prng.below(10) {
+        0..=2 => name(prng, profile, engine, &[SCHEDULED]),
+        3..=7 if engine.programs.values().any(unmarked) => any_of(prng, profile, engine, unmarked),
+        8 => marked_or(prng, profile, engine, &ANY),
+        _ => name(prng, profile, engine, &ANY),
+    }
+}
+
+/// Now and then one that waits and is marked, if there is one; else one in these states.
+fn marked_or(prng: &mut Prng, profile: &Profile, engine: &Engine, states: &[u8]) -> String {
+    let marked = engine.programs.values().any(|program| program.suspend);
+    if marked && prng.chance(1, 5) {
+        return any_of(prng, profile, engine, |program| program.suspend);
+    }
+    name(prng, profile, engine, states)
+}
+
 /// The name of a program in one of these states; now and then any name, used or not.
 fn name(prng: &mut Prng, profile: &Profile, engine: &Engine, states: &[u8]) -> String {
+    any_of(prng, profile, engine, |program| states.contains(&program.state))
+}
+
+/// The name of a program that is so; now and then any name, used or not.
+fn any_of(
+    prng: &mut Prng,
+    profile: &Profile,
+    engine: &Engine,
+    so: impl Fn(&Program) -> bool,
+) -> String {
     let fitting: Vec<String> = engine
         .programs
         .values()
-        .filter(|program| states.contains(&program.state))
+        .filter(|program| so(program))
         .map(|program| shown_name(program.name))
         .collect();
     if fitting.is_empty() || prng.chance(1, 16) {

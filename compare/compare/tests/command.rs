@@ -58,11 +58,8 @@ fn pages() {
     assert_eq!(output.status.code(), Some(0));
     let output = compare(&["pages", "--count", "500"], b"");
     assert_eq!(output.status.code(), Some(0));
-    assert!(String::from_utf8_lossy(&output.stdout)
-        .lines()
-        .last()
-        .unwrap_or("")
-        .starts_with("all "));
+    let text = String::from_utf8_lossy(&output.stdout).to_string();
+    assert!(text.contains("\nall ") && text.contains("\nwith suspend=1 "), "{}", text);
 }
 
 #[test]
@@ -89,7 +86,7 @@ fn texts() {
 fn desk() {
     let output = compare(&["desk", "--count", "30", "--", COMPARE, "look"], b"");
     assert_eq!(output.status.code(), Some(0));
-    assert_eq!(output.stdout, b"53 pairs, 212 runs: no difference\n");
+    assert_eq!(output.stdout, b"54 pairs, 216 runs: no difference\n");
     let output = compare(&["desk", "--count", "1", "--", "echo", "answer=0,value=0"], b"");
     assert_eq!(output.status.code(), Some(1));
     let text = String::from_utf8_lossy(&output.stdout).to_string();

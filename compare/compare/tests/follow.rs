@@ -19,14 +19,8 @@ use faults::{Fault, Follow, Shown, FAULTS, TOGETHER_FOLLOW};
 
 const SEED: u64 = 1;
 
-/// Where nothing is listed: no two pages are so, but texts are.
-const ON_TEXTS: [&str; 5] = [
-    "parting-not-shown",
-    "parting-from-0",
-    "parting-shows-all",
-    "parting-not-behind-the-sheet",
-    "parting-not-behind-the-written",
-];
+/// Where nothing is listed and one ends before the other: no two pages are so, but texts are.
+const ON_TEXTS: [&str; 2] = ["parting-not-behind-the-sheet", "parting-not-behind-the-written"];
 
 fn wrong() -> impl Iterator<Item = &'static Fault> {
     FAULTS.iter().filter(|fault| fault.shown == Shown::OnSheets)
@@ -232,7 +226,7 @@ fn each_wrong_one_is_found() {
     let is_found = |follow: Follow| all.iter().any(|(run, right)| tried(follow, run) != *right);
     // The right one passes through the same code.
     assert!(!is_found(TOGETHER_FOLLOW));
-    assert!(wrong().count() >= 121, "{}", wrong().count());
+    assert!(wrong().count() >= 122, "{}", wrong().count());
     for fault in wrong() {
         assert_eq!(is_found(fault.follow), !ON_TEXTS.contains(&fault.name), "{}", fault.name);
     }

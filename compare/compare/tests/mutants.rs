@@ -19,7 +19,7 @@ fn first_failure(other: &Other) -> Option<Failure> {
 
 #[test]
 fn each_mutant_is_found_and_its_script_shrinks() {
-    assert!(FAULTS.iter().filter(|fault| fault.shown == Shown::OnConsole).count() >= 82);
+    assert!(FAULTS.iter().filter(|fault| fault.shown == Shown::OnConsole).count() >= 122);
     for fault in FAULTS {
         if ON_TABLES.contains(&fault.name) || fault.shown != Shown::OnConsole {
             continue;

@@ -66,10 +66,11 @@ fn the_line_that_is_told() {
 fn every_answer_comes_up() {
     let mut count = Count::default();
     for (kind, page) in Pages::new(SEED).take(10_000) {
-        count.add(kind, read(&page).1);
+        count.add(kind, &page, read(&page).1);
     }
     assert!(count.sums().iter().all(|times| *times >= 1_500), "{}", count.print());
-    assert_eq!(count.print().lines().count(), 16, "{}", count.print());
+    assert!(count.marked().iter().all(|times| *times >= 500), "{}", count.print());
+    assert_eq!(count.print().lines().count(), 19, "{}", count.print());
     // The kinds that are to stay well formed mostly are, and two tables in one page are met.
     let mut pages = Pages::new(SEED);
     let mut twisted = [0; 3];
@@ -111,7 +112,7 @@ fn each_wrong_reader_is_found() {
     // What all wrong ones that are built together have in common is right.
     assert!(first_difference(together_reads, trials()).is_none());
     let wrong: Vec<_> = FAULTS.iter().filter(|fault| fault.shown == Shown::OnPages).collect();
-    assert!(wrong.len() >= 68, "{}", wrong.len());
+    assert!(wrong.len() >= 89, "{}", wrong.len());
     for fault in wrong {
         // By pages of the seed alone.
         let found = first_difference(fault.read, trials().take(CI_PAGES));

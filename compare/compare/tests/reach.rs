@@ -1,5 +1,6 @@
 //! How deep the generated scripts go: the awkward states that a tester would have to build by hand.
 
+use comparer::marks::{Count, Woken, CAUSES, ROWS};
 use comparer::script::generate;
 use comparer::{CI_LINES, CI_SEEDS};
 use engine::raw::{Raw, RawWhy};
@@ -16,10 +17,12 @@ impl Reached {
     }
 }
 
-/// The programs that went from this state to scheduled, by the kind of their why.
+/// The programs that woke from this state, by the kind of their why.
 fn woken(before: &Raw, after: &Raw, state: u64) -> Vec<u8> {
     let pairs = before.records.iter().zip(&after.records);
-    let woken = pairs.filter(|(old, new)| old.used && old.state == state && new.state == 1);
+    let woken = pairs.filter(|(old, new)| {
+        old.used && old.state == state && new.state == if old.suspend { 6 } else { 1 }
+    });
     woken
         .map(|(old, _)| match old.why {
             RawWhy::Son(_) => 1,
@@ -89,4 +92,23 @@ fn awkward_states_are_reached() {
     println!("{:#?}", reached.0);
     let rare: Vec<_> = reached.0.iter().filter(|(_, count)| **count < 5).collect();
     assert!(rare.is_empty(), "{:?}", rare);
+}
+
+/// Each way to wake, with the mark and without it, alone and among those of the other kind; each
+/// request on those who are marked; and somebody is marked in a tenth of the scripts at least.
+#[test]
+fn marks_come_up() {
+    let count = Count::of_scripts(CI_SEEDS, CI_LINES);
+    println!("{}", count.print());
+    for cause in CAUSES {
+        let Woken { without, with, without_among, with_among } = count.woken(cause);
+        let often = without >= 20 && with >= 20 && without_among >= 3 && with_among >= 3;
+        assert!(often, "{}: {}", cause, count.print());
+    }
+    for row in ROWS {
+        assert!(count.of(row) >= 5, "{}: {}", row, count.print());
+    }
+    assert_eq!(count.scripts, CI_SEEDS.end - CI_SEEDS.start);
+    assert!(10 * count.marked >= count.scripts, "{}", count.print());
+    assert_eq!(count.print().lines().count(), CAUSES.len() + ROWS.len() + 4);
 }

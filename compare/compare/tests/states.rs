@@ -2,12 +2,14 @@
 //! the raw form goes on as the engine does, and no record changed that the line does not concern.
 
 use comparer::damage::damage;
+use comparer::make;
 use comparer::prng::Prng;
 use comparer::script::generate;
 use comparer::CI_LINES;
 use engine::raw::{Raw, RawRecord, RawWhy};
 use engine::sheet::lines;
 use engine::{parse, Engine, Request};
+use faults::{together, Fault};
 
 /// A part of the seeds: every line here costs several turns through the raw form.
 const SEEDS: std::ops::Range<u64> = 1..101;
@@ -51,7 +53,7 @@ fn frame(before: &Raw, line: &[u8], after: &Raw, answer: u64) {
         let caller = usize::from(before.links[1]) == place + 1 && running(request);
         let named = name_of(request).map_or(false, |name| old.name == name || new.name == name);
         let due = request == Request::Tick && old.due == after.clock;
-        let woken = (old.state == 3 || old.state == 5) && *new == scheduled(old);
+        let woken = (old.state == 3 || old.state == 5) && *new == as_woken(old);
         assert!(
             old == new || caller || named || due || woken,
             "{:?}: program {}",
@@ -61,9 +63,10 @@ fn frame(before: &Raw, line: &[u8], after: &Raw, answer: u64) {
     }
 }
 
-/// The record as waking leaves it.
-fn scheduled(old: &RawRecord) -> RawRecord {
-    RawRecord { state: 1, why: RawWhy::Nothing, ..*old }
+/// The record as waking leaves it: scheduled, or suspended where the mark stood, which is gone.
+fn as_woken(old: &RawRecord) -> RawRecord {
+    let state = if old.suspend { 6 } else { 1 };
+    RawRecord { state, why: RawWhy::Nothing, suspend: false, ..*old }
 }
 
 /// Whether it is a call of the running program.
@@ -104,4 +107,83 @@ fn damaged_tables() {
         }
     }
     assert!(still_sound > 100);
+}
+
+/// Sound tables of every kind with a field or two changed, many of them with marks.
+fn damaged(count: usize) -> Vec<Raw> {
+    let mut prng = Prng::new(11);
+    let mut all = Vec::new();
+    while all.len() < count {
+        let reached = make::reached(&mut prng, 4);
+        for mut raw in reached.into_iter().chain([make::unreached(&mut prng)]) {
+            for _ in 0..prng.between(1, 2) {
+                damage(&mut prng, &mut raw);
+            }
+            all.push(raw);
+        }
+    }
+    all
+}
+
+/// The same tables as those of the engines that are built together.
+fn carried(raw: &Raw) -> together::Raw {
+    use together::raw::{RawNumber, RawRecord, RawWhy};
+    let record = |old: engine::raw::RawRecord| RawRecord {
+        used: old.used,
+        name: old.name,
+        priority: old.priority,
+        state: old.state,
+        why: match old.why {
+            engine::raw::RawWhy::Nothing => RawWhy::Nothing,
+            engine::raw::RawWhy::Tracks(n) => RawWhy::Tracks(n),
+            engine::raw::RawWhy::Son(k) => RawWhy::Son(k),
+            engine::raw::RawWhy::Lock(r) => RawWhy::Lock(r),
+            engine::raw::RawWhy::Number => RawWhy::Number,
+        },
+        due: old.due,
+        interval: old.interval,
+        suspend: old.suspend,
+    };
+    together::Raw {
+        records: raw.records.map(record),
+        clock: raw.clock,
+        t: raw.t,
+        s: raw.s,
+        r: raw.r,
+        tracks: raw.tracks,
+        numbers: raw.numbers.map(|old| RawNumber { owner: old.owner, lock: old.lock }),
+        links: raw.links,
+    }
+}
+
+/// Wrong tests of soundness show on damaged tables. Among these is the mark in each state, and in
+/// records that are not used.
+#[test]
+fn wrong_soundness_is_found() {
+    let all = damaged(4_000);
+    for state in [0, 1, 3, 5, 6] {
+        let marked = |raw: &&Raw| {
+            raw.records.iter().any(|record| record.used && record.suspend && record.state == state)
+        };
+        assert!(all.iter().filter(marked).count() >= 20, "marks in state {}", state);
+    }
+    let unused = |raw: &&Raw| raw.records.iter().any(|record| !record.used && record.suspend);
+    assert!(all.iter().filter(unused).count() >= 20, "marks in records that are not used");
+    let right: Vec<bool> = all.iter().map(Raw::sound).collect();
+    let sounds = || all.iter().map(|raw| carried(raw).sound());
+    assert!(sounds().eq(right.iter().copied()), "what all of them have in common is right");
+    for name in [
+        "cycle-sound",
+        "crossed-sound",
+        "chain-any-priority",
+        "mark-sound-unused",
+        "mark-sound-in-state-0",
+        "mark-sound-in-state-1",
+        "mark-sound-in-state-6",
+        "mark-unsound-in-state-3",
+        "mark-unsound-in-state-5",
+    ] {
+        let fault = Fault::by_name(name).expect("a fault");
+        assert!(!fault.run(|| sounds().eq(right.iter().copied())), "missed: {}", name);
+    }
 }

@@ -17,8 +17,15 @@ impl Engine {
             Some(p) => p,
             None => return refused(answer::ALL_USED),
         };
-        let program =
-            Program { name, priority, state: DORMANT, why: Why::Nothing, timer: None, entry: 0 };
+        let program = Program {
+            name,
+            priority,
+            state: DORMANT,
+            why: Why::Nothing,
+            timer: None,
+            suspend: false,
+            entry: 0,
+        };
         self.programs.insert(p, program);
         done(p as u64)
     }
@@ -28,8 +35,15 @@ impl Engine {
         self.move_named(name, DORMANT, SCHEDULED)
     }
 
-    /// SS: scheduled becomes operator suspended, else 5.
+    /// SS: scheduled becomes operator suspended. A program that waits is marked and waits on, which
+    /// changes nothing if the mark stands already: request (ii). Else 5.
     pub fn ss(&mut self, name: Name) -> Outcome {
+        allow(legal_name(name))?;
+        let p = self.find(name)?;
+        if self.waits(p) {
+            self.program(p).suspend = true;
+            return done(0);
+        }
         self.move_named(name, SCHEDULED, SUSPENDED)
     }
 

@@ -79,6 +79,9 @@ fn record(page: &mut String, p: usize, program: &Program) {
     };
     line(page, "due", or_dash(|timer| timer.due));
     line(page, "interval", or_dash(|timer| timer.interval));
+    if program.suspend {
+        line(page, "suspend", 1);
+    }
 }
 
 fn why_text(why: Why) -> String {

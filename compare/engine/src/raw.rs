@@ -24,6 +24,7 @@ pub struct RawRecord {
     /// 0 without a timer: a due is above the clock, so it is never 0.
     pub due: u64,
     pub interval: u64,
+    pub suspend: bool,
 }
 
 /// An unused record holds zeros.
@@ -35,6 +36,7 @@ pub const UNUSED: RawRecord = RawRecord {
     why: RawWhy::Nothing,
     due: 0,
     interval: 0,
+    suspend: false,
 };
 
 /// 0 is free, 1 to 32 a program.
@@ -180,6 +182,7 @@ fn raw_record(program: &Program) -> RawRecord {
         why,
         due: program.timer.map_or(0, |timer| timer.due),
         interval: program.timer.map_or(0, |timer| timer.interval),
+        suspend: program.suspend,
     }
 }
 
@@ -199,6 +202,7 @@ fn program(record: &RawRecord) -> Program {
         state: record.state as u8,
         why,
         timer: if record.due == 0 { None } else { Some(timer) },
+        suspend: record.suspend,
         entry: 0,
     }
 }

@@ -80,7 +80,10 @@ impl<'a> Reader<'a> {
         let why = self.line(b"why", why)?;
         let due = self.line(b"due", number_or_dash)?;
         let interval = self.line(b"interval", number_or_dash)?;
-        let record = RawRecord { used: true, name, priority, state, why, due: 0, interval: 0 };
+        // Request (ii): the line is there where the mark stands, otherwise no line.
+        let suspend = self.line(b"suspend", |field| word(field, b"1")).is_some();
+        let record =
+            RawRecord { used: true, name, priority, state, why, due: 0, interval: 0, suspend };
         Some(Shown { id, record, due, interval })
     }
 

@@ -1,5 +1,6 @@
-//! The outline, "Tables are sound exactly when": one function for each part of that sentence. Every
-//! one of them ends and answers for any values whatever, in whichever order they are asked.
+//! The outline, "Tables are sound exactly when": one function for each part of that sentence, and one
+//! for what request (ii) adds to it. Every one of them ends and answers for any values whatever, in
+//! whichever order they are asked.
 
 use crate::raw::{Raw, RawNumber, RawRecord, RawWhy, BLANK_NUMBER, GLOBAL, LINKS, SYSTEM, UNUSED};
 use crate::tables::{
@@ -16,6 +17,7 @@ impl Raw {
             && self.timers_fit()
             && self.chains_hold_their_programs()
             && self.whys_fit()
+            && self.marks_fit()
             && self.no_son_awaited_twice()
             && self.tracks_fit()
             && self.numbers_fit()
@@ -124,6 +126,12 @@ impl Raw {
             RawWhy::Lock(r) => in_state(GENERAL_WAIT) && (1..=self.r).contains(&r),
             RawWhy::Number => in_state(GENERAL_WAIT),
         }
+    }
+
+    /// Request (ii): "the mark only in states 3 and 5".
+    fn marks_fit(&self) -> bool {
+        let waits = |state| state == u64::from(GENERAL_WAIT) || state == u64::from(DISC);
+        self.used().all(|record| !record.suspend || waits(record.state))
     }
 
     fn no_son_awaited_twice(&self) -> bool {

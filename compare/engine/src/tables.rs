@@ -47,6 +47,9 @@ pub struct Program {
     pub state: u8,
     pub why: Why,
     pub timer: Option<Timer>,
+    /// The mark of request (ii): SS was asked while the program waited, so it is suspended when it
+    /// wakes.
+    pub suspend: bool,
     /// Grows with every entry into a chain: the earlier of two equals has the lower one.
     pub entry: i64,
 }
@@ -158,6 +161,11 @@ impl Engine {
         } else {
             Err(Answer::new(answer::WRONG_STATE, u64::from(found)))
         }
+    }
+
+    /// Whether program p waits, in state 3 or in state 5. Only then may the mark stand.
+    pub(crate) fn waits(&self, p: usize) -> bool {
+        matches!(self.programs[&p].state, GENERAL_WAIT | DISC)
     }
 
     /// A used record. Every number that the engine keeps is that of a used record.

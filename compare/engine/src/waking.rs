@@ -1,6 +1,8 @@
 //! The outline, "Ending and waking".
 
-use crate::tables::{Engine, Holder, Why, DISC, DORMANT, FREE_NUMBER, GENERAL_WAIT, SCHEDULED};
+use crate::tables::{
+    Engine, Holder, Why, DISC, DORMANT, FREE_NUMBER, GENERAL_WAIT, SCHEDULED, SUSPENDED,
+};
 
 /// Which request ends the program.
 #[derive(Clone, Copy, Debug, PartialEq, Eq)]
@@ -24,8 +26,9 @@ pub struct Released {
 impl Engine {
     /// Ending p. How many tracks were freed, and how many programs woken.
     pub(crate) fn ending(&mut self, p: usize, how: Ending) -> (u64, u64) {
-        // It leaves its chain, becomes dormant, its why goes.
+        // It leaves its chain, becomes dormant, its why goes, and so does its mark.
         self.enter(p, DORMANT, Why::Nothing);
+        self.program(p).suspend = false;
         // For OF its timer goes and its tracks are freed; EXEC 6 keeps both.
         let mut released = Released { ended: Some(p), ..Released::default() };
         if how != Ending::Exec6 {
@@ -57,12 +60,12 @@ impl Engine {
     }
 
     /// All of chain 5 wakes if at least one track was freed; then chain 3 is walked once. How many
-    /// programs woke.
+    /// programs woke, those sent to chain 6 among them.
     pub(crate) fn wake(&mut self, released: &Released) -> u64 {
         let mut woken = 0;
         if released.tracks > 0 {
             for p in self.chain(DISC) {
-                self.schedule_woken(p);
+                self.move_woken(p);
                 woken += 1;
             }
         }
@@ -73,16 +76,22 @@ impl Engine {
         let mut woken = 0;
         for p in self.chain(GENERAL_WAIT) {
             if wakes(self.programs[&p].why, released) {
-                self.schedule_woken(p);
+                self.move_woken(p);
                 woken += 1;
             }
         }
         woken
     }
 
-    /// The woken enter the scheduled chain one by one. Waking grants nothing.
-    fn schedule_woken(&mut self, p: usize) {
-        self.enter(p, SCHEDULED, Why::Nothing);
+    /// The woken enter the scheduled chain one by one; one that is marked goes to chain 6 instead,
+    /// and loses the mark. Waking grants nothing.
+    fn move_woken(&mut self, p: usize) {
+        if self.programs[&p].suspend {
+            self.program(p).suspend = false;
+            self.enter(p, SUSPENDED, Why::Nothing);
+        } else {
+            self.enter(p, SCHEDULED, Why::Nothing);
+        }
     }
 }
 

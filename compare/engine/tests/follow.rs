@@ -389,7 +389,39 @@ fn lines_of_one_page_alone() {
     );
 }
 
-/// The pages of today never part so; texts do.
+/// The mark of one who waits is a line of its own, and all such lines are alike: where it stands at
+/// another program the desk lists nothing, and the first line at which the pages part is shown.
+#[test]
+fn marks() {
+    let waiting = "FRESH,1,1,0 LOAD,A,10 LOAD,B,10 RU,A RU,B EXEC,4,1,0 EXEC,4,1,0";
+    let [none, one, two] = ["", "SS,A", "SS,B"].map(|line| page(&format!("{} {}", waiting, line)));
+    let both = page(&format!("{} SS,A SS,B", waiting));
+    let said = |requests: &str, next: &str| {
+        let said = printed(&[file("a", &none), file("r", requests), file("b", next)]);
+        said.split_once("b: answer=0,value=0\n").expect("a page").1.to_string()
+    };
+    let differs = "b: does not follow\n".to_string();
+    assert_eq!(said("SS,A\nSS,A\n", &one), "b: follows\n");
+    assert_eq!(
+        said("SS,B", &one),
+        differs.clone() + "line 14: suspend=1 on the sheet, id=2 by the requests\n"
+    );
+    assert_eq!(
+        said("SS,A", &two),
+        differs.clone() + "line 14: id=2 on the sheet, suspend=1 by the requests\n"
+    );
+    assert_eq!(
+        said("SS,B", &none),
+        differs.clone() + "written line 21: no such line on the sheet, suspend=1 by the requests\n"
+    );
+    // It is the second one that the requests lack, though it is the first program's mark.
+    assert_eq!(
+        said("SS,B", &both),
+        differs + "line 22: suspend=1 on the sheet, no such line by the requests\n"
+    );
+}
+
+/// No two pages part behind the end of one of them; texts do.
 #[test]
 fn where_nothing_is_listed() {
     for (sheet, written, said) in [

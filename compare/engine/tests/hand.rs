@@ -17,6 +17,7 @@ fn the_right_answers() {
         "cycle-sound",
         "cycle-followed",
         "crossed-sound",
+        "mark-sound-unused",
     ] {
         let ((_, answer), number) = called(fault);
         assert_eq!(answer.number, number, "{}", fault);

@@ -31,6 +31,7 @@ state=3
 why=lock:2
 due=100
 interval=17
+suspend=1
 id=17
 name=D
 priority=0
@@ -38,6 +39,7 @@ state=5
 why=tracks:9
 due=-
 interval=-
+suspend=1
 id=32
 name=E
 priority=32767
@@ -345,8 +347,7 @@ fn close_calls() {
         ill_formed("end=page", &format!("end={}", word));
     }
     // Keys of later requests.
-    for line in ["year=1975", "suspend=1", "suspend=0", "chain4=", "class=1", "mail=1:0", "mail=1:"]
-    {
+    for line in ["year=1975", "chain4=", "class=1", "mail=1:0", "mail=1:"] {
         ill_formed("tracks=9", &format!("{}\ntracks=9", line));
         ill_formed("chain1=1", &format!("{}\nchain1=1", line));
         ill_formed("end=page", &format!("{}\nend=page", line));
@@ -482,6 +483,68 @@ fn fields_in_shape() {
     ill_formed("clock=7", "clocks=7");
 }
 
+/// The mark of request (ii): behind the interval of a record, and nowhere else.
+#[test]
+fn marks() {
+    let (raw, _) = read(PAGE.as_bytes());
+    let marked: Vec<usize> = (1..=32).filter(|p| raw.records[p - 1].suspend).collect();
+    assert_eq!(marked, [3, 17]);
+    // Of those who wait, any may have it.
+    let fewer = PAGE.replacen("suspend=1\n", "", 1);
+    assert_eq!(refusal(&fewer), None);
+    assert_ne!(read(fewer.as_bytes()).0, raw);
+    other("interval=0", "interval=0\nsuspend=1");
+    other("chain1=1", "suspend=1\nchain1=1");
+    // Well formed, but no sound tables write it: of one that is scheduled, suspended or dormant.
+    unsound("id=2", "suspend=1\nid=2");
+    let suspended = PAGE.replacen("state=1", "state=6", 1).replacen("chain1=1", "chain1=", 1);
+    let suspended = suspended.replacen("chain6=", "chain6=1", 1);
+    assert_eq!(refusal(&suspended), None);
+    assert_eq!(refusal(suspended.replacen("id=2", "suspend=1\nid=2", 1)), Some(0));
+    let dormant = SMALLEST.replacen("programs=0\n", &("programs=1\n".to_string() + &record(1)), 1);
+    assert_eq!(refusal(&dormant), None);
+    assert_eq!(refusal(dormant.replacen("chain1", "suspend=1\nchain1", 1)), Some(0));
+    // Another value.
+    for value in
+        ["0", "2", "3", "9", "11", "10", "01", "00", "-", "", "+1", "1 ", " 1", "1:1", "true"]
+    {
+        ill_formed("suspend=1", &format!("suspend={}", value));
+        ill_formed("chain1=1", &format!("suspend={}\nchain1=1", value));
+    }
+    for line in ["suspend", "suspend1", "suspend==1", "Suspend=1", " suspend=1", "suspends=1"] {
+        ill_formed("suspend=1", line);
+    }
+    // A second one, of one who waits or not: its own line is told.
+    let second = place("suspend=1") as u64 + 1;
+    for twice in ["suspend=1\nsuspend=1", "suspend=1\nsuspend=0", "suspend=1\nsuspend=1\nsuspend=1"]
+    {
+        assert_eq!(refusal(with("suspend=1", twice)), Some(second));
+    }
+    let unfit = place("id=2") as u64 + 1;
+    assert_eq!(refusal(with("id=2", "suspend=1\nsuspend=1\nid=2")), Some(unfit));
+    // At every other place: before each line but an id or chain1 behind a record without a mark.
+    let all = lines();
+    for at in 0..all.len() {
+        let mut more = all.clone();
+        more.insert(at, String::from("suspend=1"));
+        let value = match all[at].as_str() {
+            "id=2" => Some(0),
+            "id=3" | "chain1=1" => None,
+            // That behind it is the second one.
+            "suspend=1" => Some(at as u64 + 2),
+            _ => Some(at as u64 + 1),
+        };
+        assert_eq!(refusal(joined(&more)), value, "before line {}", at + 1);
+    }
+    let mut behind_all = all.clone();
+    behind_all.push(String::from("suspend=1"));
+    assert_eq!(refusal(joined(&behind_all)), Some(all.len() as u64 + 1));
+    // Before the first id, without any record, and in a record whose lines stop short.
+    assert_eq!(refusal(SMALLEST.replacen("chain1", "suspend=1\nchain1", 1)), Some(7));
+    ill_formed("interval=17", "suspend=1");
+    ill_formed("due=100", "suspend=1\ndue=100");
+}
+
 /// A key that may not come next: each line left out, doubled, exchanged with the next.
 #[test]
 fn the_order_of_lines() {
@@ -490,10 +553,11 @@ fn the_order_of_lines() {
         let mut fewer = all.clone();
         let out = fewer.remove(place);
         let key = out.split('=').next().expect("a key");
-        // A held or number line that is not there is a track or a number that is free.
+        // A held or number line that is not there is a track or a number that is free, and without
+        // a suspend line no mark stands.
         let free = key == "held" || key == "number";
         // Of the last line nothing is left: the line after the last.
-        let value = if free { None } else { Some(place as u64 + 1) };
+        let value = if free || key == "suspend" { None } else { Some(place as u64 + 1) };
         assert_eq!(refusal(joined(&fewer)), value, "{} left out", out);
         let mut more = all.clone();
         more.insert(place, out.clone());
@@ -507,6 +571,8 @@ fn the_order_of_lines() {
             let value = if same { 0 } else { place as u64 + 1 };
             let value = if key == "held" && !same { place as u64 + 2 } else { value };
             let value = if key == "number" && !same { place as u64 + 2 } else { value };
+            // A record may be without a mark, and then the next one comes.
+            let value = if key == "suspend" { place as u64 + 2 } else { value };
             assert_eq!(refusal(joined(&other)), Some(value), "{} and the next", out);
         }
     }

@@ -107,6 +107,7 @@ fn unused_records() {
     assert!(!after(|raw| raw.records[20].why = RawWhy::Number));
     assert!(!after(|raw| raw.records[20].due = 101));
     assert!(!after(|raw| raw.records[20].interval = 1));
+    assert!(!after(|raw| raw.records[20].suspend = true));
     assert!(!after(|raw| raw.links[LINKS + 21] = 1));
     // A used record that others name cannot simply go.
     assert!(!after(|raw| raw.records[8] = UNUSED));
@@ -208,6 +209,22 @@ fn whys() {
     }));
 }
 
+/// The mark stands in states 3 and 5 alone, whatever the why.
+#[test]
+fn marks() {
+    let marked = |place: usize| after(|raw| raw.records[place].suspend = true);
+    // A, F and G wait in chain 3, E in chain 5.
+    for place in [0, 4, 5, 6] {
+        assert!(marked(place));
+    }
+    // B, C and D are scheduled, H is suspended, ABCD9 is dormant, the others are not used.
+    for place in [1, 2, 3, 7, 8, 9, 20, 31] {
+        assert!(!marked(place));
+    }
+    assert!(after(|raw| [0, 4, 5, 6].iter().for_each(|p| raw.records[*p].suspend = true)));
+    assert!(!after(|raw| [0, 4, 5, 7].iter().for_each(|p| raw.records[*p].suspend = true)));
+}
+
 #[test]
 fn tracks() {
     assert!(!after(|raw| raw.tracks[0] = 0));
@@ -283,6 +300,13 @@ fn every_record() {
         let third = (p + 1) % 32 + 1;
         assert!(beside(p, 0, RawWhy::Nothing).sound());
         assert!(beside(p, 3, RawWhy::Son(other as u64)).sound());
+        for (state, why) in [(3, RawWhy::Number), (5, RawWhy::Tracks(1)), (0, RawWhy::Nothing)] {
+            let mut marked = beside(p, state, why);
+            marked.records[p - 1].suspend = true;
+            assert_eq!(marked.sound(), state != 0);
+            marked.records[other - 1].suspend = true;
+            assert!(!marked.sound());
+        }
         assert!(!beside(p, 0, RawWhy::Number).sound());
         let mut linked = beside(p, 0, RawWhy::Nothing);
         linked.links[LINKS + p] = other as u8;
@@ -334,6 +358,7 @@ fn the_raw_form() {
         why: RawWhy::Nothing,
         due: 0,
         interval: 0,
+        suspend: false,
     };
     assert_eq!(UNUSED, zeros);
     assert_eq!((GLOBAL, SYSTEM, LINKS, SLOTS), (33, 34, 7, 40));

@@ -230,9 +230,9 @@ fn no_caller_and_exec_7() {
 #[test]
 fn the_wrong_state_is_the_targets() {
     let start = "FRESH,1,1,0 LOAD,A,10 LOAD,B,10 LOAD,C,10 LOAD,D,20 RU,A RU,B RU,C RU,D \
-        RN,ALLOC,L,0 EXEC,4,1,0 EXEC,7 EXEC,9,A EXEC,10,B EXEC,9,C EXEC,9,D GO,A RU,D SS,B";
+        RN,ALLOC,L,0 EXEC,4,1,0 EXEC,7 EXEC,9,A EXEC,10,B EXEC,9,C EXEC,9,D GO,A RU,D SS,C";
     let printed = answers(start);
-    assert!(printed.ends_with("1,3 1,5 0,0 5,3 5,5 5,6 5,1 5,3 5,1 5,5"), "{}", printed);
+    assert!(printed.ends_with("1,3 1,5 0,0 5,3 5,5 5,6 5,1 5,3 5,1 5,6"), "{}", printed);
     assert_eq!(answers("LOAD,A,10 GO,A SS,A"), "0,1 5,0 5,0");
 }
 

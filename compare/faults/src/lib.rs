@@ -113,7 +113,7 @@ include!(concat!(env!("OUT_DIR"), "/engines.rs"));
 /// Told apart on tables put by hand alone, in `tests/hand.rs`. A day takes 8,640,000 TICK lines and
 /// the ceiling more; numbers of a line have ten digits; and tables that a run from FRESH left are
 /// sound, with nobody waiting for a number that is clear.
-pub const ON_TABLES: [&str; 9] = [
+pub const ON_TABLES: [&str; 10] = [
     "sum-in-64-bits",
     "hours-run-on",
     "days-run-on",
@@ -123,6 +123,7 @@ pub const ON_TABLES: [&str; 9] = [
     "cycle-sound",
     "cycle-followed",
     "crossed-sound",
+    "mark-sound-unused",
 ];
 
 /// What the engine of all that are built together reads, with nothing chosen.

@@ -46,6 +46,7 @@ fn case(fault: &str) -> (Raw, Call, u64) {
         "cycle-sound" => (changed(|raw| raw.links[LINKS + 3] = 2), |engine| engine.exec6(), 14),
         "cycle-followed" => (changed(|raw| raw.links[LINKS + 1] = 1), |engine| engine.tick(), 14),
         "crossed-sound" => (changed(|raw| raw.links[LINKS + 1] = 2), |engine| engine.exec7(), 14),
+        "mark-sound-unused" => (changed(|raw| raw.records[9].suspend = true), |engine| engine.tick(), 14),
         _ => panic!("no tables for {}", fault),
     }
 }
