@@ -10,7 +10,7 @@ use Rattle.records.specs.Names.{legal}
 use Rattle.records.specs.Records.{Known, find, inWait, withMark}
 use Rattle.rules.specs.Book.{at, stateOf}
 use Rattle.rules.specs.Requests.{SS, Request, FRESH, operator}
-use Rattle.rules.specs.Plans.{Plan, done, on, marked, releaseOf, woken, numberOf, valuesOf, eventsOf}
+use Rattle.rules.specs.Plans.{Plan, done, on, marked, releaseOf, woken, eventsOf}
 use Rattle.rules.specs.Rules.{plan, order}
 use Rattle.rules.specs.Keeper.{lists, State, amend, act, play, view, asks}
 use Rattle.rules.specs.Frame.{Party}

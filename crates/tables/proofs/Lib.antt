@@ -9,6 +9,7 @@ pub mod Demanded
 pub mod Removal
 pub mod Held
 pub mod TickRecords
+pub mod Outliving
 pub mod Turns
 pub mod Wakes
 pub mod Walking

@@ -6,7 +6,7 @@ use mathlib.Core.List.{List, [], _∷_}
 use Rattle.rules.specs.declared.Answer.the-variants.{NotSound}
 use Rattle.rules.specs.Requests.{Request}
 use Rattle.rules.specs.Plans.{Event}
-use Rattle.rules.specs.Keeper.{lists, State, asks, play}
+use Rattle.rules.specs.Keeper.{lists, asks, play}
 use Rattle.tables.specs.declared.Tables.{Tables}
 use Rattle.tables.specs.Tables.{plain, lay}
 use Rattle.tables.specs.Sound.{sound}

@@ -72,6 +72,12 @@ pub record Held (t : Tables) (nm : List ℕ) (p : ℕ) : Type 0 where
 abbrev pub Over : Tables → Request → ℕ → Type 0
 Over t q p = at (plain (asked t q .tables) .book) p ≡ waitOver (at (plain t .book) p)
 
+-- What becomes of a marked program's record r by a request that is no FRESH, and no OF of it: it waits on, for what it waited for, and its mark
+-- stands; or its wait is over, and it is suspended.
+pub data Fate (r s : Program) : Type 0 where
+  waits-on : s .state ≡ r .state → s .why ≡ r .why → s .suspend ≡ true → Fate r s
+  suspended : s ≡ inState limits.suspended Nothing r → Fate r s
+
 -- A tick at any clock, the last of a day among them, with timers due: what becomes of a record r where the clock is now `now`. A due timer
 -- moves on, or goes; a dormant program is scheduled.
 abbrev pub moved : Program → Program
