@@ -4,6 +4,7 @@
 use crate::blot::STRANGE;
 use crate::prng::Prng;
 use crate::twist::{bytes_of, having, lines_of, Lines};
+use engine::Engine;
 
 /// Well formed mostly, up to its last line.
 pub fn absurd(prng: &mut Prng, lines: &mut Lines) {
@@ -125,6 +126,13 @@ pub fn fixed() -> Vec<(&'static str, Vec<u8>)> {
             more.insert(place, line.to_string());
             pages.push(("a line that a page has not, or not there", bytes_of(&more)));
         }
+    }
+    // All of one holder, in two parts.
+    let whole = Engine::fresh(6, 0, 0).0.page_bytes();
+    let whole = String::from_utf8_lossy(&whole).to_string();
+    for first in 0..5 {
+        let held = format!("held=0-{}:global\nheld={}-5:global\nend=", first, first + 1);
+        pages.push(("a run in parts", whole.replace("end=", &held).into_bytes()));
     }
     let million = "1".repeat(1_000_000);
     let chain = "1,".repeat(500_000) + "1";

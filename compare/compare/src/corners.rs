@@ -1,7 +1,7 @@
 //! Fixed inputs, run after the scripts: how input can begin and end, every byte, every length, very
-//! long lines, bounds, and a long time.
+//! long lines, bounds, every way to wake, and a long time.
 
-use crate::forms;
+use crate::{forms, knots};
 
 /// Inputs by what they are about, the quick ones first. Each is run by itself, from the tables that
 /// `sheet` starts with.
@@ -11,6 +11,7 @@ pub fn named() -> Vec<(&'static str, Vec<u8>)> {
     inputs.push(("every byte as a line and in a name", every_byte()));
     inputs.push(("very long lines", long_lines()));
     inputs.push(("numbers at their bounds", forms::bounds()));
+    inputs.push(("every way to wake", knots::every_waking()));
     inputs.push((FIELDS, forms::every_field()));
     inputs.push(("lines of every length", forms::every_length()));
     inputs.push((REPLACED, forms::bytes_replaced()));

@@ -13,6 +13,7 @@
 //! | `marks` | who woke by what, marked or not, and how often |
 //! | `corners` | fixed inputs |
 //! | `forms` | fixed inputs made from the forms of a line |
+//! | `knots` | a fixed input with every way to wake, marked or not |
 //! | `damage` | tables that are not sound |
 //! | `make` | sound tables: some that a run reaches, some that none does |
 //! | `pages` | pages from a seed |
@@ -46,6 +47,7 @@ pub mod differ;
 pub mod filed;
 pub mod following;
 pub mod forms;
+pub mod knots;
 pub mod looking;
 pub mod make;
 pub mod marks;

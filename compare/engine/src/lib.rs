@@ -12,7 +12,7 @@
 //! | `exec`, `tracks`, `numbers` | Calls of the running program |
 //! | `waking` | Ending and waking |
 //! | `page`, `line`, `sheet` | The page and the console line |
-//! | `operator`, `waking` | SS of a program that waits: request (ii); its mark is in `tables`, `page`, `read`, `raw` and `sound` |
+//! | `operator`, `waking` | SS of a program that waits, and its waking: request (ii) |
 //! | `read` | a page read back: request (i) |
 //! | `desk` | a line found, and lines that differ, in two texts: request (xii) |
 //! | `follow` | whether the next sheet can follow: the program `follow` |

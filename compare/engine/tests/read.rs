@@ -279,6 +279,11 @@ fn held_runs() {
     unsound("held=1-3:17", "held=1-2:17\nheld=3-3:17");
     unsound("held=4-4:global", "held=4-4:global\nheld=5-5:global");
     other("held=1-3:17", "held=1-1:17\nheld=3-3:17");
+    let parts = SMALLEST.replace("tracks=1", "tracks=4");
+    for first in 0..3 {
+        let held = format!("held=0-{}:global\nheld={}-3:global\nend=page", first, first + 1);
+        assert_eq!(refusal(parts.replace("end=page", &held)), Some(0));
+    }
     // Downward, out of order, over each other.
     unsound("held=1-3:17", "held=3-1:17");
     unsound("held=4-4:global", "held=5-4:global");
