@@ -105,7 +105,7 @@ nameKey r = cond (r .used) (nameCode (r .name)) 0
 unfoldable pub sonKey : Program → ℕ
 sonKey r = sonOf (r .why)
 
--- the mark of a used record
+-- 1 for a used record
 unfoldable pub usedKey : Program → ℕ
 usedKey r = cond (r .used) 1 0
 

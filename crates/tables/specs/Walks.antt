@@ -38,17 +38,17 @@ pub record Ordered (st pr : ℕ → ℕ) (l : List ℕ) (s : ℕ) (c : List ℕ)
   pub once : (p : ℕ) → count p c ≤ 1
   pub rising : Ascending (λ p q. pr p ≤ pr q) c
 
--- a mark for each program; none of a list has one
+-- how often each program was met in the chains walked so far; none of a list was
 abbrev pub Unmet : List ℕ → List ℕ → Type 0
 Unmet met c = (p : ℕ) → 1 ≤ count p c → getD met (p - 1) 0 ≡ 0
 
--- what a walk along the chain of state s finds: whether it is in order and its programs were not met before; then they are marked
+-- what a walk along the chain of state s finds: whether it is in order and its programs were not met before; then they have been met
 pub record Walk (st pr : ℕ → ℕ) (l : List ℕ) (s : ℕ) (met : List ℕ) (ok : Bool) (marks : List ℕ) : Type 0 where
   pub ordered : ok ≡ true → Ordered st pr l s (walk l s mostPrograms)
   pub marked : ok ≡ true → (p : ℕ) → Known p → getD marks (p - 1) 0 ≡ getD met (p - 1) 0 + count p (walk l s mostPrograms)
   pub refused : ok ≡ false → Ordered st pr l s (walk l s mostPrograms) → Unmet met (walk l s mostPrograms) → ⊥
 
--- the chains of states 1 to n are in order; how often p stands in them; and that is its mark
+-- the chains of states 1 to n are in order; how often p stands in them; and so often it was met
 abbrev pub AllOrdered : (ℕ → ℕ) → (ℕ → ℕ) → List ℕ → ℕ → Type 0
 AllOrdered st pr l n = (s : ℕ) → 1 ≤ s → s ≤ n → Ordered st pr l s (walk l s mostPrograms)
 
@@ -64,7 +64,7 @@ pub record Walks (st pr : ℕ → ℕ) (l : List ℕ) (ok : Bool) (marks : List 
   pub marked : ok ≡ true → Marked l suspended marks
   pub refused : ok ≡ false → AllOrdered st pr l suspended → ⊥
 
--- who has no mark has link 0, and is in none of the states 1 to 6
+-- who was met in no chain has link 0, and is in none of the states 1 to 6
 unfoldable pub settled : ℕ → ℕ → ℕ → Bool
 settled mark link state = not (eqb mark 0) || (eqb link 0 && (eqb state dormant || ltb suspended state))
 
