@@ -84,11 +84,11 @@ withMark r = record {
   suspend = true;
 }
 
--- the states in which a program waits, and in which its mark may stand (OUTLINE, "The tables")
+-- the states in which a program waits, and in which its mark may stand (OUTLINE, "SS of a program that waits")
 abbrev pub inWait : ℕ → Bool
 inWait s = eqb s general || eqb s disc
 
--- its wait is over (OUTLINE, "Ending and waking"): it is scheduled, or suspended where its mark stood
+-- its wait is over (OUTLINE, "SS of a program that waits"): it is scheduled, or suspended where its mark stood
 abbrev pub waitOver : Program → Program
 waitOver r = inState (cond (r .suspend) suspended scheduled) Nothing r
 
