@@ -18,6 +18,7 @@ use Rattle.rules.specs.Requests.{EXEC12, ALLOC, LOCK, CLEAR, FREE, Request, FRE
 pub data Line : Type 0 where
   bad PAGE : Line
   asks : Request → Line
+  ticks : ℕ → Line  -- TICK,n
 
 -- what the fields from here on say
 abbrev pub Form : Type 0
@@ -27,6 +28,11 @@ Form = List (List ℕ) → Line
 abbrev pub over : Line → Form
 over x [] = x
 over x (f ∷ fs) = bad
+
+-- no field is left; or else what the fields say
+abbrev pub bareOr : Line → Form → Form
+bareOr x k [] = x
+bareOr x k (f ∷ fs) = k (f ∷ fs)
 
 -- the next field is a number of 1 to 10 digits; or a name
 abbrev pub number : (ℕ → Form) → Form
@@ -95,7 +101,7 @@ forms =
     ∷ "GO" ↝ (name λ nm. over (asks (operator GO nm)))
     ∷ "PR" ↝ (name λ nm. number λ n. over (asks (operator (PR n) nm)))
     ∷ "OF" ↝ (name λ nm. number λ k. over (asks (operator (OF k) nm)))
-    ∷ "TICK" ↝ over (asks TICK)
+    ∷ "TICK" ↝ bareOr (asks TICK) (number λ n. over (ticks n))
     ∷ "EXEC" ↝ word execs unknown
     ∷ "RN" ↝ word numbers unknown
     ∷ "PAGE" ↝ over PAGE

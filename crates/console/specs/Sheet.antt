@@ -13,7 +13,7 @@ use Rattle.tables.specs.Tables.{plain, smallest}
 use Rattle.page.specs.Page.{page}
 use Rattle.rules.specs.Engine.{front}
 use Rattle.page.specs.Paging.{Written}
-use Rattle.console.specs.Line.{Line, bad, PAGE, asks, lineOf}
+use Rattle.console.specs.Line.{Line, bad, PAGE, asks, ticks, lineOf}
 use Rattle.console.specs.Console.{keyed}
 
 -- a buffer that no page is longer than
@@ -45,6 +45,7 @@ abbrev pub shown : Line → Tables → Written → List ℕ
 shown bad t r = answerLine r
 shown PAGE t r = cond (eqb (r .number) 0) (page (plain t)) (answerLine r)
 shown (asks q) t r = answerLine r
+shown (ticks n) t r = answerLine r
 
 -- what a line prints
 abbrev pub bytesFor : Tables → List ℕ → List ℕ

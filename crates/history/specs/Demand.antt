@@ -4,25 +4,25 @@ use Prim.Native.Nat.{ℕ, _≤_, _<_}
 use mathlib.Core.Path.{_≡_}
 use mathlib.Core.Logic.{_≢_}
 use mathlib.Core.Bool.{true, not}
-use mathlib.Core.List.{List, [], _∷_, map}
-use lib.ListN.{getD}
+use mathlib.Core.List.{List, [], _∷_, _++_, map}
+use lib.ListN.{getD, replicate}
 use lib.Dec.{eqb}
 use Rattle.limits.specs.Limits.{scheduled, states}
-use Rattle.lists.specs.Lists.{from, every, join}
+use Rattle.lists.specs.Lists.{sum, from, every, join}
 use Rattle.records.specs.declared.Program.{Program}
 use Rattle.records.specs.Records.{Known}
 use Rattle.rules.specs.Book.{Book, at, stateOf}
-use Rattle.rules.specs.Requests.{Call, Request, FRESH, running}
+use Rattle.rules.specs.Requests.{Call, Request, FRESH, TICK, running}
 use Rattle.rules.specs.Plans.{numberOf, valuesOf}
-use Rattle.rules.specs.Rules.{sizes, call}
+use Rattle.rules.specs.Rules.{sizes, dueAt, call}
 use Rattle.rules.specs.Keeper.{lists, Entries, entries, sorted, State, view, asks, after, fresh}
-use Rattle.rules.specs.Engine.{Handed, Engine, madeBy}
+use Rattle.rules.specs.Engine.{Handed, Engine, afterTicks, madeBy}
 use Rattle.rules.specs.Replay.{Fits, First}
 use Rattle.rules.specs.Frame.{Party, Concerned}
 use Rattle.tables.specs.declared.Tables.{Tables}
 use Rattle.tables.specs.Tables.{plain}
 use Rattle.tables.specs.Sound.{sound}
-use Rattle.tables.specs.Calls.{planned, asked}
+use Rattle.tables.specs.Calls.{planned, asked, manyTicks}
 use Rattle.page.specs.Page.{page}
 use Rattle.page.specs.Paging.{linked}
 use Rattle.console.specs.Line.{lineOf}
@@ -47,6 +47,7 @@ abbrev pub replaying : Engine
 replaying = record {
   Form = State entries;
   sound = λ n. true;
+  clock = λ n. n .book .clock;
   asked = λ n q. record { number = numberOf (asks entries n q); values = valuesOf (asks entries n q); tables = after entries n q };
   fresh = fresh entries;
   page = λ n. page (sortedOut n);
@@ -92,16 +93,35 @@ pub record Demanded (t : Tables) (n : State entries) (cs : List Made) : Type 0 w
   pub told : map toldOf (outcomes linked t cs) ≡ map toldOf (outcomes replaying n cs)
   pub sound : every (λ a. not (eqb a 14)) (map (λ (w : Handed Tables). w .number) (outcomes linked t cs)) ≡ true  -- none answers 14
 
+-- TICK,n READ AS n CALLS. A call asks for n ticks at once
+pub data AsksTicks (n : ℕ) : Made → Type 0 where
+  ticks-call : AsksTicks n (calls.ticks n)
+  ticks-line : (bytes buf : List ℕ) → lineOf bytes ≡ line.ticks n → AsksTicks n (calls.line bytes buf)
+
+-- n single ticks
+abbrev pub singly : ℕ → List Made
+singly n = replicate n (calls.request TICK)
+
+-- Where a call c behind the calls cs of a run is an accepted TICK,n, n TICKs may stand in its place: each is accepted, their values add up to
+-- its value, and the calls ds behind it find the same tables.
+pub record ReadSingly (E : Engine) (t : E .Form) (cs : List Made) (c : Made) (n : ℕ) (ds : List Made) : Type 0 where
+  pub each : map (λ (w : Handed (E .Form)). w .number) (outcomes E (run E t cs) (singly n)) ≡ replicate n 0
+  pub value : step E (run E t cs) c .values
+      ≡ sum (join (map (λ (w : Handed (E .Form)). w .values) (outcomes E (run E t cs) (singly n)))) ∷ []
+  pub goes-on : run E t (cs ++ c ∷ ds) ≡ run E t (cs ++ singly n ++ ds)
+
 -- The frame, of any tables. The request that a call makes, if it makes one
 pub data Asks (q : Request) : Made → Type 0 where
   by-call : Asks q (calls.request q)
   by-line : (bytes buf : List ℕ) → lineOf bytes ≡ line.asks q → Asks q (calls.line bytes buf)
 
 -- the call is an accepted FRESH, which takes no tables; or the tables are sound and it concerns program p: its caller, named
--- in it, due at that tick, or woken by it
+-- in it, due at that tick, or woken by it; or it is an accepted TICK,n, and p is due at one of its ticks
 pub data Touches (t : Tables) (c : Made) (p : ℕ) : Type 0 where
   anew : (T S R : ℕ) → c ≡ calls.request (FRESH T S R) → sizes T S R ≡ true → Touches t c p
   concerns : (q : Request) → Asks q c → sound t ≡ true → Concerned (view lists (plain t)) q p → Touches t c p
+  ticking : (n k : ℕ) → AsksTicks n c → manyTicks t n .number ≡ 0 → k < n → dueAt (plain (afterTicks asked k t) .book) p ≡ true
+      → Touches t c p
 
 -- p's record before and after
 abbrev pub before : Tables → ℕ → Program
@@ -111,7 +131,8 @@ abbrev pub afterwards : Tables → Made → ℕ → Program
 afterwards t c p = at (plain (step linked t c .tables) .book) p
 
 -- p has nothing to do with the call but that it may be woken by it: the call is no FRESH, and neither is p its caller,
--- nor named in it, nor due at that tick
+-- nor named in it, nor due at that tick, or at one of its ticks
 pub record Bystander (t : Tables) (c : Made) (p : ℕ) : Type 0 where
   pub old : (T S R : ℕ) → Asks (FRESH T S R) c → ⊥
   pub apart : (q : Request) → Asks q c → Party (view lists (plain t)) p q → ⊥
+  pub undue : (n k : ℕ) → AsksTicks n c → k < n → dueAt (plain (afterTicks asked k t) .book) p ≡ true → ⊥

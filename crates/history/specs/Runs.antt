@@ -1,4 +1,4 @@
--- Runs of calls on an engine: requests, PAGE with any buffer, console lines of any bytes (demand 3). Each step is the definition that the
+-- Runs of calls on an engine: requests, TICK,n, PAGE with any buffer, console lines of any bytes (demand 3). Each step is the definition that the
 -- call's contract cites; FRESH, which takes no tables, lets the run go on with those it had where it is refused. A run begins with FRESH or
 -- with the reading of a page.
 -- Assumes nothing.
@@ -7,7 +7,7 @@ use mathlib.Core.Bool.{cond}
 use mathlib.Core.List.{List, [], _∷_}
 use lib.Dec.{eqb}
 use Rattle.rules.specs.Requests.{Request, FRESH, LOAD, operator, TICK, running}
-use Rattle.rules.specs.Engine.{Reply, Handed, beside, madeBy, Engine, pagedIn}
+use Rattle.rules.specs.Engine.{Reply, Handed, beside, madeBy, Engine, tickedIn, pagedIn}
 use Rattle.tables.specs.declared.Tables.{Tables}
 use Rattle.tables.specs.Calls.{made}
 use Rattle.reader.specs.Reading.{reading}
@@ -26,11 +26,13 @@ begins (read s) = reading s .tables
 -- a call of a run, with the buffer that is lent to it
 pub data Made : Type 0 where
   request : Request → Made
+  ticks : ℕ → Made  -- TICK,n
   page : List ℕ → Made  -- the buffer
   line : List ℕ → List ℕ → Made  -- the line's bytes, the buffer
 
 abbrev pub lentTo : Made → List ℕ
 lentTo (request q) = []
+lentTo (ticks n) = []
 lentTo (page buf) = buf
 lentTo (line bytes buf) = buf
 
@@ -48,6 +50,7 @@ module _ (E : Engine) where
 
   unfoldable pub step : E .Form → Made → Handed (E .Form)
   step t (request q) = beside [] (requested t q)
+  step t (ticks n) = beside [] (tickedIn E t n)
   step t (page buf) = pagedIn E t buf
   step t (line bytes buf) = keyedIn E t bytes buf
 

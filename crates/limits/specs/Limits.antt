@@ -40,6 +40,10 @@ lastPriority = 32767
 abbrev pub mostUnits : ℕ
 mostUnits = 4095
 
+-- the ticks of one TICK,n, at most
+abbrev pub mostTicks : ℕ
+mostTicks = 100_000_000
+
 -- the bytes of a line, at most; and the bytes that no page passes
 abbrev pub longestLine : ℕ
 longestLine = 72

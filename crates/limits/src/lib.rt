@@ -28,6 +28,9 @@ pub const LAST_PRIORITY: u16 = 32767;
 // The units of a timer's multiple and of its offset, at most.
 pub const MOST_UNITS: u64 = 4095;
 
+// The ticks of one TICK,n, at most.
+pub const MOST_TICKS: u64 = 100000000;
+
 // The bytes of a line, at most; and the bytes that no page passes.
 pub const LONGEST_LINE: usize = 72;
 

@@ -19,6 +19,11 @@ abbrev pub count : ℕ → List ℕ → ℕ
 count p [] = 0
 count p (q ∷ qs) = same p q + count p qs
 
+-- numbers added up
+abbrev pub sum : List ℕ → ℕ
+sum [] = 0
+sum (n ∷ ns) = n + sum ns
+
 -- those that pass a test; the first of them, or 0
 abbrev pub keep : (ℕ → Bool) → List ℕ → List ℕ
 keep f [] = []

@@ -15,7 +15,14 @@ Written = Handed Tables
 
 -- the code's tables, which keep their chains as links
 abbrev pub linked : Engine
-linked = record { Form = Tables; sound = sound; asked = asked; fresh = freshly; page = λ t. page (plain t) }
+linked = record {
+  Form = Tables;
+  sound = sound;
+  clock = λ t. plain t .book .clock;
+  asked = asked;
+  fresh = freshly;
+  page = λ t. page (plain t);
+}
 
 abbrev pub written : Tables → List ℕ → Written
 written t buf = writtenIn linked t buf

@@ -8,7 +8,7 @@ use Rattle.rules.specs.Answers.{number, values}
 use Rattle.rules.specs.Requests.{Request}
 use Rattle.rules.specs.Plans.{Event, Plan, numberOf, valuesOf, eventsOf}
 use Rattle.rules.specs.Keeper.{lists, asks, play, view}
-use Rattle.rules.specs.Engine.{Reply, notSound, madeBy}
+use Rattle.rules.specs.Engine.{Reply, notSound, madeBy, tickedBy}
 use Rattle.tables.specs.declared.Tables.{Tables}
 use Rattle.tables.specs.declared.Outcome.{Outcome}
 use Rattle.tables.specs.Tables.{plain, lay, freshly}
@@ -36,6 +36,10 @@ served t q = planned t (asks lists (plain t) q)
 -- a request asked of any tables
 unfoldable pub asked : Tables → Request → Result
 asked t q = elim (sound t) [ true ↦ served t q | false ↦ notSound t ]
+
+-- TICK,n
+abbrev pub manyTicks : Tables → ℕ → Result
+manyTicks t n = tickedBy sound (λ x. plain x .book .clock) asked t n
 
 -- FRESH, which takes no tables
 abbrev pub made : ℕ → ℕ → ℕ → Result

@@ -17,7 +17,7 @@ use Rattle.rules.specs.Claims.{NoRun, Gained}
 use Rattle.rules.specs.Counts.{Freed, awoken, roused}
 use Rattle.tables.specs.declared.Tables.{Tables}
 use Rattle.tables.specs.Tables.{plain}
-use Rattle.tables.specs.Calls.{Result, asked}
+use Rattle.tables.specs.Calls.{Result, asked, manyTicks}
 
 -- what is handed back for a claim of n tracks for h: the lowest free run, or state 5, or 8 and the tables as they were; the
 -- latter two exactly where there is no run
@@ -49,6 +49,7 @@ pub record Counted (t : Tables) : Type 0 where
   pub clearing : (r : ℕ) → asked t (running (CLEAR r)) .number ≡ 0 → ValueAwoken t (asked t (running (CLEAR r)))
   pub freeing : (r : ℕ) → asked t (running (FREE r)) .number ≡ 0 → ValueAwoken t (asked t (running (FREE r)))
   pub tick : asked t TICK .number ≡ 0 → ValueRoused t (asked t TICK)
+  pub ticks : (n : ℕ) → manyTicks t n .number ≡ 0 → ValueRoused t (manyTicks t n)
 
 -- A program removed while another waits for it: the program of that name is removed by OF 8, and f waited for it as its son. f's wait is
 -- over, so that it is scheduled, or suspended where its mark stood; the name is free, and no why names the record.

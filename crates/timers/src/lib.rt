@@ -1,0 +1,93 @@
+// Timers: when they fall due, and how they move on, over one tick or over many.
+ghost use Prim.Native.Nat.{_+_, _≤_};
+ghost use mathlib.Core.Path.{_≡_};
+ghost use mathlib.Core.List.{map};
+ghost use Rattle.timers.specs.Inner.{fallsDue, dueBeyond, moved, starts, sooner, nextStart, CanMove, CanMoveAll};
+use limits::DORMANT;
+use limits::MOST_PROGRAMS;
+use records::Program;
+
+// Whether a record's timer falls due by the time the clock stands at `now`.
+fn falls_due(r: Program, now: u64) -> bool
+    ensures { λ b. ⌜ b ≡ fallsDue now r ⌝ }
+{
+    if r.due == 0 {
+        return false;
+    }
+    r.due <= now
+}
+
+// Whether its program starts with that.
+pub fn starts(r: Program, now: u64) -> bool
+    ensures { λ b. ⌜ b ≡ starts now r ⌝ }
+{
+    if falls_due(r, now) {
+        return r.state == DORMANT;
+    }
+    false
+}
+
+// The first due beyond `now` of a timer that fell due by then; none where it runs once.
+fn due_beyond(now: u64, due: u64, interval: u64) -> u64
+    requires { ⌜ due ≤ now ⌝ }
+    requires { ⌜ now + interval ≤ 18446744073709551615 ⌝ }
+    ensures { λ r. ⌜ r ≡ dueBeyond now due interval ⌝ }
+{
+    if interval == 0 {
+        return 0;
+    }
+    due + ((now - due) / interval + 1) * interval
+}
+
+// The record with its timer beyond `now`, where it fell due by then.
+fn moved(r: Program, now: u64) -> Program
+    requires { ⌜ CanMove now r ⌝ }
+    ensures { λ x. ⌜ x ≡ moved now r ⌝ }
+{
+    if falls_due(r, now) {
+        let due = due_beyond(now, r.due, r.interval);
+        return r.with_timer(due, r.interval);
+    }
+    r
+}
+
+// All records, each with its timer beyond `now`.
+pub fn move_all(programs: [Program; MOST_PROGRAMS], now: u64) -> [Program; MOST_PROGRAMS]
+    requires { ⌜ CanMoveAll now programs ⌝ }
+    ensures { λ r. ⌜ r ≡ map (moved now) programs ⌝ }
+{
+    let mut all = programs;
+    for i in 0..MOST_PROGRAMS {
+        let r = programs[i];
+        all[i] = moved(r, now);
+    }
+    all
+}
+
+// The sooner of `end` and the moment at which a dormant program falls due.
+fn sooner(r: Program, end: u64) -> u64
+    ensures { λ n. ⌜ n ≡ sooner r end ⌝ }
+{
+    if r.due == 0 {
+        return end;
+    }
+    if end <= r.due {
+        return end;
+    }
+    if r.state != DORMANT {
+        return end;
+    }
+    r.due
+}
+
+// The next moment at which a dormant program falls due, or `end` where none does before.
+pub fn next_start(programs: [Program; MOST_PROGRAMS], end: u64) -> u64
+    ensures { λ n. ⌜ n ≡ nextStart end programs ⌝ }
+{
+    let mut least = end;
+    for i in 0..MOST_PROGRAMS {
+        let r = programs[i];
+        least = sooner(r, least);
+    }
+    least
+}
