@@ -18,10 +18,15 @@ use Rattle.rules.proofs.counts.CountLaws.{counts}
 use Rattle.tables.specs.declared.Tables.{Tables}
 use Rattle.tables.specs.Tables.{plain, Arrays, callerOf}
 use Rattle.tables.specs.Sound.{sound}
-use Rattle.tables.specs.Calls.{Result, served, asked, planned}
+use Rattle.tables.specs.Calls.{Result, served, asked, planned, manyTicks}
 use Rattle.tables.specs.Demand.{Claim, ValueFreed, ValueAwoken, ValueRoused, Counted}
 use Rattle.tables.proofs.Agree.{sound-clauses}
-use Rattle.tables.proofs.Plain.{sound-plain, laid-is}
+use Rattle.tables.proofs.Plain.{plain-lay, sound-plain, laid-is}
+use Rattle.tables.proofs.Orderly.{sound-orderly}
+use Rattle.tables.proofs.ManyTicks.{many-accepted, many-done}
+use Rattle.timers.specs.Inner.{ticksOn}
+use Rattle.timers.proofs.Ticking.{sound-ticks}
+use Rattle.timers.proofs.Roused.{started-roused}
 use Rattle.tables.proofs.Serving.{asked-sound}
 use Rattle.rules.proofs.Statements.{Claimed, Done, TellsFreed, TellsAwoken, TellsRoused, Counts}
 
@@ -86,6 +91,16 @@ module _ (t : Tables) (A : Arrays t) (e : sound t ≡ true) where
   started q f z =
       values-is q ∙ f (sym (number-is q) ∙ z) ∙ ap (λ (a : State lists). roused (plain t .book) (a .book) ∷ []) (sym (after-is q))
 
+  -- so many ticks at once
+  many-roused : (n : ℕ) → manyTicks t n .number ≡ 0 → ValueRoused t (manyTicks t n)
+  many-roused n z =
+      let P = many-accepted t n z in
+      let d = many-done t (sound-orderly t A (sound-clauses t e)) e plainly n (P .least) (P .most) (P .below) in
+      ap (λ (r : Result). r .values) d
+      ∙ ap (λ (k : ℕ). k ∷ []) (started-roused n (plain t) plainly (P .below))
+      ∙ ap (λ (a : State lists). roused (plain t .book) (a .book) ∷ [])
+      (sym (ap (λ (r : Result). plain (r .tables)) d ∙ plain-lay (ticksOn n (plain t)) (sound-ticks n (plain t) plainly)))
+
   pub counted : Counted t
   counted =
       let C : Counts (plain t) = counts (plain t) plainly in
@@ -98,4 +113,5 @@ module _ (t : Tables) (A : Arrays t) (e : sound t ≡ true) where
         clearing = λ r. woken (running (CLEAR r)) (C .clearing r);
         freeing = λ r. woken (running (FREE r)) (C .freeing r);
         tick = started TICK (C .tick);
+        ticks = many-roused;
       }

@@ -20,4 +20,5 @@ pub mod Waiting
 pub mod Endings
 pub mod FreshTables
 pub mod Ticks
+pub mod ManyTicks
 pub mod Carrying

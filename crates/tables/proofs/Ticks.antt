@@ -1,55 +1,101 @@
--- TICK: the programs are passed in their order, and what is left to do is what those from p on have still to do.
+-- A move of the clock as the code makes it: all timers move on, which leaves tables in order; then the programs are passed in their order, and
+-- what is left to do is what those from p on have still to do.
 -- Assumes nothing.
 use Prim.Native.Nat.{ℕ, suc, _+_, _-_, _≤_, _<_}
 use native.Mathlib.Omega.{arith}
-use native.Mathlib.Decide.{ℕ-discrete}
+use native.Mathlib.Decide.{decLt}
 use native.Mathlib.Numerals.{add-one}
-use mathlib.Core.Path.{_≡_, refl, sym, ap, _∙_}
-use mathlib.Core.Logic.{_≢_}
-use mathlib.Core.Bool.{Bool, true, false, cond, _&&_}
+use mathlib.Core.Path.{_≡_, refl, sym, ap, _∙_, subst}
+use mathlib.Core.Bool.{Bool, true, false, cond}
 use mathlib.Core.List.{List, [], _∷_, map}
-use lib.ListN.{length}
-use lib.Dec.{eqb}
-use borrow.Author.Tests.{eq-eqb, ne-eqb}
-use Rattle.lists.specs.Lists.{hit, keep, from, join}
-use Rattle.lists.proofs.Tests.{and, not-both}
-use Rattle.clock.specs.Clock.{ceiling, farthest}
+use lib.ListN.{length, getD, length-map, List·getD-eq-default}
+use Rattle.lists.specs.Lists.{hit, same, keep, from, join, Ascending}
+use Rattle.clock.specs.declared.Clock.{Clock}
+use Rattle.clock.specs.Clock.{ceiling}
 use Rattle.records.specs.declared.Program.{Program}
 use Rattle.records.specs.declared.Why.the-variants.{Nothing}
-use Rattle.records.specs.Records.{Known, all, recordAt}
-use Rattle.rules.specs.Book.{at}
-use Rattle.rules.specs.Plans.{Event, on, becomes, timed, clocked}
-use Rattle.rules.specs.Rules.{dueAt, ticked}
-use Rattle.rules.specs.Keeper.{lists, State, play}
+use Rattle.records.specs.Records.{Known, all, missing, recordAt}
+use Rattle.records.specs.Numbers.{resources}
+use Rattle.tracks.specs.Tracks.{holders}
+use Rattle.rules.specs.Book.{Book, at, stateOf, prioOf}
+use Rattle.rules.specs.Plans.{Event, on, becomes}
+use Rattle.rules.specs.Keeper.{lists, Entries, State, play}
+use Rattle.rules.specs.Replay.{Before, Accounts}
+use Rattle.rules.specs.Sound.{Dues}
+use Rattle.rules.proofs.shared.Parts.{play-append}
+use Rattle.chains.specs.Links.{read}
+use Rattle.timers.specs.Inner.{moved, starts, starters, movedTo, passed, starting, CanMoveAll}
+use Rattle.timers.proofs.Starting.{moved-state, moved-priority, passed-at, started-moved}
+use Rattle.timers.proofs.Moves.{Timely, tick-played, tick-starters}
+use Rattle.decisions.specs.Inner.{tickEvents, startsNow}
 use Rattle.tables.specs.declared.Tables.{Tables}
 use Rattle.tables.specs.Tables.{plain}
-use Rattle.decisions.specs.Inner.{tickEvents, startsNow}
-use Rattle.tables.specs.Inner.{Orderly, Ready, Played, Counts}
+use Rattle.tables.specs.Inner.{Orderly, Says, Ready, Played, CanPass, Moves, Counts}
 use Rattle.tables.proofs.Agree.{sound-clauses}
-use Rattle.rules.proofs.shared.Parts.{play-append}
-use Rattle.tables.proofs.Endings.{played-as, played-on}
+use Rattle.tables.proofs.Turns.{says-as}
 
--- a program at its tick: not due; due, and not dormant; due, and dormant
-module _ (t : Tables) (p : ℕ) (r : Program) (now : ℕ) (O : Orderly t) where
-  pub not-due : r .due ≢ now → Played t (cond (eqb (r .due) now) (ticked p r) []) t
-  not-due n = rw (ne-eqb (r .due) now n) (record { orderly = O; state = refl })
+-- ALL TIMERS MOVE ON
+-- entries account for chains by the states and the priorities alone
+accounts-same : (b c : Book) (k : List (List ℕ)) (e : Entries) → stateOf b ≡ stateOf c → prioOf b ≡ prioOf c
+    → Accounts (record { book = b; kept = k }) e → Accounts (record { book = c; kept = k }) e
+accounts-same b c k e s p A = record {
+  early = A .early;
+  apart = λ y z Y Z h i. A .apart y z Y Z (λ w. h (sym (at-state y) ∙ w)) (λ w. i (sym (at-state z) ∙ w));
+  fits = λ n l h. let F = A .fits n l h in record {
+    member = λ z Z. F .member z Z ∙ ap (λ (x : ℕ). same x n) (at-state z);
+    within = F .within;
+    ascends = subst (λ (f : ℕ → ℕ). Ascending (Before f (e .entry)) (getD k n [])) p (F .ascends);
+  };
+}
+  where
+    at-state : (z : ℕ) → stateOf b z ≡ stateOf c z
+    at-state z = ap (λ (f : ℕ → ℕ). f z) s
 
-  module _ (d : ℕ) (D : d ≡ cond (eqb (r .interval) 0) 0 (r .due + r .interval)) (here : r .due ≡ now) (u : Tables)
-      (S : Played t (on p (timed d (r .interval)) ∷ []) u) where
-    moved : Played t (on p (timed (cond (eqb (r .interval) 0) 0 (r .due + r .interval)) (r .interval)) ∷ []) u
-    moved = played-as t u _ _ (ap (λ (x : ℕ). on p (timed x (r .interval)) ∷ []) D) S
+module _ (t : Tables) (O : Orderly t) (now : ℕ) where
+  abbrev with : List Program → Clock → Tables
+  with ps k = record { ledger = record { programs = ps; clock = k; tracks = t .ledger .tracks; numbers = t .ledger .numbers }; links = t .links }
 
-    pub due-only : r .state ≢ 0 → Played t (cond (eqb (r .due) now) (ticked p r) []) u
-    due-only n = rw (eq-eqb (r .due) now here, ne-eqb (r .state) 0 n) moved
+  same-states : stateOf (plain t .book) ≡ stateOf (passed now (plain t) .book)
+  same-states = λ i p.
+      sym (ap (λ (r : Program). r .state) (passed-at now (t .ledger .programs) (p - 1)) ∙ moved-state now (at (plain t .book) p)) i
 
-    pub due-starts : (w : Tables) → r .state ≡ 0 → Played u (on p (becomes 1 Nothing) ∷ []) w
-        → Played t (cond (eqb (r .due) now) (ticked p r) []) w
-    due-starts w e W =
-        rw (eq-eqb (r .due) now here, eq-eqb (r .state) 0 e)
-        (played-on t u w (on p (timed (cond (eqb (r .interval) 0) 0 (r .due + r .interval)) (r .interval)) ∷ [])
-        (on p (becomes 1 Nothing) ∷ []) moved W)
+  same-order : prioOf (plain t .book) ≡ prioOf (passed now (plain t) .book)
+  same-order = λ i p.
+      sym (ap (λ (r : Program). r .priority) (passed-at now (t .ledger .programs) (p - 1)) ∙ moved-priority now (at (plain t .book) p)) i
 
--- the programs from p on
+  passed-says : (k : Clock) → k .ticks ≡ now → Says (with (map (moved now) (t .ledger .programs)) k) (passed now (plain t))
+  passed-says k e = record {
+    orderly = record {
+      laid = O .laid;
+      dormant = O .dormant;
+      long = length-map (t .ledger .programs) (moved now) ∙ O .long;
+      states = λ z Z. subst (λ (x : ℕ). x < 7) (ap (λ (f : ℕ → ℕ). f z) same-states) (O .states z Z);
+      tracks = O .tracks;
+      numbers = O .numbers;
+      notes = O .notes;
+      accounts = accounts-same (plain t .book) (plain (with (map (moved now) (t .ledger .programs)) k) .book) (read (t .links)) (O .notes)
+          same-states same-order (O .accounts);
+    };
+    state = λ i. record {
+      book = record {
+        programs = map (moved now) (t .ledger .programs);
+        clock = e i;
+        tracks = t .ledger .tracks .count;
+        system = t .ledger .tracks .system;
+        numbers = t .ledger .numbers .count;
+        holders = holders (t .ledger .tracks);
+        resources = resources (t .ledger .numbers);
+      };
+      kept = read (t .links);
+    };
+  }
+
+  pub was-passed : (ps : List Program) (k : Clock) → ps ≡ map (moved now) (t .ledger .programs) → k .ticks ≡ now
+      → Says (with ps k) (passed now (plain t))
+  was-passed ps k P e = subst (λ (qs : List Program). Says (with qs k) (passed now (plain t))) (sym P) (passed-says k e)
+
+-- THE PROGRAMS, ONE AFTER ANOTHER
+-- those from p on
 from-step : (p : ℕ) → p ≤ 32 → from p (33 - p) ≡ p ∷ from (p + 1) (33 - (p + 1))
 from-step p h =
     let e : 33 - p ≡ suc (32 - p) = omega arith in
@@ -77,109 +123,97 @@ count-step : (c : Bool) (p : ℕ) (ks : List ℕ) → length (cond c (p ∷ ks) 
 count-step true p ks = omega arith
 count-step false p ks = omega arith
 
-hit-most : (c : Bool) → hit c ≤ 1
-hit-most true = omega arith
-hit-most false = omega arith
-
-starts-most : (c : Bool) (k : ℕ) → k ≡ hit c → k ≤ 1
-starts-most c k e = rw e (hit-most c)
-
--- whether a program starts
-pub starts-few : (r : Program) (now k : ℕ) → k ≡ hit (eqb (r .due) now && eqb (r .state) 0) → k ≤ 1
-starts-few r now k = starts-most (eqb (r .due) now && eqb (r .state) 0) k
-
-pub starts-later : (r : Program) (now : ℕ) → r .due ≢ now → 0 ≡ hit (eqb (r .due) now && eqb (r .state) 0)
-starts-later r now n = sym (ap (λ (c : Bool). hit (c && eqb (r .state) 0)) (ne-eqb (r .due) now n))
-
-pub starts-busy : (r : Program) (now : ℕ) → r .state ≢ 0 → 0 ≡ hit (eqb (r .due) now && eqb (r .state) 0)
-starts-busy r now n = sym (ap hit (not-both (eqb (r .due) now) (eqb (r .state) 0) (ne-eqb (r .state) 0 n)))
-
-pub starts-now : (r : Program) (now : ℕ) → r .due ≡ now → r .state ≡ 0 → 1 ≡ hit (eqb (r .due) now && eqb (r .state) 0)
-starts-now r now d e = sym (ap hit (and (eq-eqb (r .due) now d) (eq-eqb (r .state) 0 e)))
-
--- of records ps, at a tick that makes the clock `now`: who is due, who starts, and what a tick does to some programs, one after the other
-abbrev dueIn : List Program → ℕ → ℕ → Bool
-dueIn ps now p = eqb (recordAt ps p .due) now
-
+-- of records ps, whether a program starts when the clock goes on to `now`
 abbrev startsIn : List Program → ℕ → ℕ → Bool
-startsIn ps now p = dueIn ps now p && eqb (recordAt ps p .state) 0
+startsIn ps now p = starts now (recordAt ps p)
 
-abbrev tickedAll : List Program → List ℕ → List Event
-tickedAll ps c = join (map (λ k. ticked k (recordAt ps k)) c)
-
--- how far a tick has come from tables s: the programs below p are done
-pub record Ticking (ps : List Program) (now : ℕ) (s t : Tables) (n p : ℕ) : Type 0 where
+-- how far the starting has come from tables s: the programs below p are done
+pub record Starts (ps : List Program) (now : ℕ) (s t : Tables) (n p : ℕ) : Type 0 where
   pub low : 1 ≤ p
   pub high : p ≤ 33
   pub few : n < p
   pub orderly : Orderly t
-  pub left : play lists (tickedAll ps (keep (dueIn ps now) (from p (33 - p)))) (plain t)
-      ≡ play lists (tickedAll ps (keep (dueIn ps now) all)) (plain s)
+  pub left : play lists (starting (keep (startsIn ps now) (from p (33 - p)))) (plain t)
+      ≡ play lists (starting (keep (startsIn ps now) all)) (plain s)
   pub number : n + length (keep (startsIn ps now) (from p (33 - p))) ≡ length (keep (startsIn ps now) all)
 
 module _ (ps : List Program) (now : ℕ) (s : Tables) where
-  pub ticking-start : Orderly s → Ticking ps now s s 0 1
-  ticking-start O = record {
+  pub starts-first : Orderly s → Starts ps now s s 0 1
+  starts-first O = record {
     low = omega arith;
     high = omega arith;
     few = omega arith;
     orderly = O;
-    left = ap (λ (xs : List ℕ). play lists (tickedAll ps (keep (dueIn ps now) xs)) (plain s)) from-first;
+    left = ap (λ (xs : List ℕ). play lists (starting (keep (startsIn ps now) xs)) (plain s)) from-first;
     number = zero-plus _ ∙ ap (λ (xs : List ℕ). length (keep (startsIn ps now) xs)) from-first;
   }
 
-  pub ticking-step : (n p : ℕ) (t : Tables) (r : Program) → r ≡ recordAt ps p → Ticking ps now s t n p → p ≤ 32 → (k : ℕ) (u : Tables)
-      → k ≡ hit (eqb (r .due) now && eqb (r .state) 0) → Played t (cond (eqb (r .due) now) (ticked p r) []) u
-      → Ticking ps now s u (n + k) (p + 1)
-  ticking-step n p t r X T h k u K S =
-      let q = dueIn ps now p in
-      let ks = keep (dueIn ps now) (from (p + 1) (33 - (p + 1))) in
-      let ns = keep (startsIn ps now) (from (p + 1) (33 - (p + 1))) in
-      let k′ : k ≡ hit (startsIn ps now p) = K ∙ ap (λ (x : Program). hit (eqb (x .due) now && eqb (x .state) 0)) X in
-      let S′ : plain u ≡ play lists (cond q (ticked p (recordAt ps p)) []) (plain t) =
-      S .state ∙ ap (λ (x : Program). play lists (cond (eqb (x .due) now) (ticked p x) []) (plain t)) X in
-      let c : length (keep (startsIn ps now) (from p (33 - p))) ≡ hit (startsIn ps now p) + length ns =
-      ap (λ (xs : List ℕ). length (keep (startsIn ps now) xs)) (from-step p h) ∙ count-step (startsIn ps now p) p ns in
-      record {
-        low = omega arith;
-        high = omega arith;
-        few = omega (arith, starts-most (startsIn ps now p) k k′);
-        orderly = S .orderly;
-        left =
-            ap (play lists (tickedAll ps ks)) S′
-            ∙ sym (each-step (λ k. ticked k (recordAt ps k)) q p ks (plain t))
-            ∙ sym (ap (λ (xs : List ℕ). play lists (tickedAll ps (keep (dueIn ps now) xs)) (plain t)) (from-step p h))
-            ∙ T .left;
-        number = omega arith;
-      }
+  module _ {n p : ℕ} {t : Tables} (T : Starts ps now s t n p) (h : p ≤ 32) where
+    abbrev rest : List ℕ
+    rest = keep (startsIn ps now) (from (p + 1) (33 - (p + 1)))
 
--- all are done, and before them the clock
-pub tick-done : (s u t : Tables) (n p : ℕ) → Played s (clocked (plain s .book .clock + 1) ∷ []) u
-    → Ticking (s .ledger .programs) (plain s .book .clock + 1) u t n p → 32 < p
-    → Counts s (tickEvents (plain s .book)) (keep (startsNow (plain s .book)) all) t n
-unfolding dueAt
-tick-done s u t n p S T l =
+    step : (b : Bool) → starts now (recordAt ps p) ≡ b → (u : Tables) → Orderly u
+        → plain u ≡ play lists (cond b (on p (becomes 1 Nothing) ∷ []) []) (plain t) → (m : ℕ) → m ≡ n + hit b → m ≤ n + 1
+        → Starts ps now s u m (p + 1)
+    step b e u U S m M few =
+        let c : keep (startsIn ps now) (from p (33 - p)) ≡ cond b (p ∷ rest) rest =
+        ap (keep (startsIn ps now)) (from-step p h) ∙ ap (λ (x : Bool). cond x (p ∷ rest) rest) e in
+        record {
+          low = omega (arith, T .low);
+          high = omega arith;
+          few = omega (arith, T .few);
+          orderly = U;
+          left = ap (play lists (starting rest)) S ∙ sym (each-step (λ k. on k (becomes 1 Nothing) ∷ []) b p rest (plain t))
+              ∙ ap (λ (xs : List ℕ). play lists (starting xs) (plain t)) (sym c) ∙ T .left;
+          number = omega (arith, M, T .number, ap length c, count-step b p rest);
+        }
+
+    pub starts-it : starts now (recordAt ps p) ≡ true → (u : Tables) → Played t (on p (becomes 1 Nothing) ∷ []) u
+        → Starts ps now s u (n + 1) (p + 1)
+    starts-it e u S = step true e u (S .orderly) (S .state) (n + 1) refl (omega arith)
+
+    pub starts-not : starts now (recordAt ps p) ≡ false → Starts ps now s t n (p + 1)
+    starts-not e = step false e t (T .orderly) refl n (omega arith) (omega arith)
+
+-- all are done, and before them the timers and the clock
+pub starts-done : (s u t : Tables) (now n p : ℕ) → length (s .ledger .programs) ≡ 32 → Says u (passed now (plain s))
+    → Starts (s .ledger .programs) now u t n p → 32 < p → Moves s now t n
+unfolding starters
+starts-done s u t now n p L P T l =
     let ps = s .ledger .programs in
-    let now = plain s .book .clock + 1 in
-    let none = from-last p (omega arith) in
+    let none = from-last p (omega (arith, T .high)) in
     record {
-      played = record {
+      says = record {
         orderly = T .orderly;
-        state = sym (ap (λ (xs : List ℕ). play lists (tickedAll ps (keep (dueIn ps now) xs)) (plain t)) none)
+        state = sym (ap (λ (xs : List ℕ). play lists (starting (keep (startsIn ps now) xs)) (plain t)) none)
             ∙ T .left
-            ∙ ap (play lists (tickedAll ps (keep (dueIn ps now) all))) (S .state);
+            ∙ ap (play lists (starting (keep (startsIn ps now) all))) (P .state)
+            ∙ started-moved now (plain s) L;
       };
-      number = omega (arith, ap (λ (xs : List ℕ). length (keep (startsIn ps now) xs)) none);
+      number = omega (arith, T .number, ap (λ (xs : List ℕ). length (keep (startsIn ps now) xs)) none);
     }
 
--- a due and its interval are far below the largest number
-near : (c d : ℕ) → c < ceiling → (d ≢ 0 → d ≤ c + farthest) → Dec (d ≡ 0) → d ≤ ceiling + farthest
-near c d h f (yes e) = omega arith
-near c d h f (no n) = omega (arith, f n)
+-- of sound tables: an interval is far below the largest number
+pub can-pass : (t : Tables) → Orderly t → Dues (plain t .book) → (now : ℕ) → now ≤ ceiling → CanPass t now
+can-pass t O D now h = record { orderly = O; fits = λ i. fits i (decLt i 32) }
+  where
+    fits : (i : ℕ) → Dec (i < 32) → now + getD (t .ledger .programs) i missing .interval ≤ 18446744073709551615
+    fits i (yes l) =
+        let e : suc i - 1 ≡ i = omega arith in
+        omega (
+          arith,
+          D .steps (suc i) (omega arith, omega arith),
+          ap (λ (k : ℕ). getD (t .ledger .programs) k missing .interval) e,
+        )
+    fits i (no n) =
+        omega (arith, ap (λ (r : Program). r .interval) (List·getD-eq-default (t .ledger .programs) missing {n = i} (omega (arith, O .long, n))))
 
-pub due-fits : (s : Tables) (p : ℕ) (r : Program) → Ready s → Known p → r ≡ at (plain s .book) p → plain s .book .clock < ceiling
-    → r .due + r .interval ≤ 18446744073709551615
-due-fits s p r R P X h =
-    let D = sound-clauses s (R .sound) .dues in
-    let d = near (plain s .book .clock) (at (plain s .book) p .due) h (D .near p P) (ℕ-discrete (at (plain s .book) p .due) 0) in
-    omega (arith, d, D .steps p P, ap (λ (x : Program). x .due) X, ap (λ (x : Program). x .interval) X)
+-- A TICK is a move by one
+pub tick-made : (t : Tables) → Ready t → (r : Tables) (n : ℕ) → Moves t (plain t .book .clock + 1) r n
+    → Counts t (tickEvents (plain t .book)) (keep (startsNow (plain t .book)) all) r n
+tick-made t R r n M =
+    let S : Timely (plain t) = record { programs = R .orderly .long; above = sound-clauses t (R .sound) .dues .above } in
+    record {
+      played = says-as (sym (tick-played (plain t) S)) (M .says);
+      number = M .number ∙ sym (ap length (tick-starters (plain t) S));
+    }

@@ -21,9 +21,11 @@ use Rattle.rules.specs.Book.{at, stateOf, prioOf}
 use Rattle.rules.specs.Plans.{Event, Release, fromDisc, fromGeneral}
 use Rattle.rules.specs.Keeper.{lists, Entries, State, play, view}
 use Rattle.rules.specs.Replay.{Accounts}
+use Rattle.rules.specs.Sound as rules
 use Rattle.chains.specs.declared.Listing.{Listing}
 use Rattle.chains.specs.Links.{read}
 use Rattle.chains.specs.Inner.{Laid, Lists}
+use Rattle.timers.specs.Inner.{CanMoveAll, starters, movedTo, ticksOn, startedOn}
 use Rattle.decisions.specs.declared.Effect.{Effect}
 use Rattle.decisions.specs.Inner.{eventsFor, replyFor, Apt}
 use Rattle.tables.specs.declared.Tables.{Tables}
@@ -156,16 +158,35 @@ pub record CanAwait (p c : ℕ) (t : Tables) : Type 0 where
   pub known : Known p
   pub caller : Known c
 
--- the due and interval of a record r can be added up
-pub record CanTick (t : Tables) (p : ℕ) (r : Program) : Type 0 where
+-- timers can move on beyond `now`; what a move of the clock to `now` makes, and how many it starts
+pub record CanPass (t : Tables) (now : ℕ) : Type 0 where
   pub orderly : Orderly t
-  pub known : Known p
-  pub fits : r .due + r .interval ≤ 18446744073709551615
+  pub fits : CanMoveAll now (t .ledger .programs)
+
+pub record Moves (t : Tables) (now : ℕ) (r : Tables) (n : ℕ) : Type 0 where
+  pub says : Says r (movedTo now (plain t))
+  pub number : n ≡ length (starters now (plain t .book))
 
 -- tables whose clock may move on
 pub record CanTickOn (t : Tables) : Type 0 where
   pub ready : Ready t
   pub below : t .ledger .clock .ticks < ceiling
+
+-- tables that have passed the test, and their plain state
+pub record CanTick (t : Tables) : Type 0 where
+  pub ready : Ready t
+  pub plainly : rules.Sound (plain t)
+
+-- sound tables, whose clock may go on to `end`; what so many ticks make, and how many they start
+pub record CanTickTo (t : Tables) (end : ℕ) : Type 0 where
+  pub orderly : Orderly t
+  pub sound : rules.Sound (plain t)
+  pub low : t .ledger .clock .ticks ≤ end
+  pub high : end ≤ ceiling
+
+pub record TicksTo (t : Tables) (end : ℕ) (r : Tables) (n : ℕ) : Type 0 where
+  pub says : Says r (ticksOn (end - t .ledger .clock .ticks) (plain t))
+  pub number : n ≡ startedOn (end - t .ledger .clock .ticks) (plain t)
 
 -- what is decided, made of ready tables
 pub record CanCarry (t : Tables) (e : Effect) : Type 0 where

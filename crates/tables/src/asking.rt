@@ -12,7 +12,7 @@ use rules::Answer;
 use rules::Request;
 
 // The answer is the number of those that were woken or started.
-fn count_of(x: Counted) -> Outcome
+pub(crate) fn count_of(x: Counted) -> Outcome
     ensures { λ r. ⌜ told r ≡ counted (x .number) (x .tables) ⌝ }
 {
     let tables = x.tables;
@@ -103,7 +103,7 @@ impl Tables {
     }
 
     // A refusal: the tables as they came.
-    fn refused(self, answer: Answer) -> Outcome
+    pub(crate) fn refused(self, answer: Answer) -> Outcome
         ensures { λ r. ⌜ r ≡ record { answer = answer; tables = self } ⌝ }
     {
         Outcome {

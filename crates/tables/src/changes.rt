@@ -1,11 +1,10 @@
-// What else a call changes: who holds the tracks, the resource numbers, the clock.
+// What else a call changes: who holds the tracks, and the resource numbers.
 ghost use mathlib.Core.List.{[], _∷_};
 ghost use Rattle.records.specs.Numbers.{resources};
 ghost use Rattle.tracks.specs.Tracks.{holders};
-ghost use Rattle.rules.specs.Plans.{held, numbered, clocked};
-ghost use Rattle.tables.specs.Inner.{Orderly, Played, CanHold, CanNumber};
+ghost use Rattle.rules.specs.Plans.{held, numbered};
+ghost use Rattle.tables.specs.Inner.{Played, CanHold, CanNumber};
 use super::Tables;
-use clock::Clock;
 use records::Numbers;
 use tracks::Tracks;
 
@@ -28,17 +27,6 @@ impl Tables {
     {
         let mut ledger = self.ledger;
         ledger.numbers = numbers;
-        let links = self.links;
-        Tables { ledger, links }
-    }
-
-    // The clock has another reading.
-    pub(crate) fn clocked(self, ticks: u64) -> Tables
-        requires { ⌜ Orderly self ⌝ }
-        ensures { λ t. ⌜ Played self (clocked ticks ∷ []) t ⌝ }
-    {
-        let mut ledger = self.ledger;
-        ledger.clock = Clock::from_ticks(ticks);
         let links = self.links;
         Tables { ledger, links }
     }

@@ -1,68 +1,56 @@
-// TICK: the clock moves on, and the timers now due.
-ghost use Prim.Native.Nat.{_+_, _≤_};
+// TICK, and TICK,n: the clock moves on, and the timers that fall due on the way.
 ghost use mathlib.Core.Path.{_≡_};
-ghost use mathlib.Core.Bool.{cond, _&&_};
-ghost use mathlib.Core.List.{[]};
-ghost use lib.Dec.{eqb};
-ghost use Rattle.limits.specs.Limits.{dormant};
-ghost use Rattle.lists.specs.Lists.{hit, keep};
+ghost use Rattle.lists.specs.Lists.{keep};
 ghost use Rattle.records.specs.Records.{all};
-ghost use Rattle.rules.specs.Rules.{ticked};
 ghost use Rattle.decisions.specs.Inner.{tickEvents, startsNow};
-ghost use Rattle.tables.specs.Inner.{Played, CanTick, CanTickOn, Counts};
+ghost use Rattle.timers.specs.Inner.{passed};
+ghost use Rattle.tables.specs.Calls.{told, manyTicks};
+ghost use Rattle.tables.specs.Inner.{Says, CanPass, Moves, CanTick, CanTickOn, Counts, CanTickTo, TicksTo};
 ghost use Rattle.tables.specs.Tables.{plain};
 use super::Counted;
+use super::Outcome;
 use super::Tables;
-use limits::DORMANT;
+use super::asking;
+use clock::Clock;
 use limits::MOST_PROGRAMS;
+use limits::MOST_TICKS;
 use limits::SCHEDULED;
-use records::Program;
 use records::Why;
-
-// The due that follows: none without an interval.
-fn next_due(due: u64, interval: u64) -> u64
-    requires { ⌜ due + interval ≤ 18446744073709551615 ⌝ }
-    ensures { λ r. ⌜ r ≡ cond (eqb interval 0) 0 (due + interval) ⌝ }
-{
-    if interval == 0 {
-        return 0;
-    }
-    due + interval
-}
-
-// 1 where a tick that makes the clock `now` starts the program, and 0 where not.
-fn starts(r: Program, now: u64) -> u64
-    ensures { λ n. ⌜ n ≡ hit (eqb (r .due) now && eqb (r .state) dormant) ⌝ }
-{
-    if r.due != now {
-        return 0;
-    }
-    if r.state != DORMANT {
-        return 0;
-    }
-    1
-}
+use rules::Answer;
 
 impl Tables {
-    // TICK, where the clock stands below its ceiling; how many programs it starts.
-    pub(crate) fn ticked_on(self) -> Counted
-        requires { ⌜ CanTickOn self ⌝ }
-        ensures { λ r. ⌜ Counts self (tickEvents (plain self .book)) (keep (startsNow (plain self .book)) all) (r .tables) (r .number) ⌝ }
+    // The clock stands at `now`, and every timer that fell due by then has moved on beyond it, or is gone.
+    fn passed(self, now: u64) -> Tables
+        requires { ⌜ CanPass self now ⌝ }
+        ensures { λ t. ⌜ Says t (passed now (plain self)) ⌝ }
+    {
+        let mut ledger = self.ledger;
+        let before = ledger.programs;
+        let programs = timers::move_all(before, now);
+        ledger.programs = programs;
+        ledger.clock = Clock::from_ticks(now);
+        let links = self.links;
+        Tables { ledger, links }
+    }
+
+    // The same, and then the dormant programs whose timers fell due are scheduled, by their numbers; how many they are.
+    fn moved_to(self, now: u64) -> Counted
+        requires { ⌜ CanPass self now ⌝ }
+        ensures { λ r. ⌜ Moves self now (r .tables) (r .number) ⌝ }
     {
         let book = self.ledger;
-        let programs = book.programs;
-        let now = book.clock.ticks + 1;
-        let mut t = self.clocked(now);
+        let before = book.programs;
+        let mut t = self.passed(now);
         let mut n: u64 = 0;
         let mut p: u8 = 1;
         while p <= MOST_PROGRAMS as u8 {
-            let r = programs[p as usize - 1];
-            if r.due != now {
+            let r = before[p as usize - 1];
+            if timers::starts(r, now) {
+                t = t.becomes(p, SCHEDULED, Why::Nothing);
+                n += 1;
                 p += 1;
                 continue;
             }
-            n += starts(r, now);
-            t = t.ticked(p, r, now);
             p += 1;
         }
         Counted {
@@ -71,18 +59,65 @@ impl Tables {
         }
     }
 
-    // The timer of p, whose record was r before the tick, moves on or goes where it is due; p is scheduled where it was dormant.
-    fn ticked(self, p: u8, r: Program, now: u64) -> Tables
-        requires { ⌜ CanTick self p r ⌝ }
-        ensures { λ t. ⌜ Played self (cond (eqb (r .due) now) (ticked p r) []) t ⌝ }
+    // TICK, where the clock stands below its ceiling; how many programs it starts.
+    pub(crate) fn ticked_on(self) -> Counted
+        requires { ⌜ CanTickOn self ⌝ }
+        ensures { λ r. ⌜ Counts self (tickEvents (plain self .book)) (keep (startsNow (plain self .book)) all) (r .tables) (r .number) ⌝ }
     {
-        if r.due != now {
-            return self;
+        let book = self.ledger;
+        self.moved_to(book.clock.ticks + 1)
+    }
+
+    // Tick after tick until the clock stands at `end`: a move for each moment at which programs start, and one more. How many start.
+    fn ticked_to(self, end: u64) -> Counted
+        requires { ⌜ CanTickTo self end ⌝ }
+        ensures { λ r. ⌜ TicksTo self end (r .tables) (r .number) ⌝ }
+    {
+        let book = self.ledger;
+        let mut now = book.clock.ticks;
+        let mut t = self;
+        let mut n: u64 = 0;
+        while now < end {
+            let ledger = t.ledger;
+            let programs = ledger.programs;
+            now = timers::next_start(programs, end);
+            let moved = t.moved_to(now);
+            n += moved.number;
+            t = moved.tables;
         }
-        let t = self.timed(p, next_due(r.due, r.interval), r.interval);
-        if r.state != DORMANT {
-            return t;
+        Counted {
+            tables: t,
+            number: n,
         }
-        t.becomes(p, SCHEDULED, Why::Nothing)
+    }
+
+    // TICK,n on sound tables: n ticks, or none.
+    fn ticked(self, n: u64) -> Outcome
+        requires { ⌜ CanTick self ⌝ }
+        ensures { λ r. ⌜ told r ≡ manyTicks self n ⌝ }
+    {
+        if n == 0 {
+            return self.refused(Answer::NotAllowed);
+        }
+        if MOST_TICKS < n {
+            return self.refused(Answer::NotAllowed);
+        }
+        let book = self.ledger;
+        let end = book.clock.ticks + n;
+        if Clock::CEILING < end {
+            return self.refused(Answer::AtCeiling);
+        }
+        asking::count_of(self.ticked_to(end))
+    }
+
+    // TICK,n: n ticks one after another; the number of programs that they start.
+    pub fn ticks(self, n: u64) -> Outcome
+        ensures { λ r. ⌜ told r ≡ manyTicks self n ⌝ }
+    {
+        let o = self.opened();
+        if o.sound {
+            return self.ticked(n);
+        }
+        self.refused(Answer::NotSound)
     }
 }

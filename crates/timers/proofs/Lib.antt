@@ -5,4 +5,6 @@ pub mod Moves
 pub mod Ticking
 pub mod NextStart
 pub mod Starting
+pub mod Sleepers
+pub mod Roused
 pub mod Changing

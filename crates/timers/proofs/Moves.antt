@@ -64,10 +64,10 @@ due-now c r above = go (ℕ-discrete (r .due) (c + 1))
     go (no n) = ne-eqb (r .due) (c + 1) n ∙ sym (falls-not (c + 1) r (λ h. omega (arith, n, above (λ z. omega arith))))
 
 -- what the rule makes of the record of a program that is due
-abbrev next : Program → Program
+abbrev pub next : Program → Program
 next r = withTimer (cond (eqb (r .interval) 0) 0 (r .due + r .interval)) (r .interval) r
 
-abbrev stroke : Program → Program
+abbrev pub stroke : Program → Program
 stroke r = cond (eqb (r .state) 0) (inState 1 Nothing (next r)) (next r)
 
 due-next : (d i : ℕ) → dueBeyond d d i ≡ cond (eqb i 0) 0 (d + i)
@@ -82,6 +82,17 @@ stroke-struck now r h e =
     ap (λ (x : ℕ). cond (eqb (r .state) 0) (inState 1 Nothing (withTimer x (r .interval) r)) (withTimer x (r .interval) r))
     (sym (ap (λ (n : ℕ). dueBeyond n (r .due) (r .interval)) (sym e) ∙ due-next (r .due) (r .interval)))
     ∙ sym (struck-by now r (falls-is now r (omega arith) (omega arith)) refl)
+
+-- and of any record
+pub struck-tick : (c : ℕ) (r : Program) → (r .due ≢ 0 → c < r .due) → struck (c + 1) r ≡ cond (eqb (r .due) (c + 1)) (stroke r) r
+struck-tick c r above = go (ℕ-discrete (r .due) (c + 1))
+  where
+    go : Dec (r .due ≡ c + 1) → struck (c + 1) r ≡ cond (eqb (r .due) (c + 1)) (stroke r) r
+    go (yes e) =
+        sym (stroke-struck (c + 1) r (omega arith) e) ∙ sym (ap (λ (b : Bool). cond b (stroke r) r) (eq-eqb (r .due) (c + 1) e))
+    go (no n) =
+        struck-not (c + 1) r (sym (due-now c r above) ∙ ne-eqb (r .due) (c + 1) n)
+        ∙ sym (ap (λ (b : Bool). cond b (stroke r) r) (ne-eqb (r .due) (c + 1) n))
 
 stroke-priority : (r : Program) → stroke r .priority ≡ r .priority
 stroke-priority r = go (eqb (r .state) 0)
@@ -142,19 +153,18 @@ pub moved-at : (now : ℕ) (ps : List Program) (i : ℕ) → getD (map (struck n
 moved-at now ps i =
     ap (getD (map (struck now) ps) i) (sym (missing-stays now)) ∙ List·getD-map (struck now) ps i missing
 
-module _ (a : State lists) (S : Sound a) where
-  b : Book
-  b = a .book
+-- what is asked of a state: that no due lies at or below the clock
+pub record Timely (a : State lists) : Type 0 where
+  pub programs : length (a .book .programs) ≡ 32
+  pub above : (z : ℕ) → Known z → at (a .book) z .due ≢ 0 → a .book .clock < at (a .book) z .due
 
-  now : ℕ
-  now = b .clock + 1
+pub sound-timely : (a : State lists) → Sound a → Timely a
+sound-timely a S = record { programs = S .shape .programs; above = S .dues .above }
 
-  -- the programs that are due, and the state when the clock has moved
+module _ (a : State lists) (S : Timely a) where
+  -- the programs that are due
   abbrev due : List ℕ
   due = keep (dueAt (a .book)) all
-
-  start : State lists
-  start = step lists (clocked (a .book .clock + 1)) a
 
   due-in : (z : ℕ) → 1 ≤ count z due → Known z × Unit {0}
   due-in z h = (all-in z (keep-in (dueAt (a .book)) z all h .1), tt)
@@ -162,13 +172,10 @@ module _ (a : State lists) (S : Sound a) where
   due-once : (z : ℕ) → count z due ≤ 1
   due-once z = omega (arith, keep-le (dueAt (a .book)) z all, all-once z)
 
-  above : (z : ℕ) → Known z → at (a .book) z .due ≢ 0 → a .book .clock < at (a .book) z .due
-  above z Z = S .dues .above z Z
-
   -- who is due, and who starts
   due-is : (z : ℕ) → Known z → dueAt (a .book) z ≡ fallsDue (a .book .clock + 1) (at (a .book) z)
   unfolding dueAt
-  due-is z Z = due-now (a .book .clock) (at (a .book) z) (above z Z)
+  due-is z Z = due-now (a .book .clock) (at (a .book) z) (S .above z Z)
 
   starts-is : (z : ℕ) → Known z
       → (dueAt (a .book) z && eqb (stateOf (a .book) z) 0) ≡ starts (a .book .clock + 1) (at (a .book) z)
@@ -200,7 +207,7 @@ module _ (a : State lists) (S : Sound a) where
       each i h = go (dueAt (a .book) (suc i)) refl
         where
           K : Known (suc i)
-          K = (omega arith, omega (arith, S .shape .programs))
+          K = (omega arith, omega (arith, S .programs))
 
           counted : (x : Bool) → dueAt (a .book) (suc i) ≡ x → count (suc i) due ≡ cond x (count (suc i) all) 0
           counted x e = count-keep (dueAt (a .book)) (suc i) all ∙ ap (λ (y : Bool). cond y (count (suc i) all) 0) e
@@ -219,6 +226,20 @@ module _ (a : State lists) (S : Sound a) where
               ∙ sym (struck-not (a .book .clock + 1) (getD (a .book .programs) i missing)
               (ap (fallsDue (a .book .clock + 1)) (sym (at-index i)) ∙ sym (due-is (suc i) K) ∙ e))
 
+  pub tick-played :
+      play lists (clocked (a .book .clock + 1) ∷ join (map (λ p. ticked p (at (a .book) p)) (keep (dueAt (a .book)) all))) a
+      ≡ movedTo (a .book .clock + 1) a
+  unfolding step
+  tick-played =
+      in-turn (λ p. Unit {0}) (λ p. ticked p (at (a .book) p)) (at (a .book)) (λ p. stroke (at (a .book) p)) (λ p. eqb (stateOf (a .book) p) 0)
+      (turn (a .book)) (λ p. stroke-priority (at (a .book) p)) due
+      (record { book = altered (a .book) (a .book .programs) (a .book .clock + 1) (a .book .holders) (a .book .resources); kept = a .kept })
+      (record { long = S .programs; known = due-in; once = due-once; still = λ z h. refl })
+      ∙ ap₂ (λ (ps : List Program) (l : List ℕ). record {
+        book = altered (a .book) ps (a .book .clock + 1) (a .book .holders) (a .book .resources);
+        kept = enterAll (prioOf (a .book)) l (a .kept);
+      }) records (keep-keep (dueAt (a .book)) (λ p. eqb (stateOf (a .book) p) 0) all ∙ tick-starters)
+
   -- the plan of a tick
   module _ (below : a .book .clock < ceiling) where
     pub tick-plan : asks lists a TICK
@@ -232,17 +253,7 @@ module _ (a : State lists) (S : Sound a) where
 
     -- A TICK IS A MOVE BY ONE
     pub tick-moved : after lists a TICK ≡ movedTo (a .book .clock + 1) a
-    unfolding step
-    tick-moved =
-        ap (λ (x : Plan). play lists (eventsOf (view lists a) x) a) tick-plan
-        ∙ in-turn (λ p. Unit {0}) (λ p. ticked p (at (a .book) p)) (at (a .book)) (λ p. stroke (at (a .book) p)) (λ p. eqb (stateOf (a .book) p) 0)
-        (turn (a .book)) (λ p. stroke-priority (at (a .book) p)) due
-        (record { book = altered (a .book) (a .book .programs) (a .book .clock + 1) (a .book .holders) (a .book .resources); kept = a .kept })
-        (record { long = S .shape .programs; known = due-in; once = due-once; still = λ z h. refl })
-        ∙ ap₂ (λ (ps : List Program) (l : List ℕ). record {
-          book = altered (a .book) ps (a .book .clock + 1) (a .book .holders) (a .book .resources);
-          kept = enterAll (prioOf (a .book)) l (a .kept);
-        }) records (keep-keep (dueAt (a .book)) (λ p. eqb (stateOf (a .book) p) 0) all ∙ tick-starters)
+    tick-moved = ap (λ (x : Plan). play lists (eventsOf (view lists a) x) a) tick-plan ∙ tick-played
 
 -- A MOVE IN WHICH NOBODY STARTS, AND A LATER ONE
 module _ (now later : ℕ) (after : now ≤ later) (a : State lists) (idle : NoStart now (a .book .programs)) where

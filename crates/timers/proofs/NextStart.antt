@@ -2,6 +2,7 @@
 -- Assumes nothing.
 use Prim.Native.Nat.{ℕ, zero, suc, _+_, _-_, _≤_, _<_}
 use native.Mathlib.Omega.{arith}
+use native.Mathlib.Decide.{decLt}
 use native.Mathlib.Numerals.{add-one}
 use mathlib.Core.Path.{_≡_, refl, sym, ap, _∙_}
 use mathlib.Core.Logic.{_≢_}
@@ -15,7 +16,7 @@ use Rattle.lists.proofs.Tests.{both, and, clash}
 use Rattle.records.specs.declared.Program.{Program}
 use Rattle.records.specs.Records.{missing}
 use Rattle.timers.specs.Inner.{fallsDue, starts, sooner, nextStart, NoStart}
-use Rattle.timers.proofs.Striking.{falls-true, falls-not, starts-by, starts-not}
+use Rattle.timers.proofs.Striking.{falls-is, falls-not, starts-by, starts-not}
 
 -- it is not later, and a dormant program does not fall due before it
 record Sooner (r : Program) (end n : ℕ) : Type 0 where
@@ -74,6 +75,36 @@ next-idle end k ps h i = go (eqb (r .state) 0) refl
         falls : (x : Bool) → fallsDue k r ≡ x → starts k r ≡ false
         falls true f = starts-by k r f e
         falls false f = starts-by k r f e
+
+-- and somebody does at it, unless it is the end
+pub record Somebody (now : ℕ) (ps : List Program) : Type 0 where
+  pub place : ℕ
+  pub within : place < length ps
+  pub does : starts now (getD ps place missing) ≡ true
+
+pub next-some : (end : ℕ) (ps : List Program) → nextStart end ps < end → Somebody (nextStart end ps) ps
+next-some end [] h = absurd (omega arith)
+next-some end (r ∷ rs) h = go (decLt (nextStart (sooner r end) rs) (sooner r end)) (next-some (sooner r end) rs)
+  where
+    here : (x : Bool) → ltb 0 (r .due) ≡ x → (y : Bool) → ltb (r .due) end ≡ y → (z : Bool) → eqb (r .state) 0 ≡ z
+        → cond (x && y && z) (r .due) end < end → starts (cond (x && y && z) (r .due) end) r ≡ true
+    here true e true f true g k = starts-by (r .due) r (falls-is (r .due) r (ltb-true 0 (r .due) e) (omega arith)) g
+    here true e true f false g k = absurd (omega arith)
+    here true e false f z g k = absurd (omega arith)
+    here false e y f z g k = absurd (omega arith)
+
+    go : Dec (nextStart (sooner r end) rs < sooner r end)
+        → (nextStart (sooner r end) rs < sooner r end → Somebody (nextStart (sooner r end) rs) rs)
+        → Somebody (nextStart (sooner r end) rs) (r ∷ rs)
+    go (yes k) ih = let s = ih k in record { place = suc (s .place); within = omega (arith, s .within); does = s .does }
+    go (no k) ih =
+        let e : nextStart (sooner r end) rs ≡ sooner r end = omega (arith, k, next-low (sooner r end) rs) in
+        record {
+          place = 0;
+          within = omega arith;
+          does = ap (λ (n : ℕ). starts n r) e
+              ∙ here (ltb 0 (r .due)) refl (ltb (r .due) end) refl (eqb (r .state) 0) refl (omega (arith, h, e));
+        }
 
 -- THE SEARCH: what is left of the programs, from place i on, is searched in the same way
 pub record Looking (end : ℕ) (ps : List Program) (least i : ℕ) : Type 0 where

@@ -26,14 +26,14 @@ use Rattle.timers.proofs.InTurn.{setAll, joined, scheduled-put, in-turn
 use Rattle.timers.proofs.Moves.{moved-at}
 
 -- of a record whose timer is moved on
-moved-state : (now : ℕ) (r : Program) → moved now r .state ≡ r .state
+pub moved-state : (now : ℕ) (r : Program) → moved now r .state ≡ r .state
 moved-state now r = go (fallsDue now r) refl
   where
     go : (b : Bool) → fallsDue now r ≡ b → moved now r .state ≡ r .state
     go true e = rw e
     go false e = rw e
 
-moved-priority : (now : ℕ) (r : Program) → moved now r .priority ≡ r .priority
+pub moved-priority : (now : ℕ) (r : Program) → moved now r .priority ≡ r .priority
 moved-priority now r = go (fallsDue now r) refl
   where
     go : (b : Bool) → fallsDue now r ≡ b → moved now r .priority ≡ r .priority
@@ -44,7 +44,7 @@ starts-sleeps : (now : ℕ) (r : Program) → starts now r ≡ true → r .state
 unfolding starts
 starts-sleeps now r e = eqb-true (r .state) 0 (both (fallsDue now r) (eqb (r .state) 0) e .1)
 
-passed-at : (now : ℕ) (ps : List Program) (i : ℕ) → getD (map (moved now) ps) i missing ≡ moved now (getD ps i missing)
+pub passed-at : (now : ℕ) (ps : List Program) (i : ℕ) → getD (map (moved now) ps) i missing ≡ moved now (getD ps i missing)
 unfolding fallsDue
 passed-at now ps i = List·getD-map (moved now) ps i missing
 

@@ -17,7 +17,7 @@ use Rattle.rules.specs.Sound.{Sound}
 use Rattle.rules.proofs.soundness.SoundRuns.{sound-after}
 use Rattle.timers.specs.Inner.{fallsDue, starts, starters, movedTo, NoStart, ticksOn, startedOn}
 use Rattle.timers.proofs.Striking.{falls-later, starts-by, starts-not}
-use Rattle.timers.proofs.Moves.{tick-value, tick-moved, none-start, same-starters, moved-again, idle-still}
+use Rattle.timers.proofs.Moves.{sound-timely, tick-value, tick-moved, none-start, same-starters, moved-again, idle-still}
 
 -- ticks made in parts
 pub ticks-parts : (j k : ℕ) (a : State lists) → ticksOn (j + k) a ≡ ticksOn k (ticksOn j a)
@@ -41,7 +41,7 @@ pub clock-ticks : (n : ℕ) (a : State lists) → Sound a → a .book .clock + n
 unfolding ticksOn
 clock-ticks zero a S h = omega arith
 clock-ticks (suc n) a S h =
-    let c : after lists a TICK .book .clock ≡ a .book .clock + 1 = ap (λ (x : State lists). x .book .clock) (tick-moved a S (omega arith)) in
+    let c : after lists a TICK .book .clock ≡ a .book .clock + 1 = ap (λ (x : State lists). x .book .clock) (tick-moved a (sound-timely a S) (omega arith)) in
     omega (arith, c, clock-ticks n (after lists a TICK) (sound-after a S TICK) (omega (arith, c)))
 
 -- who does not start by a moment does not start before it
@@ -61,13 +61,13 @@ pub ticks-moved : (k : ℕ) (a : State lists) → Sound a → a .book .clock + s
 unfolding ticksOn startedOn
 ticks-moved zero a S h N =
     let e : a .book .clock + 1 ≡ a .book .clock + suc zero = omega arith in (
-      tick-moved a S (omega arith) ∙ ap (λ (n : ℕ). movedTo n a) e,
-      omega (arith, tick-value a S (omega arith), ap (λ (n : ℕ). length (starters n (a .book))) e),
+      tick-moved a (sound-timely a S) (omega arith) ∙ ap (λ (n : ℕ). movedTo n a) e,
+      omega (arith, tick-value a (sound-timely a S) (omega arith), ap (λ (n : ℕ). length (starters n (a .book))) e),
     )
 ticks-moved (suc k) a S h N =
     let c : ℕ = a .book .clock in
     let m : State lists = movedTo (c + 1) a in
-    let e : after lists a TICK ≡ m = tick-moved a S (omega arith) in
+    let e : after lists a TICK ≡ m = tick-moved a (sound-timely a S) (omega arith) in
     let idle : NoStart (c + 1) (a .book .programs) = idle-before (c + 1) (c + suc k) (omega arith) (a .book .programs) N in
     let w : c + suc k ≡ c + 1 + k = omega arith in
     let v : c + 1 + suc k ≡ c + suc (suc k) = omega arith in
@@ -77,7 +77,7 @@ ticks-moved (suc k) a S h N =
       ap (ticksOn (suc k)) e ∙ ih .0 ∙ moved-again (c + 1) (c + 1 + suc k) (omega arith) a idle ∙ ap (λ (n : ℕ). movedTo n a) v,
       omega (
         arith,
-        tick-value a S (omega arith),
+        tick-value a (sound-timely a S) (omega arith),
         ap length (none-start (c + 1) (c + 1) (omega arith) a idle),
         ap (startedOn (suc k)) e,
         ih .1,

@@ -5,14 +5,14 @@ use Prim.Native.Nat.{ℕ, zero, suc, _+_, _-_, _*_, _/_, _≤_}
 use mathlib.Core.Path.{_≡_}
 use mathlib.Core.Bool.{Bool, false, cond, _&&_}
 use mathlib.Core.List.{List, [], _∷_, map}
-use lib.ListN.{getD, set}
+use lib.ListN.{length, getD, set}
 use lib.Dec.{leb, ltb, eqb}
 use Rattle.limits.specs.Limits.{dormant, scheduled}
 use Rattle.lists.specs.Lists.{sum, keep, insert, join}
 use Rattle.records.specs.declared.Program.{Program}
 use Rattle.records.specs.declared.Why.the-variants.{Nothing}
 use Rattle.records.specs.Records.{all, missing, inState, withTimer}
-use Rattle.rules.specs.Book.{Book, at, prioOf, altered}
+use Rattle.rules.specs.Book.{Book, at, stateOf, prioOf, altered}
 use Rattle.rules.specs.Requests.{TICK}
 use Rattle.rules.specs.Plans.{Event, on, becomes, valuesOf}
 use Rattle.rules.specs.Keeper.{lists, State, asks, after}
@@ -65,6 +65,10 @@ starting l = join (map (λ p. on p (becomes scheduled Nothing) ∷ []) l)
 -- nobody starts by then
 abbrev pub NoStart : ℕ → List Program → Type 0
 NoStart now ps = (i : ℕ) → starts now (getD ps i missing) ≡ false
+
+-- how many programs are dormant
+unfoldable pub sleepers : Book → ℕ
+sleepers b = length (keep (λ p. eqb (stateOf b p) dormant) all)
 
 -- so many ticks, by the rule of one; and how many programs they start
 unfoldable pub ticksOn : ℕ → State lists → State lists

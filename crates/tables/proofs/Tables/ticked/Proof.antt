@@ -1,31 +1,69 @@
--- `tables::Tables::ticked` meets its contract: not due; due, and not dormant; due, and dormant.
+-- `tables::Tables::ticked` meets its contract: n, the ceiling, and else the ticks.
 -- Assumes nothing.
-use Rattle.tables.proofs.Ticks.{not-due, due-only, due-starts}
+use native.Mathlib.Omega.{arith}
+use mathlib.Core.Path.{_≡_, refl, sym, ap, _∙_}
+use mathlib.Core.Bool.{true, false}
+use Prim.Native.Nat.{ℕ, _+_, _≤_}
 use borrow.Author.Needs.{needs}
+use borrow.Author.Tests.{lt-leb}
+use Rattle.limits.specs.Limits.{mostTicks}
+use Rattle.lists.specs.Lists.{upTo}
+use Rattle.lists.proofs.Tests.{upTo-is}
+use Rattle.clock.specs.Clock.{ceiling}
+use Rattle.tables.specs.Calls.{told}
+use Rattle.tables.proofs.Readied.{clock-most}
+use Rattle.tables.proofs.ManyTicks.{range-low, range-high, many-range, many-ceiling, many-ticked}
 use Rattle.tables.proofs.Tables.ticked.Statement.{statement}
 use Rattle.tables.proofs.Tables.ticked.Tie as tie
 
 returns : tie.Need-returns
-returns c = let s = c .before .before in not-due (s .args .self) (s .args .p) (s .args .r) (s .args .now) (s .pre .orderly) (c .if1 .taken)
+returns c =
+    let s = c .before .before in
+    ap told (c .refused .ensures)
+    ∙ many-range (s .args .self) (s .args .n) (s .pre .ready .sound) (range-low (s .args .n) (c .before .if1 .taken))
 
 returns-2 : tie.Need-returns-2
 returns-2 c =
-    let m = c .before .before in
-    let d = m .before in
-    let s = d .before .before .before in
-    due-only (s .args .self) (s .args .p) (s .args .r) (s .args .now) (s .pre .orderly) (d .next-due .result) (d .next-due .ensures)
-    (d .before .if1 .left)
-    (m .timed .result) (m .timed .ensures) (c .if2 .taken)
+    let s = c .before .before .before in
+    ap told (c .refused2 .ensures)
+    ∙ many-range (s .args .self) (s .args .n) (s .pre .ready .sound) (range-high (s .args .n) (c .before .if2 .taken))
+
+add-end : tie.Need-add-end
+add-end c =
+    let e = c .before .before in
+    let s = e .before .before in
+    omega (arith, clock-most (s .args .self) (s .pre .ready), e .if2 .left)
 
 returns-3 : tie.Need-returns-3
 returns-3 c =
-    let e = c .before in
-    let m = e .before .before in
-    let d = m .before in
-    let s = d .before .before .before in
-    due-starts (s .args .self) (s .args .p) (s .args .r) (s .args .now) (s .pre .orderly) (d .next-due .result) (d .next-due .ensures)
-    (d .before .if1 .left)
-    (m .timed .result) (m .timed .ensures) (c .becomes .result) (e .if2 .left) (c .becomes .ensures)
+    let k = c .before .before in
+    let e = k .before in
+    let s = e .before .before .before in
+    let n = s .args .n in
+    ap told (c .refused3 .ensures)
+    ∙ many-ceiling (s .args .self) n (s .pre .ready .sound)
+    (upTo-is 1 mostTicks n (omega (arith, e .before .before .if1 .left)) (omega (arith, e .before .if2 .left)))
+    (lt-leb (s .args .self .ledger .clock .ticks + n) ceiling (c .before .if3 .taken))
+
+ticked-to-requires : tie.Need-ticked-to-requires
+ticked-to-requires c κs =
+    let s = c .before .before .before .before .before in
+    record { orderly = s .pre .ready .orderly; sound = s .pre .plainly; low = omega arith; high = c .if3 .left }
+
+returns-4 : tie.Need-returns-4
+returns-4 c =
+    let t = c .before in
+    let k = t .before .before in
+    let e = k .before in
+    let s = e .before .before .before in
+    let n = s .args .n in
+    c .count-of .ensures
+    ∙ many-ticked (s .args .self) (s .pre .ready .orderly) (s .pre .ready .sound) (s .pre .plainly) n
+    (omega (arith, e .before .before .if1 .left)) (omega (arith, e .before .if2 .left)) (omega (arith, t .before .if3 .left))
+    (s .args .self .ledger .clock .ticks + n) refl _ _ (t .ticked-to .ensures)
 
 pub ticked-spec : {M : Type 1} → statement M
-ticked-spec = tie.close (tie.spec returns (λ c κs. search needs) (λ c κs. search needs) returns-2 (λ c κs. search needs) returns-3)
+ticked-spec =
+    tie.close
+    (tie.spec (λ c κs. search needs) returns (λ c κs. search needs) returns-2 add-end (λ c κs. search needs) returns-3 ticked-to-requires
+    (λ c κs. search needs) returns-4)
