@@ -11,13 +11,14 @@ use Rattle.rules.specs.Answers.{number, values}
 use Rattle.rules.specs.Requests.{Request}
 use Rattle.tables.specs.declared.Tables.{Tables}
 use Rattle.tables.specs.Sound.{sound}
-use Rattle.tables.specs.Calls.{told, asked}
+use Rattle.tables.specs.Calls.{told, asked, manyTicks}
 use Rattle.tables.proofs.Serving.{asked-unsound}
+use Rattle.tables.proofs.ManyTicks.{many-unsound}
 use Rattle.rules.specs.Engine.{beside, notSound, pagedIn}
 use Rattle.page.specs.Paging.{Written, paged}
 use Rattle.console.specs.declared.Said.{Said}
-use Rattle.console.specs.declared.Said.the-variants.{Bad, Page, Asks}
-use Rattle.console.specs.Line.{Line, bad, PAGE, asks, lineOf}
+use Rattle.console.specs.declared.Said.the-variants.{Bad, Page, Asks, Ticks}
+use Rattle.console.specs.Line.{Line, bad, PAGE, asks, ticks, lineOf}
 use Rattle.console.specs.Console.{obeyed, keyed, keyedIn}
 use Rattle.console.specs.Inner.{obeys, refusing, isPage, saying}
 
@@ -37,6 +38,14 @@ obeys-asks t buf q = go (sound t) refl
     go : (b : Bool) → sound t ≡ b → doing b t buf (asks q) ≡ beside buf (asked t q)
     go true e = refl
     go false e = ap (beside buf) (asked-unsound t q e)
+
+pub obeys-ticks : (t : Tables) (buf : List ℕ) (n : ℕ) → obeys t buf (ticks n) ≡ beside buf (manyTicks t n)
+unfolding obeys
+obeys-ticks t buf n = go (sound t) refl
+  where
+    go : (b : Bool) → sound t ≡ b → doing b t buf (ticks n) ≡ beside buf (manyTicks t n)
+    go true e = refl
+    go false e = ap (beside buf) (many-unsound t n e)
 
 pub obeys-page : (t : Tables) (buf : List ℕ) → obeys t buf PAGE ≡ paged t buf
 unfolding obeys pagedIn
@@ -67,3 +76,4 @@ pub page-unsaid : (nm : List ℕ) (a : Said) → isPage a ≡ false → saying n
 page-unsaid nm Bad e s = let z : _≡_ {A = ℕ} 0 1 = cc in omega arith
 page-unsaid nm Page e s = false-true (sym e)
 page-unsaid nm (Asks q) e s = let z : _≡_ {A = ℕ} 0 1 = cc in omega arith
+page-unsaid nm (Ticks n) e s = let z : _≡_ {A = ℕ} 0 1 = cc in omega arith

@@ -23,7 +23,7 @@ use Rattle.tables.specs.Calls.{told}
 use Rattle.page.specs.Page.{page}
 use Rattle.rules.specs.Engine.{beside, front, notSound, pagedIn, writtenIn}
 use Rattle.page.specs.Paging.{Written, paged}
-use Rattle.console.specs.Line.{Line, bad, PAGE, asks, lineOf}
+use Rattle.console.specs.Line.{Line, bad, PAGE, asks, ticks, lineOf}
 use Rattle.console.specs.Console.{keyed, keyedIn}
 use Rattle.console.specs.Sheet.{lent, answerLine, shown, printedBytes, lineShown}
 use Rattle.console.specs.Inner.{valuesLine, answerBytes}
@@ -61,6 +61,7 @@ keyed-keeps t l other buf = go (sound t) refl (lineOf l) refl
     go true e bad p = refl
     go true e PAGE p = clash e (other p)
     go true e (asks q) p = refl
+    go true e (ticks n) p = refl
     go false e x p = refl
 
 -- the same answer and tables, whatever was lent
@@ -83,6 +84,7 @@ keyed-alike t l a b ha hb = go (sound t) refl (lineOf l) refl
     go true e bad p = record { number = refl; values = refl; tables = refl }
     go true e PAGE p = rw (paged-done t a e (ha p e), paged-done t b e (hb p e)) (record { number = refl; values = refl; tables = refl })
     go true e (asks q) p = record { number = refl; values = refl; tables = refl }
+    go true e (ticks n) p = record { number = refl; values = refl; tables = refl }
     go false e x p = record { number = refl; values = refl; tables = refl }
 
 -- what is printed, by what stands at the front
@@ -147,6 +149,7 @@ module _ (t : Tables) (l out : List ℕ) (big : pageRoom ≤ length out)
     answer-shown bad p = refl
     answer-shown PAGE p = rw (other p, keyedIn)
     answer-shown (asks q) p = refl
+    answer-shown (ticks n) p = refl
 
     pub shown-answer : lineShown t l out ≡ printing (answerLine (keyed t l out)) (keyed t l out .tables) out
     shown-answer = shown-as (answerLine (keyed t l out)) (answer-shown (lineOf l) refl ∙ sym (line-alike keyed-lent))

@@ -1,27 +1,30 @@
--- On any tables, what a request, PAGE or a line hands back has a number of the outline's list, and where that is a refusal, the tables and
+-- On any tables, what a request, TICK,n, PAGE or a line hands back has a number of the outline's list, and where that is a refusal, the tables and
 -- the lent buffer are those that were given.
 -- A plan that is refused holds no events, and where nothing happens the tables come back themselves; 12, 13 and 14 are
 -- told where the tables are handed back.
 -- Assumes nothing.
-use Prim.Native.Nat.{ℕ, _≤_}
+use Prim.Native.Nat.{ℕ, _+_, _≤_}
 use native.Mathlib.Omega.{arith}
 use mathlib.Core.Path.{_≡_, refl, ap, _∙_}
 use mathlib.Core.Bool.{Bool, true, false}
 use mathlib.Core.List.{List}
 use lib.ListN.{length}
 use lib.Dec.{leb}
+use Rattle.limits.specs.Limits.{mostTicks}
+use Rattle.lists.specs.Lists.{upTo}
+use Rattle.clock.specs.Clock.{ceiling}
 use Rattle.rules.specs.Requests.{Request}
 use Rattle.rules.specs.Keeper.{lists}
-use Rattle.rules.specs.Engine.{beside, writtenIn, pagedIn}
+use Rattle.rules.specs.Engine.{beside, tickedBy, writtenIn, pagedIn}
 use Rattle.rules.proofs.refusals.Refusals.{answered}
 use Rattle.tables.specs.declared.Tables.{Tables}
 use Rattle.tables.specs.Tables.{plain}
 use Rattle.tables.specs.Sound.{sound}
-use Rattle.tables.specs.Calls.{laid, asked}
+use Rattle.tables.specs.Calls.{laid, asked, manyTicks}
 use Rattle.tables.proofs.Serving.{asked-sound, served-planned}
 use Rattle.page.specs.Page.{page}
 use Rattle.page.specs.Paging.{Written, written, paged}
-use Rattle.console.specs.Line.{Line, bad, PAGE, asks, lineOf}
+use Rattle.console.specs.Line.{Line, bad, PAGE, asks, ticks, lineOf}
 use Rattle.console.specs.Console.{keyedIn, obeyed, keyed}
 
 -- of what is handed back where tables t and a buffer were given
@@ -44,6 +47,17 @@ module _ (t : Tables) (buf : List ℕ) where
           })
       go false e = rw (e, asked) (record { listed = omega arith; tables = λ h. refl; buffer = λ h. refl })
 
+  pub ticked-kept : (n : ℕ) → Kept t buf (beside buf (manyTicks t n))
+  unfolding tickedBy
+  ticked-kept n = go (sound t) refl (upTo 1 mostTicks n) refl (leb (plain t .book .clock + n) ceiling) refl
+    where
+      go : (x : Bool) → sound t ≡ x → (y : Bool) → upTo 1 mostTicks n ≡ y → (z : Bool) → leb (plain t .book .clock + n) ceiling ≡ z
+          → Kept t buf (beside buf (manyTicks t n))
+      go true e true r true c = rw (e, tickedBy, r, c) (record { listed = omega arith; tables = λ h. absurd (omega arith); buffer = λ h. refl })
+      go true e true r false c = rw (e, tickedBy, r, c) (record { listed = omega arith; tables = λ h. refl; buffer = λ h. refl })
+      go true e false r z c = rw (e, tickedBy, r) (record { listed = omega arith; tables = λ h. refl; buffer = λ h. refl })
+      go false e y r z c = rw (e, tickedBy) (record { listed = omega arith; tables = λ h. refl; buffer = λ h. refl })
+
   written-kept : Kept t buf (written t buf)
   unfolding writtenIn
   written-kept = go (leb (length (page (plain t))) (length buf)) refl
@@ -64,6 +78,7 @@ module _ (t : Tables) (buf : List ℕ) where
   obeyed-kept bad = record { listed = omega arith; tables = λ h. refl; buffer = λ h. refl }
   obeyed-kept PAGE = paged-kept
   obeyed-kept (asks q) = asked-kept q
+  obeyed-kept (ticks n) = ticked-kept n
 
   pub keyed-kept : (bytes : List ℕ) → Kept t buf (keyed t bytes buf)
   unfolding keyedIn

@@ -79,13 +79,13 @@ unfolding execs numbers forms rows requests ended entries behind
 behind-none i h = tabled-at noWord (λ j. ended j []) i bad h
 
 module _ (f : List ℕ) (fs : List (List ℕ)) where
-  behind-look : (i : ℕ) → i < noWord → behind i (f ∷ fs) ≡ lookUp (under i rows entries) (ended i) f fs
+  behind-look : (i : ℕ) → i < noWord → behind i (f ∷ fs) ≡ lookUp (under i rows entries) (ended (rowAt i .4)) f fs
   unfolding execs numbers forms rows requests ended entries behind
-  behind-look i h = tabled-at noWord (λ j. lookUp (under j rows entries) (ended j) f fs) i bad h
+  behind-look i h = tabled-at noWord (λ j. lookUp (under j rows entries) (ended (rowAt j .4)) f fs) i bad h
 
-  behind-seek : (i : ℕ) → i < noWord → behind i (f ∷ fs) ≡ at i f fs (ended i) entries (seek i f rows keys)
+  behind-seek : (i : ℕ) → i < noWord → behind i (f ∷ fs) ≡ at i f fs (ended (rowAt i .4)) entries (seek i f rows keys)
   unfolding execs numbers forms rows entries keys
-  behind-seek i h = behind-look i h ∙ look-seek i f fs (ended i) rows entries refl
+  behind-seek i h = behind-look i h ∙ look-seek i f fs (ended (rowAt i .4)) rows entries refl
 
 -- behind a last word
 behind-last : (i : ℕ) → i < noWord → (fs : List (List ℕ)) → behind i fs ≡ cond (rowAt i .3) (ended i fs) (behind i fs)
@@ -104,7 +104,7 @@ passes (suc n) t e (suc i) h = passes n (λ j. t (suc j)) (both (t 0) (pass n (�
 
 -- the words as the code tells them, in a row
 abbrev told : List ℕ
-told = text ",FRESH,LOAD,RU,SS,GO,PR,OF,TICK,EXEC,RN,PAGE,4,15,5,16,6,7,11,9,10,12,ALLOC,LOCK,CLEAR,FREE,L,G,ALL"
+told = text ",FRESH,LOAD,RU,SS,GO,PR,OF,TICK,EXEC,RN,PAGE,4,15,5,16,6,7,11,9,10,12,ALLOC,LOCK,CLEAR,FREE,L,G,ALL,"
 
 abbrev cut : ℕ → List ℕ
 cut i = slice (startAt i) (startAt (i + 1) - 1) told
@@ -135,18 +135,26 @@ module _ {last : ℕ} (known : last < noWord) (s : List ℕ) (at : ℕ) where
     abbrev lines : List Line
     lines = map (λ e. e .form (fieldsFrom s (end + 1))) entries
 
-    there : behind last (fieldsFrom s at) ≡ getD lines j (ended last (fieldsFrom s at))
+    there : behind last (fieldsFrom s at) ≡ getD lines j (ended (rowAt last .4) (fieldsFrom s at))
     there =
         ap (behind last) (fields-cut p) ∙ behind-seek (slice at end s) (fieldsFrom s (end + 1)) last known
-        ∙ ap₂ (λ (i : ℕ) (x : Line). getD lines i x) (sym which) (ap (ended last) (sym (fields-cut p)))
+        ∙ ap₂ (λ (i : ℕ) (x : Line). getD lines i x) (sym which) (ap (ended (rowAt last .4)) (sym (fields-cut p)))
 
-    pub word-none : noWord ≤ j → behind last (fieldsFrom s at) ≡ ended last (fieldsFrom s at)
+    pub word-none : {w : Word} → w ≡ rowAt last → noWord ≤ j → behind last (fieldsFrom s at) ≡ ended (w .4) (fieldsFrom s at)
     unfolding execs numbers forms entries
-    word-none h = there ∙ List·getD-eq-default lines (ended last (fieldsFrom s at)) h
+    word-none e h =
+        there ∙ List·getD-eq-default lines (ended (rowAt last .4) (fieldsFrom s at)) h
+        ∙ ap (λ (x : Word). ended (x .4) (fieldsFrom s at)) (sym e)
 
     pub word-next : j < noWord → behind last (fieldsFrom s at) ≡ behind j (fieldsFrom s (end + 1))
     unfolding execs numbers forms entries behind
-    word-next h = there ∙ getD-within lines j (ended last (fieldsFrom s at)) bad h
+    word-next h = there ∙ getD-within lines j (ended (rowAt last .4) (fieldsFrom s at)) bad h
+
+-- the row in a word's place is one of the rows
+pub instead-known : (i : ℕ) → i < noWord → {w : Word} → w ≡ rowAt i → w .4 < noWord
+unfolding rows
+instead-known i h e =
+    omega (arith, ap (λ (x : Word). x .4) e, ltb-true (rowAt i .4) noWord (passes noWord (λ j. ltb (rowAt j .4) noWord) refl i h))
 
 -- the whole line
 line-is : (s : List ℕ) (b : Bool) → upTo 1 longestLine (length s) ≡ b → lineOf s ≡ elim b [ true ↦ behind 0 (fieldsFrom s 0) | false ↦ bad ]
@@ -196,7 +204,7 @@ module _ {last : ℕ} {f : List ℕ} {i : ℕ} (h : Seeking last f i) where
     seeking-cut : seek last f (drop i rows) (drop i keys) ≡ cond (eqb (rowAt i .0) last && alike f (getD keys i [])) 0 (suc rest)
     unfolding rows execs numbers forms entries keys
     seeking-cut =
-        ap₂ (seek last f) (drop-cons rows i (lead 0 0) l ∙ ap (λ (k : ℕ). rowAt i ∷ drop k rows) (sym (add-one i)))
+        ap₂ (seek last f) (drop-cons rows i (lead 0 0 0) l ∙ ap (λ (k : ℕ). rowAt i ∷ drop k rows) (sym (add-one i)))
         (drop-cons keys i [] l ∙ ap (λ (k : ℕ). getD keys i [] ∷ drop k keys) (sym (add-one i)))
 
     pub seeking-other : rowAt i .0 ≢ last → Seeking last f (i + 1)

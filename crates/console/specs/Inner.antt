@@ -23,14 +23,14 @@ use Rattle.tables.specs.Sound.{sound}
 use Rattle.tables.specs.Calls.{Result}
 use Rattle.page.specs.Paging.{Written}
 use Rattle.console.specs.declared.Said.{Said}
-use Rattle.console.specs.declared.Said.the-variants.{Bad, Page, Asks}
+use Rattle.console.specs.declared.Said.the-variants.{Bad, Page, Asks, Ticks}
 use Rattle.console.specs.declared.Command.{Command}
 use Rattle.console.specs.declared.fields.Numbers.{Numbers}
 use Rattle.console.specs.declared.fields.Numbers.the-variants as numbersRead
 use Rattle.console.specs.declared.fields.NameField.{NameField}
 use Rattle.console.specs.declared.fields.NameField.the-variants as nameField
 use Rattle.console.specs.declared.words.Word.{Word}
-use Rattle.console.specs.Line.{Line, bad, PAGE, asks, Form, over, number, name, Entry, word}
+use Rattle.console.specs.Line.{Line, bad, PAGE, asks, ticks, Form, over, number, name, Entry, word}
 use Rattle.console.specs.Line.{unknown, _↝_, calls, execs, numbers, forms}
 use Rattle.console.specs.Console.{obeyed}
 
@@ -39,6 +39,7 @@ abbrev pub saying : List ℕ → Said → Line
 saying nm Bad = bad
 saying nm Page = PAGE
 saying nm (Asks q) = asks (theRequest nm q)
+saying nm (Ticks n) = ticks n
 
 abbrev pub says : Command → Line
 says x = saying (x .name) (x .said)
@@ -69,30 +70,30 @@ pub record NumbersRead (s : List ℕ) (at n : ℕ) (r : Numbers) : Type 0 where
   pub says : (k : ℕ → ℕ → ℕ → Line) → counted n k (fieldsFrom s at) ≡ onNumbers k r
 
 -- The words as the code numbers them, each with the word before it, whether a name comes next, and how many numbers; others may come behind
--- a leading word. And what each says where no word comes behind it.
+-- a leading word, and where a field comes that is none of them, another row may hold in its place. And what each says where no word comes behind
+-- it.
 abbrev pub noWord : ℕ
-noWord = 29
+noWord = 30
 
-abbrev pub row : ℕ → Bool → ℕ → Word
-row before named n = record { 0 = before; 1 = named; 2 = n; 3 = true }
+abbrev pub row : ℕ → ℕ → Bool → ℕ → Word
+row own before named n = record { 0 = before; 1 = named; 2 = n; 3 = true; 4 = own }
 
-abbrev pub lead : ℕ → ℕ → Word
-lead before n = record { 0 = before; 1 = false; 2 = n; 3 = false }
+abbrev pub lead : ℕ → ℕ → ℕ → Word
+lead instead before n = record { 0 = before; 1 = false; 2 = n; 3 = false; 4 = instead }
 
 unfoldable pub rows : List Word
 rows =
-    lead noWord 0
-    ∷ row 0 false 3 ∷ row 0 true 1 ∷ row 0 true 0 ∷ row 0 true 0 ∷ row 0 true 0 ∷ row 0 true 1 ∷ row 0 true 1 ∷ row 0 false 0
-    ∷ lead 0 0 ∷ lead 0 0 ∷ row 0 false 0
-    ∷ row 9 false 2 ∷ row 9 false 2 ∷ lead 9 2 ∷ row 9 false 2 ∷ row 9 false 0 ∷ row 9 false 0 ∷ row 9 false 0
-    ∷ row 9 true 0 ∷ row 9 true 0 ∷ row 9 true 3
-    ∷ lead 10 0 ∷ row 10 false 2 ∷ row 10 false 1 ∷ row 10 false 1
-    ∷ row 22 false 1 ∷ row 22 false 1
-    ∷ row 14 false 0
+    lead 0 noWord 0
+    ∷ row 1 0 false 3 ∷ row 2 0 true 1 ∷ row 3 0 true 0 ∷ row 4 0 true 0 ∷ row 5 0 true 0
+    ∷ row 6 0 true 1 ∷ row 7 0 true 1 ∷ lead 29 0 0 ∷ lead 9 0 0 ∷ lead 10 0 0
+    ∷ row 11 0 false 0 ∷ row 12 9 false 2 ∷ row 13 9 false 2 ∷ lead 14 9 2 ∷ row 15 9 false 2
+    ∷ row 16 9 false 0 ∷ row 17 9 false 0 ∷ row 18 9 false 0 ∷ row 19 9 true 0 ∷ row 20 9 true 0
+    ∷ row 21 9 true 3 ∷ lead 22 10 0 ∷ row 23 10 false 2 ∷ row 24 10 false 1 ∷ row 25 10 false 1
+    ∷ row 26 22 false 1 ∷ row 27 22 false 1 ∷ row 28 14 false 0 ∷ row 29 noWord false 1
     ∷ []
 
 abbrev pub rowAt : ℕ → Word
-rowAt i = getD rows i (lead 0 0)
+rowAt i = getD rows i (lead 0 0 0)
 
 unfoldable pub requests : ℕ → ℕ → ℕ → List Said
 requests a b c =
@@ -104,7 +105,7 @@ requests a b c =
     ∷ Asks (Running (Exec12 a b c))
     ∷ Bad ∷ Asks (Running (Lock a b)) ∷ Asks (Running (Clear a)) ∷ Asks (Running (Free a))
     ∷ Asks (Running (Alloc false a)) ∷ Asks (Running (Alloc true a))
-    ∷ Asks (Running Exec5All)
+    ∷ Asks (Running Exec5All) ∷ Ticks a
     ∷ []
 
 abbrev pub request : ℕ → List ℕ → ℕ → ℕ → ℕ → Line
@@ -124,7 +125,8 @@ entries =
     ("" ↝ word forms unknown ∷ forms)
     ++ execs
     ++ numbers
-    ++ ("L" ↝ (number λ w. calls (ALLOC false w)) ∷ "G" ↝ (number λ w. calls (ALLOC true w)) ∷ "ALL" ↝ calls EXEC5ALL ∷ [])
+    ++ ("L" ↝ (number λ w. calls (ALLOC false w))
+    ∷ "G" ↝ (number λ w. calls (ALLOC true w)) ∷ "ALL" ↝ calls EXEC5ALL ∷ "" ↝ (number λ n. over (ticks n)) ∷ [])
 
 unfoldable pub keys : List (List ℕ)
 unfolding execs numbers forms entries
@@ -142,7 +144,7 @@ seek last f (r ∷ rs) (w ∷ ws) = cond (eqb (r .0) last && alike f w) 0 (suc (
 -- where each word begins in a row of all of them, with commas between; and that it does
 unfoldable pub starts : List ℕ
 starts = 0 ∷ 1 ∷ 7 ∷ 12 ∷ 15 ∷ 18 ∷ 21 ∷ 24 ∷ 27 ∷ 32 ∷ 37 ∷ 40 ∷ 45 ∷ 47 ∷ 50 ∷ 52 ∷ 55 ∷ 57 ∷ 59 ∷ 62 ∷ 64 ∷ 67 ∷ 70 ∷ 76 ∷ 81 ∷ 87 ∷ 92
-    ∷ 94 ∷ 96 ∷ 100 ∷ []
+    ∷ 94 ∷ 96 ∷ 100 ∷ 101 ∷ []
 
 abbrev pub startAt : ℕ → ℕ
 startAt i = getD starts i 0
@@ -164,6 +166,7 @@ abbrev pub isPage : Said → Bool
 isPage Bad = false
 isPage Page = true
 isPage (Asks q) = false
+isPage (Ticks n) = false
 
 -- the value, where there is one
 abbrev pub single : List ℕ → ℕ

@@ -43,6 +43,7 @@ fn obey(tables: Tables, command: Command, buf: &mut [u8]) -> Outcome
         },
         Said::Page => page::write_page(tables, buf),
         Said::Asks(q) => tables.ask(name, q),
+        Said::Ticks(n) => tables.ticks(n),
     }
 }
 
@@ -97,6 +98,16 @@ pub fn print_line(tables: Tables, line: &[u8], out: &mut [u8]) -> Outcome
         Said::Page => print_page(tables, out),
         Said::Asks(q) => {
             let outcome = tables.ask(name, q);
+            let after = outcome.tables;
+            let answer = outcome.answer;
+            let length = answers::put_answer(out, answer);
+            Outcome {
+                answer: Answer::Done(length as u64),
+                tables: after,
+            }
+        }
+        Said::Ticks(n) => {
+            let outcome = tables.ticks(n);
             let after = outcome.tables;
             let answer = outcome.answer;
             let length = answers::put_answer(out, answer);

@@ -19,6 +19,7 @@ pub enum Said {
     Bad,
     Page,
     Asks(Request),
+    Ticks(u64),
 }
 
 // The same, with the name in it; five blanks where there is none.

@@ -61,7 +61,7 @@ pub(crate) fn command_of(s: &[u8]) -> Command
         return not_said();
     }
     let all =
-        b",FRESH,LOAD,RU,SS,GO,PR,OF,TICK,EXEC,RN,PAGE,4,15,5,16,6,7,11,9,10,12,ALLOC,LOCK,CLEAR,FREE,L,G,ALL";
+        b",FRESH,LOAD,RU,SS,GO,PR,OF,TICK,EXEC,RN,PAGE,4,15,5,16,6,7,11,9,10,12,ALLOC,LOCK,CLEAR,FREE,L,G,ALL,";
     let mut at = 0;
     let mut last = 0;
     while at <= s.len() {
@@ -72,7 +72,7 @@ pub(crate) fn command_of(s: &[u8]) -> Command
         let end = text::part_end(s, at, b',');
         let word = words::which(s, at, end, last, all);
         if words::NO_WORD <= word {
-            return end_of(s, at, last);
+            return end_of(s, at, row.4 as usize);
         }
         at = end + 1;
         last = word;

@@ -10,41 +10,43 @@ use rules::Order;
 use rules::Request;
 
 // How many words there are; none has this number.
-pub(crate) const NO_WORD: usize = 29;
+pub(crate) const NO_WORD: usize = 30;
 
-// The word before, whether a name comes next, how many numbers come behind that, and whether it is a last word.
-pub(crate) struct Word(pub u8, pub bool, pub u8, pub bool);
+// The word before, whether a name comes next, how many numbers come behind that, and whether it is a last word; and the word whose row holds in
+// its place where a field comes behind it that is no word. The last row is no word of its own: it is TICK with a number.
+pub(crate) struct Word(pub u8, pub bool, pub u8, pub bool, pub u8);
 
 const WORDS: [Word; NO_WORD] = [
-    Word(29, false, 0, false), // the start
-    Word(0, false, 3, true), // FRESH,T,S,R
-    Word(0, true, 1, true), // LOAD,name,priority
-    Word(0, true, 0, true), // RU,name
-    Word(0, true, 0, true), // SS,name
-    Word(0, true, 0, true), // GO,name
-    Word(0, true, 1, true), // PR,name,number
-    Word(0, true, 1, true), // OF,name,figure
-    Word(0, false, 0, true), // TICK
-    Word(0, false, 0, false), // EXEC
-    Word(0, false, 0, false), // RN
-    Word(0, false, 0, true), // PAGE
-    Word(9, false, 2, true), // EXEC,4,n,w
-    Word(9, false, 2, true), // EXEC,15,n,w
-    Word(9, false, 2, false), // EXEC,5,n,start
-    Word(9, false, 2, true), // EXEC,16,n,start
-    Word(9, false, 0, true), // EXEC,6
-    Word(9, false, 0, true), // EXEC,7
-    Word(9, false, 0, true), // EXEC,11
-    Word(9, true, 0, true), // EXEC,9,name
-    Word(9, true, 0, true), // EXEC,10,name
-    Word(9, true, 3, true), // EXEC,12,name,resolution,multiple,offset
-    Word(10, false, 0, false), // RN,ALLOC
-    Word(10, false, 2, true), // RN,LOCK,r,w
-    Word(10, false, 1, true), // RN,CLEAR,r
-    Word(10, false, 1, true), // RN,FREE,r
-    Word(22, false, 1, true), // RN,ALLOC,L,w
-    Word(22, false, 1, true), // RN,ALLOC,G,w
-    Word(14, false, 0, true), // EXEC,5,ALL
+    Word(30, false, 0, false, 0), // the start
+    Word(0, false, 3, true, 1), // FRESH,T,S,R
+    Word(0, true, 1, true, 2), // LOAD,name,priority
+    Word(0, true, 0, true, 3), // RU,name
+    Word(0, true, 0, true, 4), // SS,name
+    Word(0, true, 0, true, 5), // GO,name
+    Word(0, true, 1, true, 6), // PR,name,number
+    Word(0, true, 1, true, 7), // OF,name,figure
+    Word(0, false, 0, false, 29), // TICK
+    Word(0, false, 0, false, 9), // EXEC
+    Word(0, false, 0, false, 10), // RN
+    Word(0, false, 0, true, 11), // PAGE
+    Word(9, false, 2, true, 12), // EXEC,4,n,w
+    Word(9, false, 2, true, 13), // EXEC,15,n,w
+    Word(9, false, 2, false, 14), // EXEC,5,n,start
+    Word(9, false, 2, true, 15), // EXEC,16,n,start
+    Word(9, false, 0, true, 16), // EXEC,6
+    Word(9, false, 0, true, 17), // EXEC,7
+    Word(9, false, 0, true, 18), // EXEC,11
+    Word(9, true, 0, true, 19), // EXEC,9,name
+    Word(9, true, 0, true, 20), // EXEC,10,name
+    Word(9, true, 3, true, 21), // EXEC,12,name,resolution,multiple,offset
+    Word(10, false, 0, false, 22), // RN,ALLOC
+    Word(10, false, 2, true, 23), // RN,LOCK,r,w
+    Word(10, false, 1, true, 24), // RN,CLEAR,r
+    Word(10, false, 1, true, 25), // RN,FREE,r
+    Word(22, false, 1, true, 26), // RN,ALLOC,L,w
+    Word(22, false, 1, true, 27), // RN,ALLOC,G,w
+    Word(14, false, 0, true, 28), // EXEC,5,ALL
+    Word(30, false, 1, true, 29), // TICK,n
 ];
 
 pub(crate) fn word_of(i: usize) -> Word
@@ -89,12 +91,13 @@ pub(crate) fn said_by(i: usize, a: u64, b: u64, c: u64) -> Said
         Said::Asks(Request::Running(Call::Alloc(false, a))),
         Said::Asks(Request::Running(Call::Alloc(true, a))),
         Said::Asks(Request::Running(Call::Exec5All)),
+        Said::Ticks(a),
     ];
     all[i]
 }
 
 // Where each word begins in the row of all words, with commas between them; and where another would.
-const STARTS: [usize; 30] = [
+const STARTS: [usize; 31] = [
     0,
     1,
     7,
@@ -125,6 +128,7 @@ const STARTS: [usize; 30] = [
     94,
     96,
     100,
+    101,
 ];
 
 // Which word behind word `last` the field s[at..end] is, or `NO_WORD`; `words` are all of them in a row.

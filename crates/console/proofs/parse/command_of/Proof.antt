@@ -7,7 +7,7 @@ use lib.ListN.{length}
 use borrow.Author.Needs.{needs}
 use Rattle.console.specs.Line.{lineOf}
 use Rattle.console.specs.Inner.{noWord, fieldsFrom, behind}
-use Rattle.console.proofs.WordLaws.{told-row, word-past, word-last, word-none, word-next, line-long, line-fits}
+use Rattle.console.proofs.WordLaws.{told-row, instead-known, word-past, word-last, word-none, word-next, line-long, line-fits}
 use Rattle.console.proofs.parse.command_of.Statement.{statement}
 use Rattle.console.proofs.parse.command_of.Tie as tie
 
@@ -38,16 +38,21 @@ which-requires : tie.Need-which-requires Inv-loop μ-loop
 which-requires c κs = (omega arith, (omega arith, told-row))
 
 end-of-requires-2 : tie.Need-end-of-requires-2 Inv-loop μ-loop
-end-of-requires-2 c κs = (omega arith, omega arith)
+end-of-requires-2 c κs =
+    let w = c .before .before in
+    let p = w .before .before in
+    let r = p .before .before in
+    let l = r .before .before in
+    (omega arith, instead-known (l .loop .last) (l .loop .inv .0) (r .word-of .ensures))
 
 returns-3 : tie.Need-returns-3 Inv-loop μ-loop
 returns-3 c =
-    let w = c .before .before in
+    let w = c .before .before .before in
     let p = w .before .before in
     let l = p .before .before .before .before in
     let s = l .before .before .before .before in
     let none = word-none (l .loop .inv .0) (s .args .s .now) (l .loop .at) (p .part-end .ensures) (w .which .ensures)
-    (c .before .if3 .taken) in
+    (p .before .before .word-of .ensures) (c .before .before .if3 .taken) in
     c .end-of2 .ensures ∙ sym (l .loop .inv .2 ∙ none)
 
 loop-again : tie.Need-loop-again Inv-loop μ-loop
@@ -72,5 +77,5 @@ pub command-of-spec : {M : Type 1} → statement M
 command-of-spec =
     tie.close
     (tie.spec Inv-loop μ-loop (λ c κs. search needs) returns loop-holds (λ c κs. omega arith) end-of-requires returns-2
-    (λ c κs. omega arith) which-requires end-of-requires-2 returns-3 (λ c. omega arith) (λ c. omega arith) loop-again
+    (λ c κs. omega arith) which-requires (λ c. search needs) end-of-requires-2 returns-3 (λ c. omega arith) (λ c. omega arith) loop-again
     end-of-requires-3 returns-4)
