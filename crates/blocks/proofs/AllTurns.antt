@@ -22,7 +22,7 @@ use Rattle.tables.specs.declared.Tables.{Tables}
 use Rattle.tables.specs.Tables.{plain}
 use Rattle.page.specs.Page.{bytes, lines, page}
 use Rattle.page.specs.Paging.{Written}
-use Rattle.console.specs.Line.{Line, bad, PAGE, asks, lineOf}
+use Rattle.console.specs.Line.{Line, bad, PAGE, asks, ticks, lineOf}
 use Rattle.console.specs.Console.{keyed}
 use Rattle.console.specs.Sheet.{bytesFor, lent, answerLine, shown, printed}
 use Rattle.blocks.specs.Blocks.{All, keptAfter, tablesAfter, Turn, turn, Turned, turned, turns}
@@ -47,6 +47,7 @@ shown-some PAGE t r = go (eqb (r .number) 0)
     go true = page-some (plain t)
     go false = answer-some r
 shown-some (asks q) t r = answer-some r
+shown-some (ticks n) t r = answer-some r
 
 printed-some : (t : Tables) (ls : List (List ℕ)) → length (printed t ls) ≡ 0 → ls ≡ []
 unfolding printed

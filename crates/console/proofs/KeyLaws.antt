@@ -13,7 +13,7 @@ use Rattle.tables.specs.declared.Tables.{Tables}
 use Rattle.tables.specs.Sound.{sound}
 use Rattle.tables.specs.Calls.{told, asked, manyTicks}
 use Rattle.tables.proofs.Serving.{asked-unsound}
-use Rattle.tables.proofs.ManyTicks.{many-unsound}
+use Rattle.tables.proofs.ManyTicks.{told-unsound}
 use Rattle.rules.specs.Engine.{beside, notSound, pagedIn}
 use Rattle.page.specs.Paging.{Written, paged}
 use Rattle.console.specs.declared.Said.{Said}
@@ -45,7 +45,7 @@ obeys-ticks t buf n = go (sound t) refl
   where
     go : (b : Bool) → sound t ≡ b → doing b t buf (ticks n) ≡ beside buf (manyTicks t n)
     go true e = refl
-    go false e = ap (beside buf) (many-unsound t n e)
+    go false e = ap (beside buf) (told-unsound t n e)
 
 pub obeys-page : (t : Tables) (buf : List ℕ) → obeys t buf PAGE ≡ paged t buf
 unfolding obeys pagedIn

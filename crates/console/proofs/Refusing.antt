@@ -3,20 +3,18 @@
 -- A plan that is refused holds no events, and where nothing happens the tables come back themselves; 12, 13 and 14 are
 -- told where the tables are handed back.
 -- Assumes nothing.
-use Prim.Native.Nat.{ℕ, _+_, _≤_}
+use Prim.Native.Nat.{ℕ, _≤_}
 use native.Mathlib.Omega.{arith}
 use mathlib.Core.Path.{_≡_, refl, ap, _∙_}
 use mathlib.Core.Bool.{Bool, true, false}
 use mathlib.Core.List.{List}
 use lib.ListN.{length}
 use lib.Dec.{leb}
-use Rattle.limits.specs.Limits.{mostTicks}
-use Rattle.lists.specs.Lists.{upTo}
-use Rattle.clock.specs.Clock.{ceiling}
 use Rattle.rules.specs.Requests.{Request}
 use Rattle.rules.specs.Keeper.{lists}
-use Rattle.rules.specs.Engine.{beside, tickedBy, writtenIn, pagedIn}
+use Rattle.rules.specs.Engine.{beside, writtenIn, pagedIn}
 use Rattle.rules.proofs.refusals.Refusals.{answered}
+use Rattle.rules.proofs.shared.ManyTicks.{Comes, refuses, makes, comes}
 use Rattle.tables.specs.declared.Tables.{Tables}
 use Rattle.tables.specs.Tables.{plain}
 use Rattle.tables.specs.Sound.{sound}
@@ -48,15 +46,11 @@ module _ (t : Tables) (buf : List ℕ) where
       go false e = rw (e, asked) (record { listed = omega arith; tables = λ h. refl; buffer = λ h. refl })
 
   pub ticked-kept : (n : ℕ) → Kept t buf (beside buf (manyTicks t n))
-  unfolding tickedBy
-  ticked-kept n = go (sound t) refl (upTo 1 mostTicks n) refl (leb (plain t .book .clock + n) ceiling) refl
+  ticked-kept n = go (comes sound (λ x. plain x .book .clock) asked t n)
     where
-      go : (x : Bool) → sound t ≡ x → (y : Bool) → upTo 1 mostTicks n ≡ y → (z : Bool) → leb (plain t .book .clock + n) ceiling ≡ z
-          → Kept t buf (beside buf (manyTicks t n))
-      go true e true r true c = rw (e, tickedBy, r, c) (record { listed = omega arith; tables = λ h. absurd (omega arith); buffer = λ h. refl })
-      go true e true r false c = rw (e, tickedBy, r, c) (record { listed = omega arith; tables = λ h. refl; buffer = λ h. refl })
-      go true e false r z c = rw (e, tickedBy, r) (record { listed = omega arith; tables = λ h. refl; buffer = λ h. refl })
-      go false e y r z c = rw (e, tickedBy) (record { listed = omega arith; tables = λ h. refl; buffer = λ h. refl })
+      go : Comes sound (λ x. plain x .book .clock) asked t n → Kept t buf (beside buf (manyTicks t n))
+      go (refuses a l h e) = rw e (record { listed = h; tables = λ k. refl; buffer = λ k. refl })
+      go (makes A) = rw (A .made) (record { listed = omega arith; tables = λ k. absurd (omega arith); buffer = λ k. refl })
 
   written-kept : Kept t buf (written t buf)
   unfolding writtenIn

@@ -1,6 +1,6 @@
 -- The tables after some lines: sound and with the arrays of the code's types where those before were; and line by line through a text.
 -- Assumes nothing.
-use Prim.Native.Nat.{ℕ, _+_, _≤_, _<_}
+use Prim.Native.Nat.{ℕ, zero, suc, _+_, _≤_, _<_}
 use mathlib.Core.Path.{_≡_, sym, ap, subst, _∙_}
 use mathlib.Core.Bool.{true}
 use mathlib.Core.List.{List, [], _∷_}
@@ -9,21 +9,23 @@ use lib.Seq.{slice}
 use Rattle.text.specs.Inner.{PartEnd}
 use Rattle.text.specs.Lines.{linesOf}
 use Rattle.text.proofs.Lines.{lines-none, lines-next}
-use Rattle.rules.specs.Requests.{Request}
+use Rattle.rules.specs.Requests.{Request, TICK}
 use Rattle.rules.specs.Plans.{Event, eventsOf}
 use Rattle.rules.specs.Keeper.{lists, State, play, view}
 use Rattle.rules.specs.Keeper as keeper
 use Rattle.rules.specs.Sound as rules
+use Rattle.rules.specs.Engine.{afterTicks}
 use Rattle.rules.proofs.soundness.SoundRuns.{sound-after}
+use Rattle.rules.proofs.shared.ManyTicks.{Comes, refuses, makes, comes}
 use Rattle.tables.specs.declared.Tables.{Tables}
 use Rattle.tables.specs.Tables.{plain, lay, Arrays}
 use Rattle.tables.specs.Sound.{sound}
-use Rattle.tables.specs.Calls.{laid, asked, served}
+use Rattle.tables.specs.Calls.{laid, asked, manyTicks, served}
 use Rattle.tables.proofs.Agree.{sound-clauses}
 use Rattle.tables.proofs.Plain.{sound-plain, sound-asked}
 use Rattle.page.specs.Paging.{Written, paged}
 use Rattle.reader.proofs.Lengths.{sized-arrays}
-use Rattle.console.specs.Line.{Line, bad, PAGE, asks, lineOf}
+use Rattle.console.specs.Line.{Line, bad, PAGE, asks, ticks, lineOf}
 use Rattle.console.specs.Console.{obeyed, keyed}
 use Rattle.console.specs.Sheet.{lent}
 use Rattle.blocks.specs.Blocks.{keptAfter, tablesAfter}
@@ -60,11 +62,25 @@ asked-good t q G = record {
       (sound-after (plain t) (sound-plain t (G .arrays) (sound-clauses t (G .test))) q));
 }
 
+-- so many ticks are one after another
+ticks-good : (n : ℕ) (t : Tables) → Good t → Good (afterTicks asked n t)
+unfolding afterTicks
+ticks-good zero t G = G
+ticks-good (suc n) t G = ticks-good n (asked t TICK .tables) (asked-good t TICK G)
+
+ticked-good : (t : Tables) (n : ℕ) → Good t → Good (manyTicks t n .tables)
+ticked-good t n G = go (comes sound (λ x. plain x .book .clock) asked t n)
+  where
+    go : Comes sound (λ x. plain x .book .clock) asked t n → Good (manyTicks t n .tables)
+    go (refuses a l h e) = rw e G
+    go (makes M) = rw (M .made) (ticks-good n t G)
+
 obeyed-good : (t : Tables) (x : Line) → Good t → Good (obeyed t lent x .tables)
 obeyed-good t bad G = G
 obeyed-good t PAGE G =
     subst Good (sym (ap (λ (w : Written). w .tables) (paged-sound t (G .test) lent) ∙ written-leaves t lent)) G
 obeyed-good t (asks q) G = asked-good t q G
+obeyed-good t (ticks n) G = ticked-good t n G
 
 keyed-good : (t : Tables) (l : List ℕ) → Good t → Good (keyed t l lent .tables)
 keyed-good t l G =

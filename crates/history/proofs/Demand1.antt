@@ -5,15 +5,16 @@
 -- Assumes nothing.
 use Prim.Native.Nat.{ℕ}
 use native.Mathlib.Omega.{arith}
-use mathlib.Core.Path.{_≡_, refl}
+use mathlib.Core.Path.{_≡_, refl, ap}
 use mathlib.Core.Logic.{_≢_}
 use mathlib.Core.Bool.{Bool, true, false}
 use mathlib.Core.List.{[], _∷_}
 use Rattle.rules.specs.Requests.{FRESH, LOAD, operator, TICK, running}
 use Rattle.rules.specs.Rules.{sizes}
 use Rattle.rules.specs.Engine.{beside, madeBy, pagedIn}
+use Rattle.rules.proofs.shared.ManyTicks.{many-unsound}
 use Rattle.tables.specs.declared.Tables.{Tables}
-use Rattle.tables.specs.Tables.{freshly, smallest}
+use Rattle.tables.specs.Tables.{plain, freshly, smallest}
 use Rattle.tables.specs.Sound.{sound}
 use Rattle.tables.specs.Calls.{asked, made}
 use Rattle.page.specs.Page.{page}
@@ -23,7 +24,7 @@ use Rattle.console.specs.Console.{keyedIn}
 use Rattle.history.specs.Runs.{Made, step, begun}
 use Rattle.history.specs.Runs as calls
 use Rattle.history.specs.Demand.{Refuses}
-use Rattle.console.proofs.Refusing.{Kept, asked-kept, paged-kept, keyed-kept}
+use Rattle.console.proofs.Refusing.{Kept, asked-kept, ticked-kept, paged-kept, keyed-kept}
 
 module _ (t : Tables) where
   made-kept : (T S R : ℕ) → Kept t [] (beside [] (begun linked t (madeBy freshly T S R)))
@@ -41,6 +42,7 @@ module _ (t : Tables) where
   step-kept (calls.request (operator o nm)) = asked-kept t [] (operator o nm)
   step-kept (calls.request TICK) = asked-kept t [] TICK
   step-kept (calls.request (running r)) = asked-kept t [] (running r)
+  step-kept (calls.ticks n) = ticked-kept t [] n
   step-kept (calls.page buf) = paged-kept t buf
   step-kept (calls.line bytes buf) = keyed-kept t buf bytes
 
@@ -66,5 +68,6 @@ unsound-refused t e (calls.request (LOAD nm m)) n = rw (e, asked)
 unsound-refused t e (calls.request (operator o nm)) n = rw (e, asked)
 unsound-refused t e (calls.request TICK) n = rw (e, asked)
 unsound-refused t e (calls.request (running r)) n = rw (e, asked)
+unsound-refused t e (calls.ticks m) n = ap (beside []) (many-unsound sound (λ x. plain x .book .clock) asked t m e)
 unsound-refused t e (calls.page buf) n = rw (e, pagedIn)
 unsound-refused t e (calls.line bytes buf) n = rw (e, keyedIn)

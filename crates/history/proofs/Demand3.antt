@@ -13,10 +13,12 @@ use lib.ListN.{length, getD}
 use lib.Seq.{ext-getD}
 use lib.Dec.{leb, eqb}
 use borrow.Author.Tests.{ne-eqb}
-use Rattle.lists.specs.Lists.{from, every}
+use Rattle.limits.specs.Limits.{mostTicks}
+use Rattle.lists.specs.Lists.{sum, from, every, upTo}
 use Rattle.lists.proofs.Tests.{and}
+use Rattle.clock.specs.Clock.{ceiling}
 use Rattle.rules.specs.Book.{Book}
-use Rattle.rules.specs.Requests.{Call, Request, running}
+use Rattle.rules.specs.Requests.{Call, Request, TICK, running}
 use Rattle.rules.specs.Plans.{Event, Plan, refused, numberOf, valuesOf, eventsOf}
 use Rattle.rules.specs.Rules.{call, sizes}
 use Rattle.rules.specs.Keeper.{lists, Entries, entries, sorted, State, play, view, asks, after, fresh}
@@ -27,18 +29,19 @@ use Rattle.rules.proofs.keepers.Alike.{Alike, fresh-alike, order-alike, asks-al
 use Rattle.rules.proofs.keepers.Notes.{accounts-alike, alike-accounts}
 use Rattle.rules.proofs.keepers.Demand.{demand}
 use Rattle.rules.proofs.refusals.Refusals.{answered}
+use Rattle.rules.proofs.shared.ManyTicks.{many-range, many-ceiling, many-made}
 use Rattle.rules.proofs.soundness.SoundFresh.{sound-fresh}
 use Rattle.rules.proofs.soundness.SoundRuns.{sound-after}
 use Rattle.chains.specs.Links.{linksOf}
 use Rattle.tables.specs.declared.Tables.{Tables}
 use Rattle.tables.specs.Tables.{plain, lay, freshly, smallest, Arrays}
 use Rattle.tables.specs.Sound.{sound}
-use Rattle.tables.specs.Calls.{Result, laid, planned, asked, made}
+use Rattle.tables.specs.Calls.{Result, laid, planned, asked, manyTicks, made}
 use Rattle.tables.proofs.Agree.{sound-clauses, sound-test}
 use Rattle.tables.proofs.Plain.{plain-lay, lay-sound, sound-plain}
 use Rattle.tables.proofs.Orderly.{orderly-lay, sound-orderly}
 use Rattle.page.specs.Page.{page}
-use Rattle.rules.specs.Engine.{Handed, beside, front, madeBy, writtenIn, pagedIn}
+use Rattle.rules.specs.Engine.{Handed, beside, front, afterTicks, sumOfTicks, tickedIn, madeBy, writtenIn, pagedIn}
 use Rattle.page.specs.Paging.{Written, linked, written, paged}
 use Rattle.console.specs.Line.{Line, bad, PAGE, lineOf}
 use Rattle.console.specs.Line as line
@@ -54,11 +57,11 @@ use Rattle.history.proofs.FirstEntries.{first-accounts}
 use Rattle.rules.proofs.Statements.{Acts}
 
 -- sound tables, laid out as their plain state is, and the notes of a replay that it is alike to
-record Kept (t : Tables) (n : State entries) : Type 0 where
-  test : sound t ≡ true
-  plainly : Sound (plain t)
-  laid : lay (plain t) ≡ t
-  alike : Alike (plain t) n
+pub record Kept (t : Tables) (n : State entries) : Type 0 where
+  pub test : sound t ≡ true
+  pub plainly : Sound (plain t)
+  pub laid : lay (plain t) ≡ t
+  pub alike : Alike (plain t) n
 
 -- a sound state laid out
 kept-lay : (a : State lists) → Sound a → (n : State entries) → Alike a n → Kept (lay a) n
@@ -72,10 +75,10 @@ kept-lay a S n k =
     }
 
 -- what is handed back, by the tables and by the replay: both say the same, the number is not 14, and tables and notes go on together
-record Alongside (w : Written) (x : Handed (State entries)) : Type 0 where
-  told : toldOf w ≡ toldOf x
-  answers : not (eqb (w .number) 14) ≡ true
-  kept : Kept (w .tables) (x .tables)
+pub record Alongside (w : Written) (x : Handed (State entries)) : Type 0 where
+  pub told : toldOf w ≡ toldOf x
+  pub answers : not (eqb (w .number) 14) ≡ true
+  pub kept : Kept (w .tables) (x .tables)
 
 not-14 : (a : ℕ) → a ≢ 14 → not (eqb a 14) ≡ true
 not-14 a n = ap not (ne-eqb a 14 n)
@@ -103,7 +106,7 @@ module _ (t : Tables) (n : State entries) (K : Kept t n) where
           ∙ sym (getD-from (sorted (n .book) (n .kept)) 1 6 s l)
 
   -- a request
-  along-asked : (buf : List ℕ) (q : Request) → Alongside (beside buf (asked t q)) (beside buf (replaying .asked n q))
+  pub along-asked : (buf : List ℕ) (q : Request) → Alongside (beside buf (asked t q)) (beside buf (replaying .asked n q))
   along-asked buf q =
       let e : asked t q ≡ planned t (asks lists (plain t) q) = asked-planned t (K .test) q in
       rw e
@@ -120,9 +123,47 @@ module _ (t : Tables) (n : State entries) (K : Kept t n) where
       kept-laid-out [] S m k = record { test = K .test; plainly = K .plainly; laid = K .laid; alike = k }
       kept-laid-out (e ∷ es) S m k = kept-lay (play lists (e ∷ es) (plain t)) S m k
 
+-- so many ticks, one after another: tables and notes go on together, and the values add up to the same
+along-ticks : (m : ℕ) (t : Tables) (n : State entries) → Kept t n
+    → Kept (afterTicks asked m t) (afterTicks (replaying .asked) m n) × (sumOfTicks asked m t ≡ sumOfTicks (replaying .asked) m n)
+unfolding afterTicks sumOfTicks
+along-ticks zero t n K = (K, refl)
+along-ticks (suc m) t n K =
+    let A = along-asked t n K [] TICK in
+    let rest = along-ticks m (asked t TICK .tables) (after entries n TICK) (A .kept) in
+    (rest .0, ap₂ (λ (vs : List ℕ) (k : ℕ). sum vs + k) (ap (λ (w : Handed (Unit {0})). w .values) (A .told)) (rest .1))
+
+module _ (t : Tables) (n : State entries) (K : Kept t n) where
+  clocks : plain t .book .clock ≡ n .book .clock
+  clocks = ap (λ (b : Book). b .clock) (sym (K .alike .book))
+
+  -- TICK,n
+  along-ticked : (buf : List ℕ) (m : ℕ) → Alongside (beside buf (manyTicks t m)) (beside buf (tickedIn replaying n m))
+  along-ticked buf m = go (upTo 1 mostTicks m) refl (leb (plain t .book .clock + m) ceiling) refl
+    where
+      go : (x : Bool) → upTo 1 mostTicks m ≡ x → (y : Bool) → leb (plain t .book .clock + m) ceiling ≡ y
+          → Alongside (beside buf (manyTicks t m)) (beside buf (tickedIn replaying n m))
+      go true r true c =
+          let A = along-ticks m t n K in
+          rw (many-made sound (λ x. plain x .book .clock) asked t m (K .test) r c,
+          many-made (replaying .sound) (replaying .clock) (replaying .asked) n m refl r (ap (λ (k : ℕ). leb (k + m) ceiling) (sym clocks) ∙ c))
+          (record {
+            told = λ i. record { number = 0; values = A .1 i ∷ []; tables = tt; buffer = buf };
+            answers = refl;
+            kept = A .0;
+          })
+      go true r false c =
+          rw (many-ceiling sound (λ x. plain x .book .clock) asked t m (K .test) r c,
+          many-ceiling (replaying .sound) (replaying .clock) (replaying .asked) n m refl r (ap (λ (k : ℕ). leb (k + m) ceiling) (sym clocks) ∙ c))
+          (record { told = refl; answers = refl; kept = K })
+      go false r y c =
+          rw (many-range sound (λ x. plain x .book .clock) asked t m (K .test) r,
+          many-range (replaying .sound) (replaying .clock) (replaying .asked) n m refl r)
+          (record { told = refl; answers = refl; kept = K })
+
   -- PAGE
   same-page : page (plain t) ≡ page (sortedOut n)
-  same-page = ap page kept-sorted
+  same-page = ap page (kept-sorted t n K)
 
   along-written : (buf : List ℕ) → Alongside (written t buf) (writtenIn replaying n buf)
   unfolding writtenIn
@@ -152,16 +193,18 @@ module _ (t : Tables) (n : State entries) (K : Kept t n) where
   along-obeyed : (buf : List ℕ) (l : Line) → Alongside (obeyed t buf l) (obeyedIn replaying n buf l)
   along-obeyed buf bad = record { told = refl; answers = refl; kept = K }
   along-obeyed buf PAGE = along-paged buf
-  along-obeyed buf (line.asks q) = along-asked buf q
+  along-obeyed buf (line.asks q) = along-asked t n K buf q
+  along-obeyed buf (line.ticks m) = along-ticked buf m
 
   along-keyed : (bytes buf : List ℕ) → Alongside (keyed t bytes buf) (keyedIn replaying n bytes buf)
   unfolding keyedIn
   along-keyed bytes buf = rw (K .test, keyedIn) (along-obeyed buf (lineOf bytes))
 
   -- any call
-  along : (c : Made) → Alongside (step linked t c) (step replaying n c)
+  pub along : (c : Made) → Alongside (step linked t c) (step replaying n c)
   unfolding step
-  along (calls.request q) = rw (requested-asked t (K .test) q, requested-replayed n q) (along-asked [] q)
+  along (calls.request q) = rw (requested-asked t (K .test) q, requested-replayed n q) (along-asked t n K [] q)
+  along (calls.ticks m) = along-ticked [] m
   along (calls.page buf) = along-paged buf
   along (calls.line bytes buf) = along-keyed bytes buf
 
@@ -188,12 +231,12 @@ module _ (t : Tables) (n : State entries) (K : Kept t n) where
   }
 
 -- a run
-run-kept : (cs : List Made) (t : Tables) (n : State entries) → Kept t n → Kept (run linked t cs) (run replaying n cs)
+pub run-kept : (cs : List Made) (t : Tables) (n : State entries) → Kept t n → Kept (run linked t cs) (run replaying n cs)
 unfolding run
 run-kept [] t n K = K
 run-kept (c ∷ cs) t n K = run-kept cs (step linked t c .tables) (step replaying n c .tables) (along t n K c .kept)
 
-run-told : (cs : List Made) (t : Tables) (n : State entries) → Kept t n
+pub run-told : (cs : List Made) (t : Tables) (n : State entries) → Kept t n
     → map toldOf (outcomes linked t cs) ≡ map toldOf (outcomes replaying n cs)
 unfolding outcomes
 run-told [] t n K = refl
@@ -291,7 +334,7 @@ kept-read bytes (no n) =
     subst (λ (t : Tables). Kept t (firstEntries (plain t))) (sym (ap (λ (r : Result). r .tables) (not-read bytes n)))
     (kept-first smallest smallest-arrays (kept-new 1 0 0 refl .test))
 
-kept-begun : (b : Beginning) → Kept (begins b) (notesOf b)
+pub kept-begun : (b : Beginning) → Kept (begins b) (notesOf b)
 unfolding begins notesOf
 kept-begun (calls.fresh T S R) = kept-made T S R (sizes T S R) refl
 kept-begun (calls.read bytes) = kept-read bytes (ℕ-discrete (reading bytes .number) 0)

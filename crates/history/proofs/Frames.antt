@@ -2,7 +2,9 @@
 -- be woken stays as it is, or its wait is over. What makes no request leaves the tables; a request asked of sound tables is the rule's, which
 -- has the frame; and tables that are not sound stay as they are.
 -- Assumes nothing.
-use Prim.Native.Nat.{ℕ}
+use Prim.Native.Nat.{ℕ, zero, suc, _+_, _≤_, _<_}
+use native.Mathlib.Omega.{arith}
+use native.Mathlib.Decide.{ℕ-discrete}
 use mathlib.Core.Path.{_≡_, refl, sym, ap, _∙_, subst}
 use mathlib.Core.Logic.{_≢_}
 use mathlib.Core.Bool.{Bool, true, false}
@@ -10,17 +12,25 @@ use mathlib.Core.List.{List}
 use Rattle.records.specs.Records.{Known}
 use Rattle.rules.specs.Book.{at}
 use Rattle.rules.specs.Requests.{Request, FRESH, LOAD, operator, TICK, running}
-use Rattle.rules.specs.Rules.{sizes}
-use Rattle.rules.specs.Keeper.{lists, State}
-use Rattle.rules.specs.Engine.{madeBy, pagedIn}
+use Rattle.clock.specs.Clock.{ceiling}
+use Rattle.rules.specs.Rules.{sizes, dueAt}
+use Rattle.rules.specs.Keeper.{lists, State, after}
+use Rattle.rules.specs.Sound.{Sound}
+use Rattle.rules.specs.Engine.{afterTicks, madeBy, pagedIn}
 use Rattle.rules.specs.Frame.{Stirred, stays}
 use Rattle.rules.proofs.frame.FrameLaws as rules
+use Rattle.rules.proofs.soundness.SoundRuns.{sound-after}
+use Rattle.rules.proofs.shared.ManyTicks.{Comes, refuses, makes, comes}
+use Rattle.timers.proofs.Moves.{sound-timely, tick-moved}
+use Rattle.timers.proofs.Ticking.{tick-undue}
 use Rattle.tables.specs.declared.Tables.{Tables}
-use Rattle.tables.specs.Tables.{plain, freshly, Arrays}
+use Rattle.tables.specs.Tables.{plain, lay, freshly, Arrays}
 use Rattle.tables.specs.Sound.{sound}
-use Rattle.tables.specs.Calls.{asked}
+use Rattle.tables.specs.Calls.{Result, asked, manyTicks}
 use Rattle.tables.proofs.Agree.{sound-clauses}
-use Rattle.tables.proofs.Plain.{sound-plain}
+use Rattle.tables.proofs.Plain.{plain-lay, sound-plain}
+use Rattle.tables.proofs.Orderly.{orderly-lay, sound-orderly}
+use Rattle.tables.proofs.ManyTicks.{tick-laid}
 use Rattle.tables.proofs.Demanded.{after-is}
 use Rattle.page.specs.Paging.{Written, linked, paged}
 use Rattle.console.specs.Line.{Line, bad, PAGE, lineOf}
@@ -28,7 +38,8 @@ use Rattle.console.specs.Line as line
 use Rattle.console.specs.Console.{keyedIn, obeyed, keyed}
 use Rattle.history.specs.Runs.{Made, step, begun}
 use Rattle.history.specs.Runs as calls
-use Rattle.history.specs.Demand.{Asks, by-call, by-line, Touches, anew, concerns, before, afterwards, Bystander}
+use Rattle.history.specs.Demand.{AsksTicks, ticks-call, ticks-line, Asks, by-call, by-line, Touches, anew, concerns, ticking}
+use Rattle.history.specs.Demand.{before, afterwards, Bystander}
 use Rattle.history.proofs.Steps.{written-leaves, paged-sound, keyed-sound}
 
 -- of tables that are not sound
@@ -44,6 +55,24 @@ module _ (t : Tables) (e : sound t ≡ false) where
   keyed-stays : (bytes buf : List ℕ) → keyed t bytes buf .tables ≡ t
   unfolding keyedIn
   keyed-stays bytes buf = rw (e, keyedIn)
+
+-- so many ticks of tables that are laid out, at none of which p is due
+undue-same : (m : ℕ) (a : State lists) → Sound a → a .book .clock + m ≤ ceiling → (p : ℕ) → Known p
+    → ((k : ℕ) → k < m → dueAt (plain (afterTicks asked k (lay a)) .book) p ≡ true → ⊥)
+    → at (plain (afterTicks asked m (lay a)) .book) p ≡ at (plain (lay a) .book) p
+unfolding afterTicks
+undue-same zero a S h p P f = refl
+undue-same (suc m) a S h p P f =
+    let b : State lists = after lists a TICK in
+    let B : Sound b = sound-after a S TICK in
+    let T = ap (λ (r : Result). r .tables) (tick-laid a S (omega arith)) in
+    let c : b .book .clock ≡ a .book .clock + 1 = ap (λ (x : State lists). x .book .clock) (tick-moved a (sound-timely a S) (omega arith)) in
+    ap (λ (u : Tables). at (plain (afterTicks asked m u) .book) p) T
+    ∙ undue-same m b B (omega (arith, c)) p P
+    (λ k l d. f (suc k) (omega arith) (ap (λ (u : Tables). dueAt (plain (afterTicks asked k u) .book) p) T ∙ d))
+    ∙ ap (λ (x : State lists). at (x .book) p) (plain-lay b B)
+    ∙ tick-undue a S (omega arith) p P (λ d. f 0 (omega arith) (ap (λ (x : State lists). dueAt (x .book) p) (plain-lay a S) ∙ d))
+    ∙ sym (ap (λ (x : State lists). at (x .book) p) (plain-lay a S))
 
 -- p's record in tables u is that in tables t
 abbrev Same : Tables → ℕ → Tables → Type 0
@@ -61,6 +90,30 @@ module _ (t : Tables) (A : Arrays t) (p : ℕ) (P : Known p) where
       go true e = ap (λ (x : State lists). at (x .book) p) (after-is t A e q)
           ∙ rules.frame lists (plain t) q p P (λ x. n (concerns q a e x))
       go false e = same (asked t q .tables) (asked-stays t e q)
+
+  -- TICK,n, which leaves the record of a program that is due at none of its ticks
+  ticks-same : (m : ℕ) → ((k : ℕ) → k < m → dueAt (plain (afterTicks asked k t) .book) p ≡ true → ⊥) → Same t p (manyTicks t m .tables)
+  ticks-same m f = go (comes sound (λ x. plain x .book .clock) asked t m)
+    where
+      go : Comes sound (λ x. plain x .book .clock) asked t m → Same t p (manyTicks t m .tables)
+      go (refuses a l h e) = same (manyTicks t m .tables) (ap (λ (r : Result). r .tables) e)
+      go (makes M) =
+          let S : Sound (plain t) = sound-plain t A (sound-clauses t (M .tested)) in
+          let i : t ≡ lay (plain t) = sym (orderly-lay t (sound-orderly t A (sound-clauses t (M .tested)))) in
+          ap (λ (r : Result). at (plain (r .tables) .book) p) (M .made)
+          ∙ ap (λ (u : Tables). at (plain (afterTicks asked m u) .book) p) i
+          ∙ undue-same m (plain t) S (M .below) p P (λ k h d. f k h (ap (λ (u : Tables). dueAt (plain (afterTicks asked k u) .book) p) i ∙ d))
+
+  ticked-same : (c : Made) (m : ℕ) → AsksTicks m c → (Touches t c p → ⊥) → Same t p (manyTicks t m .tables)
+  ticked-same c m a n = go (ℕ-discrete (manyTicks t m .number) 0)
+    where
+      go : Dec (manyTicks t m .number ≡ 0) → Same t p (manyTicks t m .tables)
+      go (yes z) = ticks-same m (λ k h d. n (ticking m k a z h d))
+      go (no w) = same (manyTicks t m .tables) (refused (comes sound (λ x. plain x .book .clock) asked t m))
+        where
+          refused : Comes sound (λ x. plain x .book .clock) asked t m → manyTicks t m .tables ≡ t
+          refused (refuses b l h e) = ap (λ (r : Result). r .tables) e
+          refused (makes M) = absurd (w (ap (λ (r : Result). r .number) (M .made)))
 
   -- FRESH as a call of its own
   made-same : (T S R : ℕ) → (Touches t (calls.request (FRESH T S R)) p → ⊥) → Same t p (begun linked t (madeBy freshly T S R) .tables)
@@ -85,6 +138,7 @@ module _ (t : Tables) (A : Arrays t) (p : ℕ) (P : Known p) where
       obeyed-same bad e = refl
       obeyed-same PAGE e = paged-same buf
       obeyed-same (line.asks q) e = asked-same (calls.line bytes buf) q (by-line bytes buf e) n
+      obeyed-same (line.ticks m) e = ticked-same (calls.line bytes buf) m (ticks-line bytes buf e) n
 
       go : (b : Bool) → sound t ≡ b → Same t p (keyed t bytes buf .tables)
       go true e = ap (λ (w : Written). at (plain (w .tables) .book) p) (keyed-sound t e bytes buf) ∙ obeyed-same (lineOf bytes) refl
@@ -98,6 +152,7 @@ module _ (t : Tables) (A : Arrays t) (p : ℕ) (P : Known p) where
   frame (calls.request (operator o nm)) n = asked-same _ _ by-call n
   frame (calls.request TICK) n = asked-same _ TICK by-call n
   frame (calls.request (running r)) n = asked-same _ _ by-call n
+  frame (calls.ticks m) n = ticked-same _ m ticks-call n
   frame (calls.page buf) n = paged-same buf
   frame (calls.line bytes buf) n = keyed-same bytes buf n
 
@@ -121,6 +176,7 @@ module _ (t : Tables) (A : Arrays t) (p : ℕ) (P : Known p) where
       obeyed-stirred bad e = stays refl
       obeyed-stirred PAGE e = stays (paged-same buf)
       obeyed-stirred (line.asks q) e = asked-stirred (calls.line bytes buf) B q (by-line bytes buf e)
+      obeyed-stirred (line.ticks m) e = stays (ticks-same m (λ k h d. B .undue m k (ticks-line bytes buf e) h d))
 
       go : (b : Bool) → sound t ≡ b → Stirred (before t p) (at (plain (keyed t bytes buf .tables) .book) p)
       go true e =
@@ -135,5 +191,6 @@ module _ (t : Tables) (A : Arrays t) (p : ℕ) (P : Known p) where
   stirred (calls.request (operator o nm)) B = asked-stirred _ B _ by-call
   stirred (calls.request TICK) B = asked-stirred _ B TICK by-call
   stirred (calls.request (running r)) B = asked-stirred _ B _ by-call
+  stirred (calls.ticks m) B = stays (ticks-same m (λ k h d. B .undue m k ticks-call h d))
   stirred (calls.page buf) B = stays (paged-same buf)
   stirred (calls.line bytes buf) B = keyed-stirred bytes buf B

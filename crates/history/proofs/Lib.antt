@@ -4,3 +4,4 @@ pub mod Frames
 pub mod Begins
 pub mod FirstEntries
 pub mod Demand3
+pub mod Singly

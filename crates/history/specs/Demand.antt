@@ -108,7 +108,7 @@ pub record ReadSingly (E : Engine) (t : E .Form) (cs : List Made) (c : Made) (n 
   pub each : map (λ (w : Handed (E .Form)). w .number) (outcomes E (run E t cs) (singly n)) ≡ replicate n 0
   pub value : step E (run E t cs) c .values
       ≡ sum (join (map (λ (w : Handed (E .Form)). w .values) (outcomes E (run E t cs) (singly n)))) ∷ []
-  pub goes-on : run E t (cs ++ c ∷ ds) ≡ run E t (cs ++ singly n ++ ds)
+  pub goes-on : run E t (cs ++ c ∷ ds) ≡ run E t (cs ++ (singly n ++ ds))
 
 -- The frame, of any tables. The request that a call makes, if it makes one
 pub data Asks (q : Request) : Made → Type 0 where

@@ -8,3 +8,4 @@ pub mod Parts
 pub mod Ordering
 pub mod Settling
 pub mod OneAnswer
+pub mod ManyTicks

@@ -23,7 +23,7 @@ use Rattle.tables.specs.Demand.{Claim, ValueFreed, ValueAwoken, ValueRou
 use Rattle.tables.proofs.Agree.{sound-clauses}
 use Rattle.tables.proofs.Plain.{plain-lay, sound-plain, laid-is}
 use Rattle.tables.proofs.Orderly.{sound-orderly}
-use Rattle.tables.proofs.ManyTicks.{many-accepted, many-done}
+use Rattle.tables.proofs.ManyTicks.{ticks-accepted, many-done}
 use Rattle.timers.specs.Inner.{ticksOn}
 use Rattle.timers.proofs.Ticking.{sound-ticks}
 use Rattle.timers.proofs.Roused.{started-roused}
@@ -94,7 +94,7 @@ module _ (t : Tables) (A : Arrays t) (e : sound t ≡ true) where
   -- so many ticks at once
   many-roused : (n : ℕ) → manyTicks t n .number ≡ 0 → ValueRoused t (manyTicks t n)
   many-roused n z =
-      let P = many-accepted t n z in
+      let P = ticks-accepted t n z in
       let d = many-done t (sound-orderly t A (sound-clauses t e)) e plainly n (P .least) (P .most) (P .below) in
       ap (λ (r : Result). r .values) d
       ∙ ap (λ (k : ℕ). k ∷ []) (started-roused n (plain t) plainly (P .below))

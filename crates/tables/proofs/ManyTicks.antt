@@ -9,10 +9,10 @@ use mathlib.Core.Bool.{Bool, true, false, _&&_}
 use mathlib.Core.List.{List, [], _∷_}
 use lib.ListN.{length, getD}
 use lib.Dec.{ltb, leb}
-use borrow.Author.Tests.{leb-true, lt-ltb, le-ltb, le-leb, lt-leb}
+use borrow.Author.Tests.{lt-ltb, le-ltb, le-leb, lt-leb}
 use Rattle.limits.specs.Limits.{mostTicks}
 use Rattle.lists.specs.Lists.{hit, sum, upTo}
-use Rattle.lists.proofs.Tests.{upTo-is, upTo-true, not-both}
+use Rattle.lists.proofs.Tests.{upTo-is, not-both}
 use Rattle.clock.specs.Clock.{ceiling}
 use Rattle.records.specs.declared.Program.{Program}
 use Rattle.records.specs.Records.{Known, missing}
@@ -20,9 +20,10 @@ use Rattle.rules.specs.declared.Answer.the-variants.{NotAllowed, AtCeiling, Not
 use Rattle.rules.specs.Requests.{TICK}
 use Rattle.rules.specs.Plans.{Plan, valuesOf}
 use Rattle.rules.specs.Keeper.{lists, State, asks, after}
-use Rattle.rules.specs.Engine.{afterTicks, sumOfTicks, tickedBy}
+use Rattle.rules.specs.Engine.{afterTicks, sumOfTicks}
 use Rattle.rules.specs.Sound as rules
 use Rattle.rules.proofs.soundness.SoundRuns.{sound-after}
+use Rattle.rules.proofs.shared.ManyTicks.{many-unsound, many-range, many-ceiling, many-made, Accepted, many-accepted}
 use Rattle.timers.specs.Inner.{starters, movedTo, nextStart, sleepers, ticksOn, startedOn}
 use Rattle.timers.proofs.Moves.{sound-timely, tick-plan, tick-played, tick-starters, tick-value, tick-moved}
 use Rattle.timers.proofs.Ticking.{ticks-parts, started-parts, sound-ticks, ticks-moved}
@@ -90,55 +91,29 @@ sums-laid (suc n) a S h =
     (omega (arith, tick-value a (sound-timely a S) (omega arith)))
     (sums-laid n (after lists a TICK) (sound-after a S TICK) (omega (arith, ticked-clock a S (omega arith))))
 
--- WHAT TICK,n HANDS BACK
+-- WHAT TICK,n HANDS BACK, and how the code tells a refusal
+abbrev clockOf : Tables → ℕ
+clockOf t = plain t .book .clock
+
 module _ (t : Tables) (n : ℕ) where
-  pub many-unsound : sound t ≡ false → told (record { answer = NotSound; tables = t }) ≡ manyTicks t n
-  unfolding tickedBy
-  many-unsound e = rw (e, tickedBy)
+  pub told-unsound : sound t ≡ false → told (record { answer = NotSound; tables = t }) ≡ manyTicks t n
+  told-unsound e = sym (many-unsound sound clockOf asked t n e)
 
-  module _ (e : sound t ≡ true) where
-    pub many-range : upTo 1 mostTicks n ≡ false → told (record { answer = NotAllowed; tables = t }) ≡ manyTicks t n
-    unfolding tickedBy
-    many-range r = rw (e, tickedBy, r)
+  pub told-range : sound t ≡ true → upTo 1 mostTicks n ≡ false → told (record { answer = NotAllowed; tables = t }) ≡ manyTicks t n
+  told-range e r = sym (many-range sound clockOf asked t n e r)
 
-    module _ (r : upTo 1 mostTicks n ≡ true) where
-      pub many-ceiling : leb (plain t .book .clock + n) ceiling ≡ false → told (record { answer = AtCeiling; tables = t }) ≡ manyTicks t n
-      unfolding tickedBy
-      many-ceiling c = rw (e, tickedBy, r, c)
+  pub told-ceiling : sound t ≡ true → upTo 1 mostTicks n ≡ true → leb (plain t .book .clock + n) ceiling ≡ false
+      → told (record { answer = AtCeiling; tables = t }) ≡ manyTicks t n
+  told-ceiling e r c = sym (many-ceiling sound clockOf asked t n e r c)
 
-      pub many-made : leb (plain t .book .clock + n) ceiling ≡ true
-          → manyTicks t n ≡ record { number = 0; values = sumOfTicks asked n t ∷ []; tables = afterTicks asked n t }
-      unfolding tickedBy
-      many-made c = rw (e, tickedBy, r, c)
-
--- where it is done
-pub record Accepted (t : Tables) (n : ℕ) : Type 0 where
-  pub sound : sound t ≡ true
-  pub least : 1 ≤ n
-  pub most : n ≤ mostTicks
-  pub below : plain t .book .clock + n ≤ ceiling
-  pub made : manyTicks t n ≡ record { number = 0; values = sumOfTicks asked n t ∷ []; tables = afterTicks asked n t }
-
-pub many-accepted : (t : Tables) (n : ℕ) → manyTicks t n .number ≡ 0 → Accepted t n
-many-accepted t n z = go (sound t) refl (upTo 1 mostTicks n) refl (leb (plain t .book .clock + n) ceiling) refl
-  where
-    go : (x : Bool) → sound t ≡ x → (y : Bool) → upTo 1 mostTicks n ≡ y → (w : Bool) → leb (plain t .book .clock + n) ceiling ≡ w → Accepted t n
-    go true e true r true c = record {
-      sound = e;
-      least = upTo-true 1 mostTicks n r .0;
-      most = upTo-true 1 mostTicks n r .1;
-      below = leb-true (plain t .book .clock + n) ceiling c;
-      made = many-made t n e r c;
-    }
-    go true e true r false c = absurd (omega (arith, z, ap (λ (x : Result). x .number) (many-ceiling t n e r c)))
-    go true e false r w c = absurd (omega (arith, z, ap (λ (x : Result). x .number) (many-range t n e r)))
-    go false e y r w c = absurd (omega (arith, z, ap (λ (x : Result). x .number) (many-unsound t n e)))
+  pub ticks-accepted : manyTicks t n .number ≡ 0 → Accepted sound clockOf asked t n
+  ticks-accepted = many-accepted sound clockOf asked t n
 
 module _ (t : Tables) (O : Orderly t) (e : sound t ≡ true) (S : rules.Sound (plain t)) (n : ℕ) (least : 1 ≤ n) (most : n ≤ mostTicks)
     (below : plain t .book .clock + n ≤ ceiling) where
   pub many-done : manyTicks t n ≡ counted (startedOn n (plain t)) (lay (ticksOn n (plain t)))
   many-done =
-      many-made t n e (upTo-is 1 mostTicks n least most) (le-leb (plain t .book .clock + n) ceiling below)
+      many-made sound clockOf asked t n e (upTo-is 1 mostTicks n least most) (le-leb (plain t .book .clock + n) ceiling below)
       ∙ ap (λ (u : Tables). counted (sumOfTicks asked n u) (afterTicks asked n u)) (sym (orderly-lay t O))
       ∙ ap₂ counted (sums-laid n (plain t) S below) (ticks-laid n (plain t) S below)
 

@@ -1,15 +1,18 @@
 -- So many ticks, of which only the last starts anybody, are one move; and ticks may be made in parts. Sound states stay sound under them.
 -- Assumes nothing.
-use Prim.Native.Nat.{ℕ, zero, suc, _+_, _≤_, _<_}
+use Prim.Native.Nat.{ℕ, zero, suc, _+_, _-_, _≤_, _<_}
 use native.Mathlib.Omega.{arith}
 use mathlib.Core.Path.{_≡_, refl, sym, ap, ap₂, _∙_, subst}
-use mathlib.Core.Bool.{Bool, true, false}
+use mathlib.Core.Bool.{Bool, true, false, cond}
 use mathlib.Core.List.{List, []}
 use lib.ListN.{length, getD}
+use lib.Dec.{eqb}
 use Rattle.lists.specs.Lists.{sum}
 use Rattle.clock.specs.Clock.{ceiling}
 use Rattle.records.specs.declared.Program.{Program}
-use Rattle.records.specs.Records.{missing}
+use Rattle.records.specs.Records.{Known, missing}
+use Rattle.rules.specs.Book.{at}
+use Rattle.rules.specs.Rules.{dueAt}
 use Rattle.rules.specs.Requests.{TICK}
 use Rattle.rules.specs.Plans.{valuesOf}
 use Rattle.rules.specs.Keeper.{lists, State, asks, after}
@@ -17,7 +20,7 @@ use Rattle.rules.specs.Sound.{Sound}
 use Rattle.rules.proofs.soundness.SoundRuns.{sound-after}
 use Rattle.timers.specs.Inner.{fallsDue, starts, starters, movedTo, NoStart, ticksOn, startedOn}
 use Rattle.timers.proofs.Striking.{falls-later, starts-by, starts-not}
-use Rattle.timers.proofs.Moves.{sound-timely, tick-value, tick-moved, none-start, same-starters, moved-again, idle-still}
+use Rattle.timers.proofs.Moves.{stroke, struck-tick, moved-at, sound-timely, tick-value, tick-moved, none-start, same-starters, moved-again, idle-still}
 
 -- ticks made in parts
 pub ticks-parts : (j k : ℕ) (a : State lists) → ticksOn (j + k) a ≡ ticksOn k (ticksOn j a)
@@ -85,3 +88,17 @@ ticks-moved (suc k) a S h N =
         ap (λ (n : ℕ). length (starters n (a .book))) v,
       ),
     )
+
+-- a tick leaves the record of a program that is not due at it
+pub tick-undue : (a : State lists) → Sound a → a .book .clock < ceiling → (p : ℕ) → Known p → (dueAt (a .book) p ≡ true → ⊥)
+    → at (after lists a TICK .book) p ≡ at (a .book) p
+unfolding dueAt
+tick-undue a S h p P n =
+    ap (λ (x : State lists). at (x .book) p) (tick-moved a (sound-timely a S) h)
+    ∙ moved-at (a .book .clock + 1) (a .book .programs) (p - 1)
+    ∙ struck-tick (a .book .clock) (at (a .book) p) (S .dues .above p P)
+    ∙ ap (λ (b : Bool). cond b (stroke (at (a .book) p)) (at (a .book) p)) (go (eqb (at (a .book) p .due) (a .book .clock + 1)) refl)
+  where
+    go : (b : Bool) → eqb (at (a .book) p .due) (a .book .clock + 1) ≡ b → eqb (at (a .book) p .due) (a .book .clock + 1) ≡ false
+    go true e = absurd (n e)
+    go false e = e

@@ -12,7 +12,7 @@ use Rattle.lists.proofs.Tests.{upTo-is}
 use Rattle.clock.specs.Clock.{ceiling}
 use Rattle.tables.specs.Calls.{told}
 use Rattle.tables.proofs.Readied.{clock-most}
-use Rattle.tables.proofs.ManyTicks.{range-low, range-high, many-range, many-ceiling, many-ticked}
+use Rattle.tables.proofs.ManyTicks.{range-low, range-high, told-range, told-ceiling, many-ticked}
 use Rattle.tables.proofs.Tables.ticked.Statement.{statement}
 use Rattle.tables.proofs.Tables.ticked.Tie as tie
 
@@ -20,13 +20,13 @@ returns : tie.Need-returns
 returns c =
     let s = c .before .before in
     ap told (c .refused .ensures)
-    ∙ many-range (s .args .self) (s .args .n) (s .pre .ready .sound) (range-low (s .args .n) (c .before .if1 .taken))
+    ∙ told-range (s .args .self) (s .args .n) (s .pre .ready .sound) (range-low (s .args .n) (c .before .if1 .taken))
 
 returns-2 : tie.Need-returns-2
 returns-2 c =
     let s = c .before .before .before in
     ap told (c .refused2 .ensures)
-    ∙ many-range (s .args .self) (s .args .n) (s .pre .ready .sound) (range-high (s .args .n) (c .before .if2 .taken))
+    ∙ told-range (s .args .self) (s .args .n) (s .pre .ready .sound) (range-high (s .args .n) (c .before .if2 .taken))
 
 add-end : tie.Need-add-end
 add-end c =
@@ -41,7 +41,7 @@ returns-3 c =
     let s = e .before .before .before in
     let n = s .args .n in
     ap told (c .refused3 .ensures)
-    ∙ many-ceiling (s .args .self) n (s .pre .ready .sound)
+    ∙ told-ceiling (s .args .self) n (s .pre .ready .sound)
     (upTo-is 1 mostTicks n (omega (arith, e .before .before .if1 .left)) (omega (arith, e .before .if2 .left)))
     (lt-leb (s .args .self .ledger .clock .ticks + n) ceiling (c .before .if3 .taken))
 

@@ -10,7 +10,7 @@ use Rattle.tables.specs.Inner.{Ready, Tested}
 use Rattle.tables.proofs.Agree.{sound-clauses}
 use Rattle.tables.proofs.Plain.{sound-plain}
 use Rattle.tables.proofs.Readied.{tested-is}
-use Rattle.tables.proofs.ManyTicks.{many-unsound}
+use Rattle.tables.proofs.ManyTicks.{told-unsound}
 use Rattle.tables.proofs.Tables.ticks.Statement.{statement}
 use Rattle.tables.proofs.Tables.ticks.Tie as tie
 
@@ -40,7 +40,7 @@ returns c = c .ticked .ensures
 returns-2 : tie.Need-returns-2
 returns-2 c =
     let o = c .before .before in
-    ap told (c .refused .ensures) ∙ many-unsound (o .before .args .self) _ (sym (tested o .is) ∙ c .before .if1 .left)
+    ap told (c .refused .ensures) ∙ told-unsound (o .before .args .self) _ (sym (tested o .is) ∙ c .before .if1 .left)
 
 pub ticks-spec : {M : Type 1} → statement M
 ticks-spec = tie.close (tie.spec (λ c κs. search needs) ticked-requires returns (λ c κs. search needs) returns-2)
