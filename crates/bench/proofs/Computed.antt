@@ -10,7 +10,7 @@ use Rattle.records.specs.Records.{all, find, lowestUnused}
 use Rattle.rules.specs.Plans.{woken, need, either, found}
 use Rattle.rules.specs.Rules.{named, inside, waits, frees, clears, endsIn, order, dueAt, takes, gives, allocated, call, asCaller, plan}
 use Rattle.rules.specs.Keeper.{act, step}
-use Rattle.rules.specs.Engine.{madeBy, writtenIn, pagedIn}
+use Rattle.rules.specs.Engine.{afterTicks, sumOfTicks, tickedBy, madeBy, writtenIn, pagedIn}
 use Rattle.rules.specs.Test.{testNames, testZeros, testChains, testWhys, testMarks, testSystem, testUsers, testUnlocked}
 use Rattle.rules.specs.Test.{testLimits, testDues}
 use Rattle.chains.specs.Links.{walk, read, testLinks, linksOf}
@@ -29,7 +29,7 @@ pub computed : toldAnew bench ≡ bench
 unfolding
     same digits decimal numberOf parts entry timeOf nameOf all find lowestUnused need either found named inside waits woken frees clears
     endsIn order dueAt takes gives allocated call asCaller plan act step testNames testZeros testChains testWhys testMarks testSystem testUsers
-    testUnlocked testLimits testDues walk read testLinks linksOf testBlank sound served asked madeBy bytes usedIn recordLines chainLines
+    testUnlocked testLimits testDues walk read testLinks linksOf testBlank sound served asked afterTicks sumOfTicks tickedBy madeBy bytes usedIn recordLines chainLines
     heldLine heldLines numberLine numberLines lines page writtenIn pagedIn execs numbers forms lineOf keyedIn answerLine linesOf printed
     sheet history.step tell tellAll printAll toldAnew bench
 computed = refl

@@ -14,11 +14,12 @@ use Rattle.tables.specs.declared.Tables.{Tables}
 use Rattle.tables.specs.Tables.{plain}
 use Rattle.page.specs.Paging.{Written, linked}
 use Rattle.console.specs.Sheet.{sheet}
-use Rattle.history.specs.Runs.{request, page, line, step}
+use Rattle.history.specs.Runs.{request, ticks, page, line, step}
 
 pub data Step : Type 0 where
   key : String → ℕ → List ℕ → Step  -- a console line, its number and values
   ask : Request → ℕ → List ℕ → Step  -- a request with parameters that no line carries
+  many : ℕ → ℕ → List ℕ → Step  -- TICK,n as a call, its number and values
   chain : ℕ → List ℕ → Step  -- the chain of a state
   noted : ℕ → ℕ → ℕ → ℕ → ℕ → Step  -- a program: its state, the son it awaits, its due and interval
   mark : ℕ → Bool → Step  -- whether a program's mark stands
@@ -42,6 +43,7 @@ unfoldable pub tell : Tables → List Step → List Step
 tell t [] = []
 tell t (key s a vs ∷ ss) = let r : Written = step linked t (line (text s) []) in key s (r .number) (r .values) ∷ tell (r .tables) ss
 tell t (ask q a vs ∷ ss) = let r : Written = step linked t (request q) in ask q (r .number) (r .values) ∷ tell (r .tables) ss
+tell t (many n a vs ∷ ss) = let r : Written = step linked t (ticks n) in many n (r .number) (r .values) ∷ tell (r .tables) ss
 tell t (chain s c ∷ ss) = chain s (getD (plain t .kept) s []) ∷ tell t ss
 tell t (noted p s k d i ∷ ss) =
     noted p (at (plain t .book) p .state) (sonOf (at (plain t .book) p .why)) (at (plain t .book) p .due) (at (plain t .book) p .interval)

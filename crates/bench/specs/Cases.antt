@@ -14,7 +14,7 @@ use Rattle.rules.specs.Book.{put, withClock, freshBook}
 use Rattle.rules.specs.Keeper.{lists, State}
 use Rattle.tables.specs.declared.Tables.{Tables}
 use Rattle.tables.specs.Tables.{lay, smallest}
-use Rattle.bench.specs.Case.{Step, key, ask, chain, noted, mark, clock, written, Case, Printed, Bench}
+use Rattle.bench.specs.Case.{Step, key, ask, many, chain, noted, mark, clock, written, Case, Printed, Bench}
 
 -- a case that starts with the smallest tables, as `sheet` does
 abbrev case : List Step → Case
@@ -187,7 +187,7 @@ largeNumbers = case (
 -- tables whose links go round in a circle: 14 for any request, and the tables stay
 abbrev notSound : Case
 notSound =
-    record { start = circular; steps = told "TICK" 14 ∷ told "FRESH,4,1,1" 14 ∷ told "no such line" 14 ∷ told "PAGE" 14 ∷ clock 0 ∷ [] }
+    record { start = circular; steps = told "TICK" 14 ∷ told "TICK,3" 14 ∷ told "TICK,0" 14 ∷ told "FRESH,4,1,1" 14 ∷ told "no such line" 14 ∷ told "PAGE" 14 ∷ clock 0 ∷ [] }
 
 -- EXEC 11 needs a caller; EXEC 7 is done with value 0
 abbrev needsCaller : Case
@@ -253,6 +253,41 @@ markGoes = case (
     ∷ waits "EXEC,4,1,0" 5 ∷ mark 1 false ∷ ok "SS,A" 0 ∷ ok "OF,A,8" 0 ∷ mark 1 false ∷ ok "LOAD,B,10" 1 ∷ ok "RU,B" 0
     ∷ waits "EXEC,4,1,0" 5 ∷ mark 1 false ∷ [])
 
+-- many ticks at once (request (iii)): what `movedOn` and `byNumber` show tick by tick
+abbrev movedFar : Case
+movedFar = case (
+    ok "FRESH,2,2,0" 0 ∷ ok "LOAD,A,1" 1 ∷ ok "LOAD,B,5" 2 ∷ ok "RU,A" 0 ∷ ok "EXEC,12,A,1,3,1" 1 ∷ ok "EXEC,12,B,1,0,2" 2
+    ∷ waits "EXEC,4,1,0" 5 ∷ ok "TICK,4" 1 ∷ clock 4 ∷ noted 1 5 0 7 3 ∷ noted 2 1 0 0 0 ∷ ok "TICK,2" 0 ∷ noted 1 5 0 7 3
+    ∷ ok "TICK,1" 0 ∷ noted 1 5 0 10 3 ∷ clock 7 ∷ [])
+
+abbrev byNumberAtOnce : Case
+byNumberAtOnce = case (
+    ok "FRESH,1,0,0" 0 ∷ ok "LOAD,A,10" 1 ∷ ok "LOAD,B,10" 2 ∷ ok "LOAD,C,5" 3 ∷ ok "RU,C" 0 ∷ ok "EXEC,12,B,1,0,2" 2
+    ∷ ok "EXEC,12,A,1,0,2" 2 ∷ ok "TICK,2" 2 ∷ chain 1 (3 ∷ 1 ∷ 2 ∷ []) ∷ [])
+
+-- across moments by due, and not by number
+abbrev byDue : Case
+byDue = case (
+    ok "FRESH,1,0,0" 0 ∷ ok "LOAD,A,10" 1 ∷ ok "LOAD,B,10" 2 ∷ ok "LOAD,C,5" 3 ∷ ok "RU,C" 0 ∷ ok "EXEC,12,A,1,0,3" 3
+    ∷ ok "EXEC,12,B,1,0,1" 1 ∷ ok "TICK,3" 2 ∷ chain 1 (3 ∷ 2 ∷ 1 ∷ []) ∷ [])
+
+-- a program is started once, though its timer falls due again; a timer that runs once is spent on a program that is not dormant
+abbrev startedOnce : Case
+startedOnce = case (
+    ok "FRESH,1,0,0" 0 ∷ ok "LOAD,A,10" 1 ∷ ok "LOAD,C,5" 2 ∷ ok "RU,C" 0 ∷ ok "EXEC,12,A,1,2,1" 1 ∷ ok "EXEC,12,C,1,0,3" 3
+    ∷ ok "TICK,6" 1 ∷ noted 1 1 0 7 2 ∷ noted 2 1 0 0 0 ∷ chain 1 (2 ∷ 1 ∷ []) ∷ [])
+
+-- refused as a whole: 13 before 3 before 11, and nothing is ticked; as a call, too
+abbrev tooMany : Case
+tooMany = record {
+  start = lay (aRunning 999_999_999_998);
+  steps =
+      told "TICK,3" 11 ∷ told "TICK,0" 3 ∷ told "TICK,100000001" 3 ∷ told "TICK,4294967297" 3 ∷ told "TICK,9999999999" 3 ∷ told "TICK,100000000" 11
+      ∷ told "TICK," 13 ∷ told "TICK,01" 13 ∷ told "TICK,1,1" 13 ∷ told "TICK,10000000000" 13 ∷ told "TICK,A" 13 ∷ clock 999_999_999_998
+      ∷ many 3 11 (0 ∷ []) ∷ many 0 3 (0 ∷ []) ∷ many 18_446_744_073_709_551_615 3 (0 ∷ []) ∷ many 1 0 (0 ∷ [])
+      ∷ ok "TICK,1" 0 ∷ clock 1_000_000_000_000 ∷ told "TICK,1" 11 ∷ told "TICK,0" 3 ∷ told "TICK" 11 ∷ [];
+}
+
 -- a refused FRESH keeps the tables; an accepted one begins anew
 abbrev refusedFresh : Case
 refusedFresh = case (
@@ -292,6 +327,6 @@ bench = record {
       bench1 ∷ bench2 ∷ bench3 ∷ bench4 ∷ bench5 ∷ bench6 ∷ bench7 ∷ bench8 ∷ bench9 ∷ bench10 ∷ behindEquals ∷ gap ∷ movedOn
       ∷ removedSon ∷ allWake ∷ oneWalk ∷ discFirst ∷ notItself ∷ lockGoes ∷ lockerEnds ∷ onlyCleared ∷ kept ∷ pricedAnew ∷ byNumber
       ∷ largeNumbers ∷ notSound ∷ needsCaller ∷ wrongState ∷ heldTracks ∷ heldSon ∷ heldNumber ∷ heldLock ∷ heldClear
-      ∷ heldFree ∷ markStays ∷ markGoes ∷ refusedFresh ∷ notTheCaller ∷ fatherNext ∷ [];
+      ∷ heldFree ∷ markStays ∷ markGoes ∷ movedFar ∷ byNumberAtOnce ∷ byDue ∷ startedOnce ∷ tooMany ∷ refusedFresh ∷ notTheCaller ∷ fatherNext ∷ [];
   sheets = sheets;
 }

@@ -16,7 +16,7 @@ use Rattle.rules.specs.Engine.{beside, writtenIn, pagedIn}
 use Rattle.rules.proofs.refusals.Refusals.{answered}
 use Rattle.rules.proofs.shared.ManyTicks.{Comes, refuses, makes, comes}
 use Rattle.tables.specs.declared.Tables.{Tables}
-use Rattle.tables.specs.Tables.{plain}
+use Rattle.tables.specs.Tables.{plain, clockOf}
 use Rattle.tables.specs.Sound.{sound}
 use Rattle.tables.specs.Calls.{laid, asked, manyTicks}
 use Rattle.tables.proofs.Serving.{asked-sound, served-planned}
@@ -46,9 +46,9 @@ module _ (t : Tables) (buf : List ℕ) where
       go false e = rw (e, asked) (record { listed = omega arith; tables = λ h. refl; buffer = λ h. refl })
 
   pub ticked-kept : (n : ℕ) → Kept t buf (beside buf (manyTicks t n))
-  ticked-kept n = go (comes sound (λ x. plain x .book .clock) asked t n)
+  ticked-kept n = go (comes sound clockOf asked t n)
     where
-      go : Comes sound (λ x. plain x .book .clock) asked t n → Kept t buf (beside buf (manyTicks t n))
+      go : Comes sound clockOf asked t n → Kept t buf (beside buf (manyTicks t n))
       go (refuses a l h e) = rw e (record { listed = h; tables = λ k. refl; buffer = λ k. refl })
       go (makes A) = rw (A .made) (record { listed = omega arith; tables = λ k. absurd (omega arith); buffer = λ k. refl })
 

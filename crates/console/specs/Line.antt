@@ -29,7 +29,7 @@ abbrev pub over : Line → Form
 over x [] = x
 over x (f ∷ fs) = bad
 
--- no field is left; or else what the fields say
+-- x where no field is left; else what the fields say by k
 abbrev pub bareOr : Line → Form → Form
 bareOr x k [] = x
 bareOr x k (f ∷ fs) = k (f ∷ fs)

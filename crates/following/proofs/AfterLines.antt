@@ -18,7 +18,7 @@ use Rattle.rules.specs.Engine.{afterTicks}
 use Rattle.rules.proofs.soundness.SoundRuns.{sound-after}
 use Rattle.rules.proofs.shared.ManyTicks.{Comes, refuses, makes, comes}
 use Rattle.tables.specs.declared.Tables.{Tables}
-use Rattle.tables.specs.Tables.{plain, lay, Arrays}
+use Rattle.tables.specs.Tables.{plain, lay, Arrays, clockOf}
 use Rattle.tables.specs.Sound.{sound}
 use Rattle.tables.specs.Calls.{laid, asked, manyTicks, served}
 use Rattle.tables.proofs.Agree.{sound-clauses}
@@ -69,9 +69,9 @@ ticks-good zero t G = G
 ticks-good (suc n) t G = ticks-good n (asked t TICK .tables) (asked-good t TICK G)
 
 ticked-good : (t : Tables) (n : ℕ) → Good t → Good (manyTicks t n .tables)
-ticked-good t n G = go (comes sound (λ x. plain x .book .clock) asked t n)
+ticked-good t n G = go (comes sound clockOf asked t n)
   where
-    go : Comes sound (λ x. plain x .book .clock) asked t n → Good (manyTicks t n .tables)
+    go : Comes sound clockOf asked t n → Good (manyTicks t n .tables)
     go (refuses a l h e) = rw e G
     go (makes M) = rw (M .made) (ticks-good n t G)
 

@@ -14,7 +14,7 @@ use Rattle.rules.specs.Rules.{sizes}
 use Rattle.rules.specs.Engine.{beside, madeBy, pagedIn}
 use Rattle.rules.proofs.shared.ManyTicks.{many-unsound}
 use Rattle.tables.specs.declared.Tables.{Tables}
-use Rattle.tables.specs.Tables.{plain, freshly, smallest}
+use Rattle.tables.specs.Tables.{plain, freshly, smallest, clockOf}
 use Rattle.tables.specs.Sound.{sound}
 use Rattle.tables.specs.Calls.{asked, made}
 use Rattle.page.specs.Page.{page}
@@ -68,6 +68,6 @@ unsound-refused t e (calls.request (LOAD nm m)) n = rw (e, asked)
 unsound-refused t e (calls.request (operator o nm)) n = rw (e, asked)
 unsound-refused t e (calls.request TICK) n = rw (e, asked)
 unsound-refused t e (calls.request (running r)) n = rw (e, asked)
-unsound-refused t e (calls.ticks m) n = ap (beside []) (many-unsound sound (λ x. plain x .book .clock) asked t m e)
+unsound-refused t e (calls.ticks m) n = ap (beside []) (many-unsound sound clockOf asked t m e)
 unsound-refused t e (calls.page buf) n = rw (e, pagedIn)
 unsound-refused t e (calls.line bytes buf) n = rw (e, keyedIn)

@@ -34,7 +34,7 @@ use Rattle.rules.proofs.soundness.SoundFresh.{sound-fresh}
 use Rattle.rules.proofs.soundness.SoundRuns.{sound-after}
 use Rattle.chains.specs.Links.{linksOf}
 use Rattle.tables.specs.declared.Tables.{Tables}
-use Rattle.tables.specs.Tables.{plain, lay, freshly, smallest, Arrays}
+use Rattle.tables.specs.Tables.{plain, lay, freshly, smallest, Arrays, clockOf}
 use Rattle.tables.specs.Sound.{sound}
 use Rattle.tables.specs.Calls.{Result, laid, planned, asked, manyTicks, made}
 use Rattle.tables.proofs.Agree.{sound-clauses, sound-test}
@@ -145,7 +145,7 @@ module _ (t : Tables) (n : State entries) (K : Kept t n) where
           → Alongside (beside buf (manyTicks t m)) (beside buf (tickedIn replaying n m))
       go true r true c =
           let A = along-ticks m t n K in
-          rw (many-made sound (λ x. plain x .book .clock) asked t m (K .test) r c,
+          rw (many-made sound clockOf asked t m (K .test) r c,
           many-made (replaying .sound) (replaying .clock) (replaying .asked) n m refl r (ap (λ (k : ℕ). leb (k + m) ceiling) (sym clocks) ∙ c))
           (record {
             told = λ i. record { number = 0; values = A .1 i ∷ []; tables = tt; buffer = buf };
@@ -153,11 +153,11 @@ module _ (t : Tables) (n : State entries) (K : Kept t n) where
             kept = A .0;
           })
       go true r false c =
-          rw (many-ceiling sound (λ x. plain x .book .clock) asked t m (K .test) r c,
+          rw (many-ceiling sound clockOf asked t m (K .test) r c,
           many-ceiling (replaying .sound) (replaying .clock) (replaying .asked) n m refl r (ap (λ (k : ℕ). leb (k + m) ceiling) (sym clocks) ∙ c))
           (record { told = refl; answers = refl; kept = K })
       go false r y c =
-          rw (many-range sound (λ x. plain x .book .clock) asked t m (K .test) r,
+          rw (many-range sound clockOf asked t m (K .test) r,
           many-range (replaying .sound) (replaying .clock) (replaying .asked) n m refl r)
           (record { told = refl; answers = refl; kept = K })
 
@@ -291,7 +291,7 @@ module _ (t : Tables) (A : Arrays t) (s : sound t ≡ true) where
       first-accounts (plain t) (plainly .shape .chains) (plainly .shape .dormant) (plainly .chains)
       (sound-orderly t A (sound-clauses t s) .states)
 
-  kept-first : Kept t (firstEntries (plain t))
+  pub kept-first : Kept t (firstEntries (plain t))
   kept-first = kept-accounted (firstEntries (plain t) .kept) first-accounted
 
   pub demand-any : (e : Entries) × Accounts (plain t) e × ((cs : List Made) → Demanded t (record { book = plain t .book; kept = e }) cs)

@@ -4,7 +4,6 @@
 -- Assumes nothing.
 use Prim.Native.Nat.{ℕ, zero, suc, _+_, _≤_, _<_}
 use native.Mathlib.Omega.{arith}
-use native.Mathlib.Decide.{ℕ-discrete}
 use mathlib.Core.Path.{_≡_, refl, sym, ap, _∙_, subst}
 use mathlib.Core.Logic.{_≢_}
 use mathlib.Core.Bool.{Bool, true, false}
@@ -24,7 +23,7 @@ use Rattle.rules.proofs.shared.ManyTicks.{Comes, refuses, makes, comes}
 use Rattle.timers.proofs.Moves.{sound-timely, tick-moved}
 use Rattle.timers.proofs.Ticking.{tick-undue}
 use Rattle.tables.specs.declared.Tables.{Tables}
-use Rattle.tables.specs.Tables.{plain, lay, freshly, Arrays}
+use Rattle.tables.specs.Tables.{plain, lay, freshly, Arrays, clockOf}
 use Rattle.tables.specs.Sound.{sound}
 use Rattle.tables.specs.Calls.{Result, asked, manyTicks}
 use Rattle.tables.proofs.Agree.{sound-clauses}
@@ -38,7 +37,7 @@ use Rattle.console.specs.Line as line
 use Rattle.console.specs.Console.{keyedIn, obeyed, keyed}
 use Rattle.history.specs.Runs.{Made, step, begun}
 use Rattle.history.specs.Runs as calls
-use Rattle.history.specs.Demand.{AsksTicks, ticks-call, ticks-line, Asks, by-call, by-line, Touches, anew, concerns, ticking}
+use Rattle.history.specs.Demand.{ticks-call, ticks-line, Asks, by-call, by-line, Touches, anew, concerns, ticking}
 use Rattle.history.specs.Demand.{before, afterwards, Bystander}
 use Rattle.history.proofs.Steps.{written-leaves, paged-sound, keyed-sound}
 
@@ -92,28 +91,19 @@ module _ (t : Tables) (A : Arrays t) (p : ℕ) (P : Known p) where
       go false e = same (asked t q .tables) (asked-stays t e q)
 
   -- TICK,n, which leaves the record of a program that is due at none of its ticks
-  ticks-same : (m : ℕ) → ((k : ℕ) → k < m → dueAt (plain (afterTicks asked k t) .book) p ≡ true → ⊥) → Same t p (manyTicks t m .tables)
-  ticks-same m f = go (comes sound (λ x. plain x .book .clock) asked t m)
+  ticked-same : (m : ℕ) → (manyTicks t m .number ≡ 0 → (k : ℕ) → k < m → dueAt (plain (afterTicks asked k t) .book) p ≡ true → ⊥)
+      → Same t p (manyTicks t m .tables)
+  ticked-same m f = go (comes sound clockOf asked t m)
     where
-      go : Comes sound (λ x. plain x .book .clock) asked t m → Same t p (manyTicks t m .tables)
+      go : Comes sound clockOf asked t m → Same t p (manyTicks t m .tables)
       go (refuses a l h e) = same (manyTicks t m .tables) (ap (λ (r : Result). r .tables) e)
       go (makes M) =
           let S : Sound (plain t) = sound-plain t A (sound-clauses t (M .tested)) in
           let i : t ≡ lay (plain t) = sym (orderly-lay t (sound-orderly t A (sound-clauses t (M .tested)))) in
           ap (λ (r : Result). at (plain (r .tables) .book) p) (M .made)
           ∙ ap (λ (u : Tables). at (plain (afterTicks asked m u) .book) p) i
-          ∙ undue-same m (plain t) S (M .below) p P (λ k h d. f k h (ap (λ (u : Tables). dueAt (plain (afterTicks asked k u) .book) p) i ∙ d))
-
-  ticked-same : (c : Made) (m : ℕ) → AsksTicks m c → (Touches t c p → ⊥) → Same t p (manyTicks t m .tables)
-  ticked-same c m a n = go (ℕ-discrete (manyTicks t m .number) 0)
-    where
-      go : Dec (manyTicks t m .number ≡ 0) → Same t p (manyTicks t m .tables)
-      go (yes z) = ticks-same m (λ k h d. n (ticking m k a z h d))
-      go (no w) = same (manyTicks t m .tables) (refused (comes sound (λ x. plain x .book .clock) asked t m))
-        where
-          refused : Comes sound (λ x. plain x .book .clock) asked t m → manyTicks t m .tables ≡ t
-          refused (refuses b l h e) = ap (λ (r : Result). r .tables) e
-          refused (makes M) = absurd (w (ap (λ (r : Result). r .number) (M .made)))
+          ∙ undue-same m (plain t) S (M .below) p P
+          (λ k h d. f (ap (λ (r : Result). r .number) (M .made)) k h (ap (λ (u : Tables). dueAt (plain (afterTicks asked k u) .book) p) i ∙ d))
 
   -- FRESH as a call of its own
   made-same : (T S R : ℕ) → (Touches t (calls.request (FRESH T S R)) p → ⊥) → Same t p (begun linked t (madeBy freshly T S R) .tables)
@@ -138,7 +128,7 @@ module _ (t : Tables) (A : Arrays t) (p : ℕ) (P : Known p) where
       obeyed-same bad e = refl
       obeyed-same PAGE e = paged-same buf
       obeyed-same (line.asks q) e = asked-same (calls.line bytes buf) q (by-line bytes buf e) n
-      obeyed-same (line.ticks m) e = ticked-same (calls.line bytes buf) m (ticks-line bytes buf e) n
+      obeyed-same (line.ticks m) e = ticked-same m (λ z k h d. n (ticking m k (ticks-line bytes buf e) z h d))
 
       go : (b : Bool) → sound t ≡ b → Same t p (keyed t bytes buf .tables)
       go true e = ap (λ (w : Written). at (plain (w .tables) .book) p) (keyed-sound t e bytes buf) ∙ obeyed-same (lineOf bytes) refl
@@ -152,7 +142,7 @@ module _ (t : Tables) (A : Arrays t) (p : ℕ) (P : Known p) where
   frame (calls.request (operator o nm)) n = asked-same _ _ by-call n
   frame (calls.request TICK) n = asked-same _ TICK by-call n
   frame (calls.request (running r)) n = asked-same _ _ by-call n
-  frame (calls.ticks m) n = ticked-same _ m ticks-call n
+  frame (calls.ticks m) n = ticked-same m (λ z k h d. n (ticking m k ticks-call z h d))
   frame (calls.page buf) n = paged-same buf
   frame (calls.line bytes buf) n = keyed-same bytes buf n
 
@@ -176,7 +166,7 @@ module _ (t : Tables) (A : Arrays t) (p : ℕ) (P : Known p) where
       obeyed-stirred bad e = stays refl
       obeyed-stirred PAGE e = stays (paged-same buf)
       obeyed-stirred (line.asks q) e = asked-stirred (calls.line bytes buf) B q (by-line bytes buf e)
-      obeyed-stirred (line.ticks m) e = stays (ticks-same m (λ k h d. B .undue m k (ticks-line bytes buf e) h d))
+      obeyed-stirred (line.ticks m) e = stays (ticked-same m (λ z k h d. B .undue m k (ticks-line bytes buf e) z h d))
 
       go : (b : Bool) → sound t ≡ b → Stirred (before t p) (at (plain (keyed t bytes buf .tables) .book) p)
       go true e =
@@ -191,6 +181,6 @@ module _ (t : Tables) (A : Arrays t) (p : ℕ) (P : Known p) where
   stirred (calls.request (operator o nm)) B = asked-stirred _ B _ by-call
   stirred (calls.request TICK) B = asked-stirred _ B TICK by-call
   stirred (calls.request (running r)) B = asked-stirred _ B _ by-call
-  stirred (calls.ticks m) B = stays (ticks-same m (λ k h d. B .undue m k ticks-call h d))
+  stirred (calls.ticks m) B = stays (ticked-same m (λ z k h d. B .undue m k ticks-call z h d))
   stirred (calls.page buf) B = stays (paged-same buf)
   stirred (calls.line bytes buf) B = keyed-stirred bytes buf B

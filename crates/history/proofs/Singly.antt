@@ -17,7 +17,8 @@ use Rattle.rules.proofs.soundness.SoundRuns.{sound-after}
 use Rattle.rules.proofs.shared.ManyTicks.{Accepted, many-accepted}
 use Rattle.timers.proofs.Moves.{sound-timely, tick-moved}
 use Rattle.tables.specs.declared.Tables.{Tables}
-use Rattle.tables.specs.Tables.{plain, lay}
+use Rattle.tables.specs.Tables.{plain, lay, Arrays}
+use Rattle.tables.specs.Sound.{sound}
 use Rattle.tables.specs.Calls.{Result}
 use Rattle.tables.proofs.ManyTicks.{tick-laid}
 use Rattle.page.specs.Paging.{linked}
@@ -26,8 +27,8 @@ use Rattle.console.specs.Line as line
 use Rattle.console.specs.Console.{obeyedIn, keyedIn}
 use Rattle.history.specs.Runs.{Made, Beginning, begins, lentTo, step, run, outcomes}
 use Rattle.history.specs.Runs as calls
-use Rattle.history.specs.Demand.{replaying, toldOf, notesOf, AsksTicks, ticks-call, ticks-line, singly, ReadSingly}
-use Rattle.history.proofs.Demand3.{Kept, along, run-kept, run-told, kept-begun}
+use Rattle.history.specs.Demand.{replaying, toldOf, firstEntries, notesOf, AsksTicks, ticks-call, ticks-line, singly, ReadSingly}
+use Rattle.history.proofs.Demand3.{Kept, along, run-kept, run-told, kept-first, kept-begun}
 
 sum-append : (xs ys : List ℕ) → sum (xs ++ ys) ≡ sum xs + sum ys
 sum-append [] ys = omega arith
@@ -38,6 +39,11 @@ module _ (E : Engine) where
   unfolding run
   run-append [] ds t = refl
   run-append (c ∷ cs) ds t = run-append cs ds (step E t c .tables)
+
+  outcomes-append : (cs ds : List Made) (t : E .Form) → outcomes E t (cs ++ ds) ≡ outcomes E t cs ++ outcomes E (run E t cs) ds
+  unfolding run outcomes
+  outcomes-append [] ds t = refl
+  outcomes-append (c ∷ cs) ds t = ap (λ (ws : List (Handed (E .Form))). step E t c ∷ ws) (outcomes-append cs ds (step E t c .tables))
 
   -- n single ticks
   ticks-run : (n : ℕ) (t : E .Form) → run E t (singly n) ≡ afterTicks (E .asked) n t
@@ -79,14 +85,22 @@ module _ (E : Engine) where
         }
     is-made = let s = accepted-step (run E t cs) c n a z in s .1 ∙ ap (beside (lentTo c)) (s .0 .made)
 
+    left : step E (run E t cs) c .tables ≡ run E (run E t cs) (singly n)
+    left = ap (λ (w : Handed (E .Form)). w .tables) is-made ∙ sym (ticks-run n (run E t cs))
+
     read-as : map (λ (w : Handed (E .Form)). w .number) (outcomes E (run E t cs) (singly n)) ≡ replicate n 0 → ReadSingly E t cs c n ds
-    unfolding run
+    unfolding run outcomes
     read-as h = record {
       each = h;
       value = ap (λ (w : Handed (E .Form)). w .values) is-made ∙ ap (λ (k : ℕ). k ∷ []) (sym (ticks-sum n (run E t cs)));
-      goes-on = run-append cs (c ∷ ds) t ∙ ap (λ (w : Handed (E .Form)). run E (w .tables) ds) is-made
-          ∙ ap (λ (u : E .Form). run E u ds) (sym (ticks-run n (run E t cs)))
+      leaves = left;
+      goes-on = run-append cs (c ∷ ds) t ∙ ap (λ (u : E .Form). run E u ds) left
           ∙ sym (run-append (singly n) ds (run E t cs)) ∙ sym (run-append cs (singly n ++ ds) t);
+      told = outcomes-append cs (c ∷ ds) t
+          ∙ ap (λ (u : E .Form). outcomes E t cs ++ (step E (run E t cs) c ∷ outcomes E u ds)) (left ∙ sym (run-append cs (singly n) t));
+      told-singly = outcomes-append cs (singly n ++ ds) t
+          ∙ ap (λ (ws : List (Handed (E .Form))). outcomes E t cs ++ ws) (outcomes-append (singly n) ds (run E t cs))
+          ∙ ap (λ (u : E .Form). outcomes E t cs ++ (outcomes E (run E t cs) (singly n) ++ outcomes E u ds)) (sym (run-append cs (singly n) t));
     }
 
 -- each tick is accepted, of tables that are laid out
@@ -107,25 +121,38 @@ numbers-told : {S : Type 0} (ws : List (Handed S))
 numbers-told [] = refl
 numbers-told (w ∷ ws) = ap (λ (xs : List ℕ). w .number ∷ xs) (numbers-told ws)
 
--- TICK,n READ AS n CALLS, in any run that begins with FRESH or with a reading; and in its replay
+-- in any run from tables and notes that go together
+module _ (t : Tables) (m : State entries) (K : Kept t m) (cs : List Made) (c : Made) (n : ℕ) (ds : List Made) (a : AsksTicks n c)
+    (z : step linked (run linked t cs) c .number ≡ 0) where
+  there : Kept (run linked t cs) (run replaying m cs)
+  there = run-kept cs t m K
+
+  each-accepted : map (λ (w : Handed Tables). w .number) (outcomes linked (run linked t cs) (singly n)) ≡ replicate n 0
+  each-accepted =
+      ap (λ (u : Tables). map (λ (w : Handed Tables). w .number) (outcomes linked u (singly n))) (sym (there .laid))
+      ∙ each-laid n (plain (run linked t cs)) (there .plainly) (accepted-step linked (run linked t cs) c n a z .0 .below)
+
+  singly-kept : ReadSingly linked t cs c n ds
+  singly-kept = read-as linked t cs c n ds a z each-accepted
+
+  -- the replay is told the same
+  replay-kept : ReadSingly replaying m cs c n ds
+  replay-kept =
+      read-as replaying m cs c n ds a
+      (sym (ap (λ (w : Handed (Unit {0})). w .number) (along (run linked t cs) (run replaying m cs) there c .told)) ∙ z)
+      (sym (numbers-told (outcomes replaying (run replaying m cs) (singly n)))
+      ∙ sym (ap (map (λ (w : Handed (Unit {0})). w .number)) (run-told (singly n) (run linked t cs) (run replaying m cs) there))
+      ∙ numbers-told (outcomes linked (run linked t cs) (singly n)) ∙ each-accepted)
+
+-- TICK,n READ AS n CALLS: from any sound tables on; and in any run that begins with FRESH or with a reading, and its replay
+pub singly-sound : (t : Tables) → Arrays t → sound t ≡ true → (cs : List Made) (c : Made) (n : ℕ) (ds : List Made) → AsksTicks n c
+    → step linked (run linked t cs) c .number ≡ 0 → ReadSingly linked t cs c n ds
+singly-sound t A s = singly-kept t (firstEntries (plain t)) (kept-first t A s)
+
 module _ (b : Beginning) (cs : List Made) (c : Made) (n : ℕ) (ds : List Made) (a : AsksTicks n c)
     (z : step linked (run linked (begins b) cs) c .number ≡ 0) where
-  there : Kept (run linked (begins b) cs) (run replaying (notesOf b) cs)
-  there = run-kept cs (begins b) (notesOf b) (kept-begun b)
+  pub singly-begun : ReadSingly linked (begins b) cs c n ds
+  singly-begun = singly-kept (begins b) (notesOf b) (kept-begun b) cs c n ds a z
 
-  each-accepted : map (λ (w : Handed Tables). w .number) (outcomes linked (run linked (begins b) cs) (singly n)) ≡ replicate n 0
-  each-accepted =
-      ap (λ (t : Tables). map (λ (w : Handed Tables). w .number) (outcomes linked t (singly n))) (sym (there .laid))
-      ∙ each-laid n (plain (run linked (begins b) cs)) (there .plainly) (accepted-step linked (run linked (begins b) cs) c n a z .0 .below)
-
-  pub read-singly : ReadSingly linked (begins b) cs c n ds
-  read-singly = read-as linked (begins b) cs c n ds a z each-accepted
-
-  pub replayed-singly : ReadSingly replaying (notesOf b) cs c n ds
-  replayed-singly =
-      read-as replaying (notesOf b) cs c n ds a
-      (sym (ap (λ (w : Handed (Unit {0})). w .number) (along (run linked (begins b) cs) (run replaying (notesOf b) cs) there c .told)) ∙ z)
-      (sym (numbers-told (outcomes replaying (run replaying (notesOf b) cs) (singly n)))
-      ∙ sym (ap (map (λ (w : Handed (Unit {0})). w .number))
-      (run-told (singly n) (run linked (begins b) cs) (run replaying (notesOf b) cs) there))
-      ∙ numbers-told (outcomes linked (run linked (begins b) cs) (singly n)) ∙ each-accepted)
+  pub singly-replayed : ReadSingly replaying (notesOf b) cs c n ds
+  singly-replayed = replay-kept (begins b) (notesOf b) (kept-begun b) cs c n ds a z

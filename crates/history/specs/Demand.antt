@@ -103,12 +103,17 @@ abbrev pub singly : ℕ → List Made
 singly n = replicate n (calls.request TICK)
 
 -- Where a call c behind the calls cs of a run is an accepted TICK,n, n TICKs may stand in its place: each is accepted, their values add up to
--- its value, and the calls ds behind it find the same tables.
+-- its value, they leave the tables that it leaves, and in both runs the calls cs before and ds behind are told the same.
 pub record ReadSingly (E : Engine) (t : E .Form) (cs : List Made) (c : Made) (n : ℕ) (ds : List Made) : Type 0 where
   pub each : map (λ (w : Handed (E .Form)). w .number) (outcomes E (run E t cs) (singly n)) ≡ replicate n 0
   pub value : step E (run E t cs) c .values
       ≡ sum (join (map (λ (w : Handed (E .Form)). w .values) (outcomes E (run E t cs) (singly n)))) ∷ []
+  pub leaves : step E (run E t cs) c .tables ≡ run E (run E t cs) (singly n)
   pub goes-on : run E t (cs ++ c ∷ ds) ≡ run E t (cs ++ (singly n ++ ds))
+  pub told : outcomes E t (cs ++ c ∷ ds)
+      ≡ outcomes E t cs ++ (step E (run E t cs) c ∷ outcomes E (run E t (cs ++ singly n)) ds)
+  pub told-singly : outcomes E t (cs ++ (singly n ++ ds))
+      ≡ outcomes E t cs ++ (outcomes E (run E t cs) (singly n) ++ outcomes E (run E t (cs ++ singly n)) ds)
 
 -- The frame, of any tables. The request that a call makes, if it makes one
 pub data Asks (q : Request) : Made → Type 0 where
@@ -120,6 +125,7 @@ pub data Asks (q : Request) : Made → Type 0 where
 pub data Touches (t : Tables) (c : Made) (p : ℕ) : Type 0 where
   anew : (T S R : ℕ) → c ≡ calls.request (FRESH T S R) → sizes T S R ≡ true → Touches t c p
   concerns : (q : Request) → Asks q c → sound t ≡ true → Concerned (view lists (plain t)) q p → Touches t c p
+  -- k of its ticks are made, and p is due at the next
   ticking : (n k : ℕ) → AsksTicks n c → manyTicks t n .number ≡ 0 → k < n → dueAt (plain (afterTicks asked k t) .book) p ≡ true
       → Touches t c p
 
@@ -131,8 +137,8 @@ abbrev pub afterwards : Tables → Made → ℕ → Program
 afterwards t c p = at (plain (step linked t c .tables) .book) p
 
 -- p has nothing to do with the call but that it may be woken by it: the call is no FRESH, and neither is p its caller,
--- nor named in it, nor due at that tick, or at one of its ticks
+-- nor named in it, nor due at that tick or, where the call is an accepted TICK,n, at one of its ticks
 pub record Bystander (t : Tables) (c : Made) (p : ℕ) : Type 0 where
   pub old : (T S R : ℕ) → Asks (FRESH T S R) c → ⊥
   pub apart : (q : Request) → Asks q c → Party (view lists (plain t)) p q → ⊥
-  pub undue : (n k : ℕ) → AsksTicks n c → k < n → dueAt (plain (afterTicks asked k t) .book) p ≡ true → ⊥
+  pub undue : (n k : ℕ) → AsksTicks n c → manyTicks t n .number ≡ 0 → k < n → dueAt (plain (afterTicks asked k t) .book) p ≡ true → ⊥

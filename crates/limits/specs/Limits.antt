@@ -1,5 +1,5 @@
 -- The outline's figures, once for all definitions (OUTLINE, "The tables", EXEC
--- 12, and "The page and the console line"). The code has its own in src/lib.rt.
+-- 12, "Many ticks at once" and "The page and the console line"). The code has its own in src/lib.rt.
 -- Assumes nothing.
 use Prim.Native.Nat.{ℕ}
 

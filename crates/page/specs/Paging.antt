@@ -4,7 +4,7 @@ use mathlib.Core.List.{List}
 use Prim.Native.Nat.{ℕ}
 use Rattle.rules.specs.Engine.{Handed, Engine, writtenIn, pagedIn}
 use Rattle.tables.specs.declared.Tables.{Tables}
-use Rattle.tables.specs.Tables.{plain, freshly}
+use Rattle.tables.specs.Tables.{plain, freshly, clockOf}
 use Rattle.tables.specs.Sound.{sound}
 use Rattle.tables.specs.Calls.{asked}
 use Rattle.page.specs.Page.{page}
@@ -18,7 +18,7 @@ abbrev pub linked : Engine
 linked = record {
   Form = Tables;
   sound = sound;
-  clock = λ t. plain t .book .clock;
+  clock = clockOf;
   asked = asked;
   fresh = freshly;
   page = λ t. page (plain t);

@@ -54,7 +54,8 @@ module _ {S : Type 0} (asked : S → Request → Reply S) where
   sumOfTicks zero t = 0
   sumOfTicks (suc n) t = sum (asked t TICK .values) + sumOfTicks n (asked t TICK .tables)
 
--- It is refused as a whole: 14 for tables that are not sound, 3 for n, and 11 where n ticks more would pass the clock's ceiling.
+-- It is refused as a whole: 14 for tables that are not sound, 3 for an n that is not from 1 to 100,000,000, and 11 where clock + n is above the
+-- ceiling.
 unfoldable pub tickedBy : {S : Type 0} → (S → Bool) → (S → ℕ) → (S → Request → Reply S) → S → ℕ → Reply S
 tickedBy sound clock asked t n =
     elim (sound t) [

@@ -1,4 +1,5 @@
 -- The public calls and their parameters (OUTLINE, "Operator requests", "Calls of the running program"). A name is five bytes.
+-- TICK,n is no request but so many TICKs (Engine.antt).
 -- Assumes nothing.
 use Prim.Native.Nat.{ℕ}
 use mathlib.Core.Bool.{Bool}

@@ -1,5 +1,5 @@
 -- The outline's rules, each once, its tests in the order 2, 3, 4, 6, 7, 10, 9, 5, 8, 11 (OUTLINE,
--- "Answer numbers"). 14, 13 and 12 are tested where the tables, the line and the buffer are.
+-- "Answer numbers"). 14, 13 and 12 are tested where the tables, the line and the buffer are; TICK,n, with its 3 and 11, stands in Engine.antt.
 -- Assumes nothing.
 use Prim.Native.Nat.{ℕ, _+_, _*_}
 use mathlib.Core.Bool.{Bool, true, false, cond, _&&_, _||_}

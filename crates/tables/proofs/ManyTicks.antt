@@ -23,20 +23,20 @@ use Rattle.rules.specs.Keeper.{lists, State, asks, after}
 use Rattle.rules.specs.Engine.{afterTicks, sumOfTicks}
 use Rattle.rules.specs.Sound as rules
 use Rattle.rules.proofs.soundness.SoundRuns.{sound-after}
-use Rattle.rules.proofs.shared.ManyTicks.{many-unsound, many-range, many-ceiling, many-made, Accepted, many-accepted}
+use Rattle.rules.proofs.shared.ManyTicks.{many-unsound, many-range, many-ceiling, many-made, Accepted, Comes, refuses, makes, comes, many-accepted}
 use Rattle.timers.specs.Inner.{starters, movedTo, nextStart, sleepers, ticksOn, startedOn}
 use Rattle.timers.proofs.Moves.{sound-timely, tick-plan, tick-played, tick-starters, tick-value, tick-moved}
 use Rattle.timers.proofs.Ticking.{ticks-parts, started-parts, sound-ticks, ticks-moved}
 use Rattle.timers.proofs.NextStart.{next-low, next-above, next-idle}
 use Rattle.timers.proofs.Sleepers.{sleepers-left, sleepers-most, next-starts}
 use Rattle.tables.specs.declared.Tables.{Tables}
-use Rattle.tables.specs.Tables.{plain, lay}
+use Rattle.tables.specs.Tables.{plain, lay, clockOf, Arrays}
 use Rattle.tables.specs.Sound.{sound}
 use Rattle.tables.specs.Calls.{Result, told, planned, asked, manyTicks}
 use Rattle.tables.specs.Inner.{Orderly, Says, Moves, TicksTo, counted}
-use Rattle.tables.proofs.Agree.{sound-test}
-use Rattle.tables.proofs.Orderly.{orderly-lay}
-use Rattle.tables.proofs.Plain.{plain-lay, lay-sound}
+use Rattle.tables.proofs.Agree.{sound-clauses, sound-test}
+use Rattle.tables.proofs.Orderly.{orderly-lay, sound-orderly}
+use Rattle.tables.proofs.Plain.{plain-lay, lay-sound, sound-plain}
 use Rattle.tables.proofs.Serving.{asked-sound, served-planned}
 
 -- A TICK of tables that are laid out
@@ -92,9 +92,6 @@ sums-laid (suc n) a S h =
     (sums-laid n (after lists a TICK) (sound-after a S TICK) (omega (arith, ticked-clock a S (omega arith))))
 
 -- WHAT TICK,n HANDS BACK, and how the code tells a refusal
-abbrev clockOf : Tables → ℕ
-clockOf t = plain t .book .clock
-
 module _ (t : Tables) (n : ℕ) where
   pub told-unsound : sound t ≡ false → told (record { answer = NotSound; tables = t }) ≡ manyTicks t n
   told-unsound e = sym (many-unsound sound clockOf asked t n e)
@@ -124,6 +121,17 @@ module _ (t : Tables) (O : Orderly t) (e : sound t ≡ true) (S : rules.Sound (p
       ap₂ counted (T .number ∙ ap (λ (j : ℕ). startedOn j (plain t)) k)
       (sym (orderly-lay r (T .says .orderly)) ∙ ap lay (T .says .state ∙ ap (λ (j : ℕ). ticksOn j (plain t)) k))
       ∙ sym many-done
+
+-- TICK,n leads from sound tables to sound ones
+pub sound-many : (t : Tables) → Arrays t → (n : ℕ) → sound t ≡ true → sound (manyTicks t n .tables) ≡ true
+sound-many t A n e = go (comes sound clockOf asked t n)
+  where
+    go : Comes sound clockOf asked t n → sound (manyTicks t n .tables) ≡ true
+    go (refuses a l h i) = ap (λ (r : Result). sound (r .tables)) i ∙ e
+    go (makes M) =
+        let S : rules.Sound (plain t) = sound-plain t A (sound-clauses t e) in
+        ap (λ (r : Result). sound (r .tables)) (many-done t (sound-orderly t A (sound-clauses t e)) e S n (M .least) (M .most) (M .below))
+        ∙ sound-test (lay (ticksOn n (plain t))) (lay-sound (ticksOn n (plain t)) (sound-ticks n (plain t) S))
 
 -- HOW FAR THE CODE HAS COME: the clock of t stands at `now`, and what is left of the ticks makes of t what all of them make of s
 pub record Going (s : Tables) (end now : ℕ) (t : Tables) (n : ℕ) : Type 0 where
@@ -258,10 +266,3 @@ going-done {s} {end} {now} {t} {n} G h =
       };
       number = omega (arith, G .number, ap (λ (k : ℕ). startedOn k (plain t)) z);
     }
-
--- n out of its range
-pub range-low : (n : ℕ) → n ≡ 0 → upTo 1 mostTicks n ≡ false
-range-low n e = ap (λ (b : Bool). b && leb n mostTicks) (lt-leb 1 n (omega arith))
-
-pub range-high : (n : ℕ) → mostTicks < n → upTo 1 mostTicks n ≡ false
-range-high n h = not-both (leb 1 n) (leb n mostTicks) (lt-leb n mostTicks h)

@@ -11,7 +11,7 @@ use Rattle.rules.specs.Keeper.{lists, asks, play, view}
 use Rattle.rules.specs.Engine.{Reply, notSound, madeBy, tickedBy}
 use Rattle.tables.specs.declared.Tables.{Tables}
 use Rattle.tables.specs.declared.Outcome.{Outcome}
-use Rattle.tables.specs.Tables.{plain, lay, freshly}
+use Rattle.tables.specs.Tables.{plain, lay, freshly, clockOf}
 use Rattle.tables.specs.Sound.{sound}
 
 abbrev pub Result : Type 0
@@ -39,7 +39,7 @@ asked t q = elim (sound t) [ true ↦ served t q | false ↦ notSound t ]
 
 -- TICK,n
 abbrev pub manyTicks : Tables → ℕ → Result
-manyTicks t n = tickedBy sound (λ x. plain x .book .clock) asked t n
+manyTicks t n = tickedBy sound clockOf asked t n
 
 -- FRESH, which takes no tables
 abbrev pub made : ℕ → ℕ → ℕ → Result

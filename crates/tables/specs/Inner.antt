@@ -172,7 +172,7 @@ pub record CanTickOn (t : Tables) : Type 0 where
   pub ready : Ready t
   pub below : t .ledger .clock .ticks < ceiling
 
--- tables that have passed the test, and their plain state
+-- tables that have passed the test, and whose plain state is sound
 pub record CanTick (t : Tables) : Type 0 where
   pub ready : Ready t
   pub plainly : rules.Sound (plain t)

@@ -27,6 +27,10 @@ smallest = freshly 1 0 0
 abbrev pub callerOf : Tables → ℕ
 callerOf t = head (scheduledChain lists (plain t))
 
+-- their clock
+abbrev pub clockOf : Tables → ℕ
+clockOf t = plain t .book .clock
+
 -- the arrays of tables are as long as the code's types say: theorems about any tables ask this where a list could be longer or shorter
 pub record Arrays (t : Tables) : Type 0 where
   pub programs : length (t .ledger .programs) ≡ mostPrograms

@@ -13,10 +13,10 @@ use super::Tables;
 use super::asking;
 use clock::Clock;
 use limits::MOST_PROGRAMS;
-use limits::MOST_TICKS;
 use limits::SCHEDULED;
 use records::Why;
 use rules::Answer;
+use timers::Span;
 
 impl Tables {
     // The clock stands at `now`, and every timer that fell due by then has moved on beyond it, or is gone.
@@ -68,7 +68,7 @@ impl Tables {
         self.moved_to(book.clock.ticks + 1)
     }
 
-    // Tick after tick until the clock stands at `end`: a move for each moment at which programs start, and one more. How many start.
+    // All ticks until the clock stands at `end`: a move for each moment at which programs start, and one for what is left. How many start.
     fn ticked_to(self, end: u64) -> Counted
         requires { ⌜ CanTickTo self end ⌝ }
         ensures { λ r. ⌜ TicksTo self end (r .tables) (r .number) ⌝ }
@@ -96,18 +96,13 @@ impl Tables {
         requires { ⌜ CanTick self ⌝ }
         ensures { λ r. ⌜ told r ≡ manyTicks self n ⌝ }
     {
-        if n == 0 {
-            return self.refused(Answer::NotAllowed);
-        }
-        if MOST_TICKS < n {
-            return self.refused(Answer::NotAllowed);
-        }
         let book = self.ledger;
-        let end = book.clock.ticks + n;
-        if Clock::CEILING < end {
-            return self.refused(Answer::AtCeiling);
+        let span = timers::span_of(book.clock.ticks, n);
+        match span {
+            Span::NotAllowed => self.refused(Answer::NotAllowed),
+            Span::AtCeiling => self.refused(Answer::AtCeiling),
+            Span::To(end) => asking::count_of(self.ticked_to(end)),
         }
-        asking::count_of(self.ticked_to(end))
     }
 
     // TICK,n: n ticks one after another; the number of programs that they start.

@@ -8,3 +8,4 @@ pub mod Starting
 pub mod Sleepers
 pub mod Roused
 pub mod Changing
+pub mod Spans

@@ -12,7 +12,7 @@ use lib.ListN.{length, getD, drop, drop-of-length-le}
 use lib.Seq.{drop-cons}
 use lib.Dec.{ltb, eqb}
 use borrow.Author.Tests.{ltb-true, ltb-false, lt-ltb, le-ltb, eqb-true, eqb-false, eq-eqb, ne-eqb}
-use Rattle.lists.proofs.Tests.{both, and, clash}
+use Rattle.lists.proofs.Tests.{and, clash}
 use Rattle.records.specs.declared.Program.{Program}
 use Rattle.records.specs.Records.{missing}
 use Rattle.timers.specs.Inner.{fallsDue, starts, sooner, nextStart, NoStart}
@@ -105,6 +105,14 @@ next-some end (r ∷ rs) h = go (decLt (nextStart (sooner r end) rs) (sooner r e
           does = ap (λ (n : ℕ). starts n r) e
               ∙ here (ltb 0 (r .due)) refl (ltb (r .due) end) refl (eqb (r .state) 0) refl (omega (arith, h, e));
         }
+
+-- AN IDLE NIGHT IS ONE MOVE: where nobody starts before the end, the next start is the end
+pub idle-one : (end : ℕ) (ps : List Program) → ((k : ℕ) → k < end → NoStart k ps) → nextStart end ps ≡ end
+idle-one end ps N = go (decLt (nextStart end ps) end)
+  where
+    go : Dec (nextStart end ps < end) → nextStart end ps ≡ end
+    go (yes h) = let s = next-some end ps h in clash (s .does) (N (nextStart end ps) h (s .place))
+    go (no h) = omega (arith, h, next-low end ps)
 
 -- THE SEARCH: what is left of the programs, from place i on, is searched in the same way
 pub record Looking (end : ℕ) (ps : List Program) (least i : ℕ) : Type 0 where

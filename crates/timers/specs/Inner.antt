@@ -3,12 +3,13 @@
 -- Assumes nothing.
 use Prim.Native.Nat.{ℕ, zero, suc, _+_, _-_, _*_, _/_, _≤_}
 use mathlib.Core.Path.{_≡_}
-use mathlib.Core.Bool.{Bool, false, cond, _&&_}
+use mathlib.Core.Bool.{Bool, true, false, cond, _&&_}
 use mathlib.Core.List.{List, [], _∷_, map}
 use lib.ListN.{length, getD, set}
 use lib.Dec.{leb, ltb, eqb}
-use Rattle.limits.specs.Limits.{dormant, scheduled}
-use Rattle.lists.specs.Lists.{sum, keep, insert, join}
+use Rattle.limits.specs.Limits.{dormant, scheduled, mostTicks}
+use Rattle.lists.specs.Lists.{sum, keep, insert, join, upTo}
+use Rattle.clock.specs.Clock.{ceiling}
 use Rattle.records.specs.declared.Program.{Program}
 use Rattle.records.specs.declared.Why.the-variants.{Nothing}
 use Rattle.records.specs.Records.{all, missing, inState, withTimer}
@@ -16,6 +17,8 @@ use Rattle.rules.specs.Book.{Book, at, stateOf, prioOf, altered}
 use Rattle.rules.specs.Requests.{TICK}
 use Rattle.rules.specs.Plans.{Event, on, becomes, valuesOf}
 use Rattle.rules.specs.Keeper.{lists, State, asks, after}
+use Rattle.timers.specs.declared.Span.{Span}
+use Rattle.timers.specs.declared.Span.the-variants.{To, NotAllowed, AtCeiling}
 
 -- the timer of a record falls due by the time the clock stands at `now`
 unfoldable pub fallsDue : ℕ → Program → Bool
@@ -93,3 +96,11 @@ CanMove now r = now + r .interval ≤ 18446744073709551615
 
 abbrev pub CanMoveAll : ℕ → List Program → Type 0
 CanMoveAll now ps = (i : ℕ) → CanMove now (getD ps i missing)
+
+-- what n ticks come to before any is made
+unfoldable pub spanOf : ℕ → ℕ → Span
+spanOf clock n =
+    elim (upTo 1 mostTicks n) [
+      | true ↦ elim (leb (clock + n) ceiling) [ true ↦ To (clock + n) | false ↦ AtCeiling ]
+      | false ↦ NotAllowed
+    ]

@@ -2,10 +2,36 @@
 ghost use Prim.Native.Nat.{_+_, _≤_};
 ghost use mathlib.Core.Path.{_≡_};
 ghost use mathlib.Core.List.{map};
-ghost use Rattle.timers.specs.Inner.{fallsDue, dueBeyond, moved, starts, sooner, nextStart, CanMove, CanMoveAll};
+ghost use Rattle.clock.specs.Clock.{ceiling};
+ghost use Rattle.timers.specs.Inner.{fallsDue, dueBeyond, moved, starts, sooner, nextStart, CanMove, CanMoveAll, spanOf};
+use clock::Clock;
 use limits::DORMANT;
 use limits::MOST_PROGRAMS;
+use limits::MOST_TICKS;
 use records::Program;
+
+// What n ticks come to, before any is made: the clock's reading after them; or n is not allowed; or they would pass the ceiling.
+pub enum Span {
+    To(u64),
+    NotAllowed,
+    AtCeiling,
+}
+
+pub fn span_of(clock: u64, n: u64) -> Span
+    requires { ⌜ clock ≤ ceiling ⌝ }
+    ensures { λ r. ⌜ r ≡ spanOf clock n ⌝ }
+{
+    if n == 0 {
+        return Span::NotAllowed;
+    }
+    if MOST_TICKS < n {
+        return Span::NotAllowed;
+    }
+    if Clock::CEILING - clock < n {
+        return Span::AtCeiling;
+    }
+    Span::To(clock + n)
+}
 
 // Whether a record's timer falls due by the time the clock stands at `now`.
 fn falls_due(r: Program, now: u64) -> bool

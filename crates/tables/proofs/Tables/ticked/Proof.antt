@@ -1,69 +1,66 @@
 -- `tables::Tables::ticked` meets its contract: n, the ceiling, and else the ticks.
 -- Assumes nothing.
-use native.Mathlib.Omega.{arith}
-use mathlib.Core.Path.{_≡_, refl, sym, ap, _∙_}
-use mathlib.Core.Bool.{true, false}
 use Prim.Native.Nat.{ℕ, _+_, _≤_}
+use native.Mathlib.Omega.{arith}
+use mathlib.Core.Path.{_≡_, sym, ap, _∙_}
 use borrow.Author.Needs.{needs}
-use borrow.Author.Tests.{lt-leb}
 use Rattle.limits.specs.Limits.{mostTicks}
-use Rattle.lists.specs.Lists.{upTo}
-use Rattle.lists.proofs.Tests.{upTo-is}
 use Rattle.clock.specs.Clock.{ceiling}
+use Rattle.timers.proofs.Spans.{not-allowed, at-ceiling, is-to}
 use Rattle.tables.specs.Calls.{told}
-use Rattle.tables.proofs.Readied.{clock-most}
-use Rattle.tables.proofs.ManyTicks.{range-low, range-high, told-range, told-ceiling, many-ticked}
+use Rattle.tables.proofs.ManyTicks.{told-range, told-ceiling, many-ticked}
 use Rattle.tables.proofs.Tables.ticked.Statement.{statement}
 use Rattle.tables.proofs.Tables.ticked.Tie as tie
 
-returns : tie.Need-returns
-returns c =
-    let s = c .before .before in
-    ap told (c .refused .ensures)
-    ∙ told-range (s .args .self) (s .args .n) (s .pre .ready .sound) (range-low (s .args .n) (c .before .if1 .taken))
-
-returns-2 : tie.Need-returns-2
-returns-2 c =
-    let s = c .before .before .before in
-    ap told (c .refused2 .ensures)
-    ∙ told-range (s .args .self) (s .args .n) (s .pre .ready .sound) (range-high (s .args .n) (c .before .if2 .taken))
-
-add-end : tie.Need-add-end
-add-end c =
-    let e = c .before .before in
-    let s = e .before .before in
-    omega (arith, clock-most (s .args .self) (s .pre .ready), e .if2 .left)
-
-returns-3 : tie.Need-returns-3
-returns-3 c =
-    let k = c .before .before in
-    let e = k .before in
-    let s = e .before .before .before in
-    let n = s .args .n in
-    ap told (c .refused3 .ensures)
-    ∙ told-ceiling (s .args .self) n (s .pre .ready .sound)
-    (upTo-is 1 mostTicks n (omega (arith, e .before .before .if1 .left)) (omega (arith, e .before .if2 .left)))
-    (lt-leb (s .args .self .ledger .clock .ticks + n) ceiling (c .before .if3 .taken))
+-- where the ticks are made: n, and the clock after them
+to : (c : tie.After-span) → let a = c .before .before .before .before .args in
+    (1 ≤ a .n) × (a .n ≤ mostTicks) × (a .self .ledger .clock .ticks + a .n ≤ ceiling)
+    × (c .span .given .0 .0 ≡ a .self .ledger .clock .ticks + a .n)
+to c =
+    let o = c .before .before in
+    let a = o .before .before .args in
+    is-to (a .self .ledger .clock .ticks) (a .n) (c .span .given .0 .0) (sym (o .span-of .ensures) ∙ c .span .given .1)
 
 ticked-to-requires : tie.Need-ticked-to-requires
 ticked-to-requires c κs =
     let s = c .before .before .before .before .before in
-    record { orderly = s .pre .ready .orderly; sound = s .pre .plainly; low = omega arith; high = c .if3 .left }
+    let t = to (c .before) in
+    record {
+      orderly = s .pre .ready .orderly;
+      sound = s .pre .plainly;
+      low = omega (arith, t .3);
+      high = omega (arith, t .2, t .3);
+    }
 
-returns-4 : tie.Need-returns-4
-returns-4 c =
-    let t = c .before in
-    let k = t .before .before in
-    let e = k .before in
-    let s = e .before .before .before in
-    let n = s .args .n in
+returns : tie.Need-returns
+returns c =
+    let o = c .before .before .before in
+    let s = o .before .before in
+    let a = s .args in
+    ap told (c .refused .ensures)
+    ∙ told-range (a .self) (a .n) (s .pre .ready .sound)
+    (not-allowed (a .self .ledger .clock .ticks) (a .n) (sym (o .span-of .ensures) ∙ c .before .enum-told .given .1))
+
+returns-2 : tie.Need-returns-2
+returns-2 c =
+    let o = c .before .before .before in
+    let s = o .before .before in
+    let a = s .args in
+    let t = at-ceiling (a .self .ledger .clock .ticks) (a .n) (sym (o .span-of .ensures) ∙ c .before .enum-told2 .given .1) in
+    ap told (c .refused2 .ensures) ∙ told-ceiling (a .self) (a .n) (s .pre .ready .sound) (t .0) (t .1)
+
+returns-3 : tie.Need-returns-3
+returns-3 c =
+    let k = c .before in
+    let x = k .before .before in
+    let s = x .before .before .before .before in
+    let t = to x in
     c .count-of .ensures
-    ∙ many-ticked (s .args .self) (s .pre .ready .orderly) (s .pre .ready .sound) (s .pre .plainly) n
-    (omega (arith, e .before .before .if1 .left)) (omega (arith, e .before .if2 .left)) (omega (arith, t .before .if3 .left))
-    (s .args .self .ledger .clock .ticks + n) refl _ _ (t .ticked-to .ensures)
+    ∙ many-ticked (s .args .self) (s .pre .ready .orderly) (s .pre .ready .sound) (s .pre .plainly) (s .args .n) (t .0) (t .1) (t .2) _ (t .3) _ _
+    (k .ticked-to .ensures)
 
 pub ticked-spec : {M : Type 1} → statement M
 ticked-spec =
     tie.close
-    (tie.spec (λ c κs. search needs) returns (λ c κs. search needs) returns-2 add-end (λ c κs. search needs) returns-3 ticked-to-requires
-    (λ c κs. search needs) returns-4)
+    (tie.spec (λ c κs. search needs) (λ c. search needs) (λ c κs. search needs) (λ c. search needs) (λ c κs. search needs) (λ c. search needs)
+    ticked-to-requires (λ c κs. search needs) returns returns-2 returns-3)
