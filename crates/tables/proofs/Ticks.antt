@@ -8,7 +8,7 @@ use native.Mathlib.Numerals.{add-one}
 use mathlib.Core.Path.{_≡_, refl, sym, ap, _∙_, subst}
 use mathlib.Core.Bool.{Bool, true, false, cond}
 use mathlib.Core.List.{List, [], _∷_, map}
-use lib.ListN.{length, getD, length-map, List·getD-eq-default}
+use lib.ListN.{length, getD, set, length-map, List·getD-eq-default}
 use Rattle.lists.specs.Lists.{hit, same, keep, from, join, Ascending}
 use Rattle.clock.specs.declared.Clock.{Clock}
 use Rattle.clock.specs.Clock.{ceiling}
@@ -24,10 +24,13 @@ use Rattle.rules.specs.Replay.{Before, Accounts}
 use Rattle.rules.specs.Sound.{Dues}
 use Rattle.rules.proofs.shared.Parts.{play-append}
 use Rattle.chains.specs.Links.{read}
-use Rattle.timers.specs.Inner.{moved, starts, starters, movedTo, passed, starting, CanMoveAll}
+use Rattle.timers.specs.Inner.{fallsDue, moved, starts, starters, passed, starting}
+use Rattle.timers.proofs.Changing.{changed, changed-next, changed-skip, changed-at, changed-all}
+use Rattle.timers.proofs.Striking.{moved-not}
 use Rattle.timers.proofs.Starting.{moved-state, moved-priority, passed-at, started-moved}
 use Rattle.timers.proofs.Moves.{Timely, tick-played, tick-starters}
 use Rattle.decisions.specs.Inner.{tickEvents, startsNow}
+use Rattle.ledger.specs.declared.Ledger.{Ledger}
 use Rattle.tables.specs.declared.Tables.{Tables}
 use Rattle.tables.specs.Tables.{plain}
 use Rattle.tables.specs.Inner.{Orderly, Says, Ready, Played, CanPass, Moves, Counts}
@@ -90,9 +93,61 @@ module _ (t : Tables) (O : Orderly t) (now : ℕ) where
     };
   }
 
-  pub was-passed : (ps : List Program) (k : Clock) → ps ≡ map (moved now) (t .ledger .programs) → k .ticks ≡ now
+  was-passed : (ps : List Program) (k : Clock) → ps ≡ map (moved now) (t .ledger .programs) → k .ticks ≡ now
       → Says (with ps k) (passed now (plain t))
   was-passed ps k P e = subst (λ (qs : List Program). Says (with qs k) (passed now (plain t))) (sym P) (passed-says k e)
+
+-- one record after another: the first i of a ledger have their timers moved on
+pub record Passing (s : Tables) (now : ℕ) (l : Ledger) (i : ℕ) : Type 0 where
+  pub within : i ≤ 32
+  pub is : l
+      ≡ record {
+        programs = changed (moved now) i (s .ledger .programs);
+        clock = s .ledger .clock;
+        tracks = s .ledger .tracks;
+        numbers = s .ledger .numbers;
+      }
+
+module _ (s : Tables) (now : ℕ) where
+  abbrev over : List Program → Ledger
+  over ps = record { programs = ps; clock = s .ledger .clock; tracks = s .ledger .tracks; numbers = s .ledger .numbers }
+
+  pub passing-start : Passing s now (s .ledger) 0
+  passing-start = record { within = omega arith; is = refl }
+
+  module _ {l : Ledger} {i : ℕ} (P : Passing s now l i) where
+    -- the record that comes next is still as it was
+    pub passing-at : getD (l .programs) i missing ≡ getD (s .ledger .programs) i missing
+    passing-at =
+        ap (λ (x : Ledger). getD (x .programs) i missing) (P .is) ∙ changed-at (moved now) i (s .ledger .programs)
+
+    pub passing-moved : i < 32 → (r : Program) → r ≡ moved now (getD (l .programs) i missing)
+        → Passing s now (record { programs = set (l .programs) i r; clock = l .clock; tracks = l .tracks; numbers = l .numbers }) (i + 1)
+    passing-moved h r e = record {
+      within = omega arith;
+      is = ap (λ (x : Ledger). record { programs = set (x .programs) i r; clock = x .clock; tracks = x .tracks; numbers = x .numbers }) (P .is)
+          ∙ ap over (changed-next (moved now) i (s .ledger .programs) (changed (moved now) i (s .ledger .programs)) r refl
+          (e ∙ ap (moved now) passing-at));
+    }
+
+    pub passing-past : i < 32 → length (s .ledger .programs) ≡ 32 → fallsDue now (getD (l .programs) i missing) ≡ false → Passing s now l (i + 1)
+    passing-past h L f = record {
+      within = omega arith;
+      is = P .is
+          ∙ ap over (changed-skip (moved now) i (s .ledger .programs) (omega arith)
+          (moved-not now (getD (s .ledger .programs) i missing) (ap (fallsDue now) (sym passing-at) ∙ f)));
+    }
+
+    -- all of them, and the clock
+    pub passing-done : Orderly s → 32 ≤ i → (k : Clock) → k .ticks ≡ now
+        → Says (record { ledger = record { programs = l .programs; clock = k; tracks = l .tracks; numbers = l .numbers }; links = s .links })
+        (passed now (plain s))
+    passing-done O h k e =
+        subst (λ (x : Ledger). Says (record {
+          ledger = record { programs = x .programs; clock = k; tracks = x .tracks; numbers = x .numbers };
+          links = s .links;
+        }) (passed now (plain s))) (sym (P .is))
+        (was-passed s O now (changed (moved now) i (s .ledger .programs)) k (changed-all (moved now) i (s .ledger .programs) (omega (arith, O .long, h))) e)
 
 -- THE PROGRAMS, ONE AFTER ANOTHER
 -- those from p on

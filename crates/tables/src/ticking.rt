@@ -25,9 +25,13 @@ impl Tables {
         ensures { λ t. ⌜ Says t (passed now (plain self)) ⌝ }
     {
         let mut ledger = self.ledger;
-        let before = ledger.programs;
-        let programs = timers::move_all(before, now);
-        ledger.programs = programs;
+        for i in 0..MOST_PROGRAMS {
+            let r = ledger.programs[i];
+            if timers::falls_due(r, now) {
+                ledger.programs[i] = timers::moved(r, now);
+                continue;
+            }
+        }
         ledger.clock = Clock::from_ticks(now);
         let links = self.links;
         Tables { ledger, links }

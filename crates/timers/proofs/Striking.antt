@@ -41,6 +41,10 @@ falls-later now later r h e = let k = falls-true now r e in falls-is later r (k 
 abbrev timed : ℕ → Program → Program
 timed now r = withTimer (dueBeyond now (r .due) (r .interval)) (r .interval) r
 
+-- which is as it was where it does not fall due
+pub moved-not : (now : ℕ) (r : Program) → fallsDue now r ≡ false → moved now r ≡ r
+moved-not now r e = ap (λ (b : Bool). cond b (timed now r) r) e
+
 -- by the two tests
 abbrev by : Bool → Bool → ℕ → Program → Program
 by falls sleeps now r = cond (falls && sleeps) (inState 1 Nothing (cond falls (timed now r) r)) (cond falls (timed now r) r)

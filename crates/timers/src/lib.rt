@@ -1,9 +1,8 @@
 // Timers: when they fall due, and how they move on, over one tick or over many.
 ghost use Prim.Native.Nat.{_+_, _≤_};
 ghost use mathlib.Core.Path.{_≡_};
-ghost use mathlib.Core.List.{map};
 ghost use Rattle.clock.specs.Clock.{ceiling};
-ghost use Rattle.timers.specs.Inner.{fallsDue, dueBeyond, moved, starts, sooner, nextStart, CanMove, CanMoveAll, spanOf};
+ghost use Rattle.timers.specs.Inner.{fallsDue, dueBeyond, moved, starts, sooner, nextStart, CanMove, spanOf};
 use clock::Clock;
 use limits::DORMANT;
 use limits::MOST_PROGRAMS;
@@ -34,7 +33,7 @@ pub fn span_of(clock: u64, n: u64) -> Span
 }
 
 // Whether a record's timer falls due by the time the clock stands at `now`.
-fn falls_due(r: Program, now: u64) -> bool
+pub fn falls_due(r: Program, now: u64) -> bool
     ensures { λ b. ⌜ b ≡ fallsDue now r ⌝ }
 {
     if r.due == 0 {
@@ -66,7 +65,7 @@ fn due_beyond(now: u64, due: u64, interval: u64) -> u64
 }
 
 // The record with its timer beyond `now`, where it fell due by then.
-fn moved(r: Program, now: u64) -> Program
+pub fn moved(r: Program, now: u64) -> Program
     requires { ⌜ CanMove now r ⌝ }
     ensures { λ x. ⌜ x ≡ moved now r ⌝ }
 {
@@ -75,19 +74,6 @@ fn moved(r: Program, now: u64) -> Program
         return r.with_timer(due, r.interval);
     }
     r
-}
-
-// All records, each with its timer beyond `now`.
-pub fn move_all(programs: [Program; MOST_PROGRAMS], now: u64) -> [Program; MOST_PROGRAMS]
-    requires { ⌜ CanMoveAll now programs ⌝ }
-    ensures { λ r. ⌜ r ≡ map (moved now) programs ⌝ }
-{
-    let mut all = programs;
-    for i in 0..MOST_PROGRAMS {
-        let r = programs[i];
-        all[i] = moved(r, now);
-    }
-    all
 }
 
 // The sooner of `end` and the moment at which a dormant program falls due.
