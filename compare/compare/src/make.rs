@@ -1,7 +1,7 @@
 //! Sound tables. Some are met by running scripts; others are put together field by field, as far
 //! as soundness lets them go: no run from FRESH makes a dormant program that owns a number, two
-//! programs that wait for each other, or an interval that is no multiple of a unit, and none that
-//! ends brings the clock near its ceiling.
+//! programs that wait for each other, or an interval that is no multiple of a unit, and no script
+//! here brings the clock near its ceiling.
 
 use crate::prng::Prng;
 use crate::script::generate;
@@ -10,6 +10,7 @@ use engine::raw::{
 };
 use engine::sheet::{lines, print_line};
 use engine::tables::{CEILING, CHAINS, DISC, FURTHEST, GENERAL_WAIT, LOWEST_PRIORITY, RECORDS};
+use engine::ticks::MOST_TICKS;
 use engine::Engine;
 
 const DAY: u64 = 8_640_000;
@@ -74,7 +75,10 @@ fn clock(prng: &mut Prng) -> u64 {
         3 => year + 1 - near.min(2),
         4 => CEILING,
         5 => CEILING - near,
-        6 => CEILING - prng.below(FURTHEST),
+        6 => {
+            let most = prng.pick(&[FURTHEST, MOST_TICKS, 5_000]);
+            CEILING - prng.below(most)
+        }
         _ => any,
     }
 }

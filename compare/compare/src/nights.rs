@@ -96,8 +96,9 @@ pub fn ceiling() -> Vec<u8> {
     let mut left: u64 = 100_000_000;
     for step in [99_990_000, 4_000, 5_400, 343, 157, 98, 1, 1] {
         add(&mut lines, "EXEC,12,A,1,3,60 EXEC,12,B,1,1,1 EXEC,12,C,2,0,100 PAGE TICK,100000001");
-        add(&mut lines, &format!("TICK,{} PAGE TICK,100000000 TICK,0 PAGE", left + 1));
+        add(&mut lines, &format!("TICK,{} PAGE TICK,0 PAGE", left + 1));
         if left <= 10_000 {
+            add(&mut lines, "TICK,100000000 PAGE");
             // Due at the ceiling itself, or beyond it.
             let offset = left.min(4_095);
             add(

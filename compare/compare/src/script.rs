@@ -30,8 +30,9 @@ pub fn generate_within(seed: u64, lines: usize, most_ticks: u64) -> Vec<u8> {
             // What went wrong in silence shows at the end.
             b"PAGE".to_vec()
         } else {
-            fewer_ticks(next_line(&mut prng, &profile, &engine), most_ticks)
+            next_line(&mut prng, &profile, &engine)
         };
+        let line = fewer_ticks(line, most_ticks);
         print_line(&mut engine, &line);
         script.extend_from_slice(&line);
         script.push(b'\n');
