@@ -9,7 +9,7 @@ const SECOND: [Set; 5] = [(0, 1), (0, 2), (1, 2), (2, 2), (3, 1)];
 const OF_ONE: [Set; 5] = [(0, 1), (0, 3), (1, 1), (2, 3), (3, 2)];
 
 /// Into every state but dormant, and into those where it waits with the mark of request (ii); the
-/// last is dormant again. A runs when it asks for these.
+/// last is dormant again. A runs when it asks for these; then B, its equal, is scheduled.
 const STATES: [&str; 9] = [
     "",
     "EXEC,7",
@@ -48,9 +48,9 @@ pub fn every_moment() -> Vec<u8> {
             for (state, (multiple, offset)) in
                 STATES.iter().flat_map(|state| OF_ONE.map(|set| (state, set)))
             {
-                add(&mut lines, "FRESH,1,1,0 LOAD,A,5 LOAD,B,10 LOAD,C,20 RU,C");
+                add(&mut lines, "FRESH,1,1,0 LOAD,A,5 LOAD,B,5 LOAD,C,20 RU,C");
                 add(&mut lines, &format!("EXEC,12,A,{},{},{}", unit, multiple, offset));
-                add(&mut lines, &format!("RU,A {} TICK,{} PAGE TICK,1 PAGE", state, n));
+                add(&mut lines, &format!("RU,A {} RU,B TICK,{} PAGE TICK,1 PAGE", state, n));
             }
         }
     }

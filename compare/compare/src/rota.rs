@@ -42,7 +42,12 @@ pub fn rota(prng: &mut Prng, profile: &Profile) -> Vec<String> {
     for _ in 0..prng.between(1, 4) {
         let about = prng.between(1, latest) * unit;
         let n = prng.pick(&[about - 1, about, about, about, about + 1]);
-        lines.extend([format!("TICK,{}", n), String::from("PAGE")]);
+        if unit == 1 && prng.chance(1, 3) {
+            lines.extend((0..n).map(|_| String::from("TICK")));
+        } else {
+            lines.push(format!("TICK,{}", n));
+        }
+        lines.push(String::from("PAGE"));
         // Dormant again, some of them.
         lines.extend((0..prng.between(1, 4)).map(|_| String::from("EXEC,6")));
     }

@@ -2,6 +2,7 @@
 //! on tables put by hand alone (`faults/tests/hand.rs`), on pages (`pages.rs`), on pairs of texts
 //! (`texts.rs`) and on runs of sheets (`follow.rs`).
 
+use comparer::corners::of_ticks;
 use comparer::differ::{begins_fresh, differs, fixed_inputs, run, shortest, Count, Failure};
 use comparer::other::Other;
 use comparer::report::report;
@@ -93,7 +94,7 @@ fn fixed_inputs_find_their_mutants() {
         ("suspend-0-written", "how input begins and ends"),
         ("suspend-before-interval", "every way to wake"),
         ("sum-in-32-bits", "fields of every length"),
-        ("wraps-32", "fields of every length"),
+        ("wraps-32", "numbers at their bounds"),
         ("eleven-digits", "fields of every length"),
         ("over-30-bytes", "fields of every length"),
         ("of-46-bytes", "fields of every length"),
@@ -104,18 +105,6 @@ fn fixed_inputs_find_their_mutants() {
         ("minutes-run-on", DAYS),
         ("hours-lost", DAYS),
         ("hours-run-on", DAYS),
-        ("ticks-last-lost", MOMENTS),
-        ("ticks-last-lost-far", MOMENTS),
-        ("ticks-entered-twice", MOMENTS),
-        ("ticks-by-number", MOMENTS),
-        ("ticks-by-number-far", MOMENTS),
-        ("ticks-one-short", "numbers at their bounds"),
-        ("ticks-one-short-far", "numbers at their bounds"),
-        ("ticks-stays-at-last", "numbers at their bounds"),
-        ("ticks-once-kept", "numbers at their bounds"),
-        ("ticks-started-due-once", "numbers at their bounds"),
-        ("ticks-start-waiting", "every way to wake"),
-        ("ticks-start-suspended", MOMENTS),
         ("ticks-100000000-refused", "numbers at their bounds"),
         ("ticks-100000001-taken", "numbers at their bounds"),
         ("ticks-0-done", "numbers at their bounds"),
@@ -132,6 +121,38 @@ fn fixed_inputs_find_their_mutants() {
         assert_eq!(found.map(|(about, _, _)| *about), Some(about), "{}", name);
     }
 }
+
+/// The input with every moment finds, by itself, all that is wrong in how many ticks go from due to
+/// due, but what shows near the ceiling alone.
+#[test]
+fn every_moment_finds_its_mutants() {
+    let [(about, input), ..] = of_ticks();
+    assert_eq!(about, MOMENTS);
+    let right = sheet(&input);
+    let elsewhere = |name: &str| BY_FIXED_INPUT.iter().any(|(other, _)| *other == name);
+    let mut found = 0;
+    for fault in FAULTS.iter().filter(|fault| fault.name.starts_with("ticks-")) {
+        let differs = (fault.sheet)(&input) != right;
+        found += usize::from(differs);
+        let forms = FORMS_OF_TICKS.contains(&fault.name);
+        assert_eq!(differs, !forms && !elsewhere(fault.name), "{}", fault.name);
+    }
+    assert!(found >= 40, "{}", found);
+}
+
+/// Wrong in the numbers and forms that the line takes, which are right ones there.
+const FORMS_OF_TICKS: [&str; 10] = [
+    "ticks-100000000-refused",
+    "ticks-100000001-taken",
+    "ticks-0-done",
+    "ticks-0-is-one",
+    "ticks-bounds-as-11",
+    "ticks-in-32-bits",
+    "ticks-empty-number",
+    "ticks-more-fields",
+    "ticks-leading-zero",
+    "ticks-of-eleven-digits",
+];
 
 /// The right engine passes, over the same seeds and through the same code: what all wrong ones that
 /// are built together have in common.
