@@ -4,7 +4,7 @@ use engine::raw::{Raw, RawRecord};
 use engine::sheet::lines;
 use engine::tables::{DISC, DORMANT, GENERAL_WAIT, SCHEDULED};
 use engine::ticks::{MOST_TICKS, ONE_BY_ONE};
-use engine::{parse, Answer, Engine, Request};
+use engine::{parse, Engine, Request};
 use std::collections::BTreeMap;
 
 const ACCEPTED: &str = "accepted";
@@ -50,7 +50,7 @@ impl Count {
             if let Some(Request::Ticks(n)) = parse(line) {
                 let before = Raw::of(&engine);
                 let answer = engine.line(line, &mut []);
-                count.add(&before, n, answer, &Raw::of(&engine));
+                count.add(&before, n, answer.number, &Raw::of(&engine));
             } else {
                 engine.line(line, &mut []);
             }
@@ -70,9 +70,9 @@ impl Count {
         self.note(row, u64::from(happened));
     }
 
-    /// `TICK,n` on sound tables, with its answer and the tables after it.
-    pub fn add(&mut self, before: &Raw, n: u64, answer: Answer, after: &Raw) {
-        match answer.number {
+    /// `TICK,n` on sound tables, with the number of its answer and the tables after it.
+    pub fn add(&mut self, before: &Raw, n: u64, answer: u64, after: &Raw) {
+        match answer {
             0 => self.note(ACCEPTED, 1),
             3 => return self.note(REFUSED_3, 1),
             11 => return self.note(REFUSED_11, 1),
@@ -140,10 +140,10 @@ impl Count {
     }
 
     /// A table with a column for these, and one for others.
-    pub fn print(&self, others: &Count) -> String {
-        let mut text = format!("{:52}{:>10}{:>14}\n", "TICK,n", "scripts", "fixed inputs");
+    pub fn print(&self, titles: [&str; 2], others: &Count) -> String {
+        let mut text = format!("{:52}{:>10}{:>16}\n", "TICK,n", titles[0], titles[1]);
         for row in ROWS {
-            text += &format!("{:52}{:>10}{:>14}\n", row, self.of(row), others.of(row));
+            text += &format!("{:52}{:>10}{:>16}\n", row, self.of(row), others.of(row));
         }
         text
     }

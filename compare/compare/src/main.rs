@@ -165,7 +165,8 @@ fn run(options: Options) -> Result<u8, String> {
         None => {
             let marks = marks::Count::of_scripts(options.seeds, options.lines);
             let fixed = of_ticks().map(|(_, input)| input).join(&b'\n');
-            let leaps = marks.leaps.print(&leaps::Count::of_input(&fixed));
+            let fixed = leaps::Count::of_input(&fixed);
+            let leaps = marks.leaps.print(["scripts", "fixed inputs"], &fixed);
             let Count { runs, scripts, lines } = count;
             let said = format!("{runs} runs, {scripts} scripts, {lines} lines: no difference\n");
             print(format!("{}\n{}{}", marks.print(), leaps, said).as_bytes())

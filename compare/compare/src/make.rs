@@ -140,6 +140,17 @@ fn timer(prng: &mut Prng, clock: u64) -> (u64, u64) {
     (clock + ahead, prng.pick(&[0, 0, 1, 2, 100, FURTHEST - 1, FURTHEST, any]))
 }
 
+/// Most timers of these tables come due soon, some of them at one moment.
+pub fn due_soon(prng: &mut Prng, raw: &mut Raw) {
+    let span = prng.pick(&[3, 10, 300, 5_000]);
+    for record in raw.records.iter_mut().filter(|record| record.used) {
+        if prng.chance(3, 4) {
+            record.due = raw.clock + prng.between(1, span);
+            record.interval = prng.pick(&[0, 0, 1, 2, 3, 7, 100, span, span + 1]);
+        }
+    }
+}
+
 /// In states 5 and 3 a why that fits. A son may be any program that is not dormant, a father of its
 /// father among them, but nobody's son already.
 fn put_whys(prng: &mut Prng, raw: &mut Raw) {

@@ -97,7 +97,8 @@ impl Count {
             let outcome = engine.perform(request, &mut []);
             self.add_asked(&before, request);
             if let Request::Ticks(n) = request {
-                self.leaps.add(&Raw::of(&before), n, Answer::of(outcome), &Raw::of(&engine));
+                let answer = Answer::of(outcome).number;
+                self.leaps.add(&Raw::of(&before), n, answer, &Raw::of(&engine));
             }
             if outcome.is_ok() {
                 self.add_records(&before, request, &engine, &mut removed);

@@ -108,17 +108,6 @@ fn numbers(prng: &mut Prng, raw: &Raw) -> Vec<u64> {
     numbers
 }
 
-/// Timers that come due soon, some of them at one moment, more often than those of `make`.
-fn soon(prng: &mut Prng, raw: &mut Raw) {
-    let span = prng.pick(&[3, 10, 300, 5_000]);
-    for record in raw.records.iter_mut().filter(|record| record.used) {
-        if prng.chance(3, 4) {
-            record.due = raw.clock + prng.between(1, span);
-            record.interval = prng.pick(&[0, 0, 1, 2, 3, 7, 100, span, span + 1]);
-        }
-    }
-}
-
 #[test]
 fn all_ways_agree() {
     let mut prng = Prng::new(3);
@@ -128,7 +117,7 @@ fn all_ways_agree() {
         all.extend([make::unreached(&mut prng), make::unreached(&mut prng)]);
         for (place, raw) in all.iter_mut().enumerate() {
             if (round + place) % 2 == 0 {
-                soon(&mut prng, raw);
+                make::due_soon(&mut prng, raw);
             }
             for n in numbers(&mut prng, raw) {
                 check(raw, n);
@@ -205,7 +194,7 @@ fn leaps_come_up() {
     let count = marks::Count::of_scripts(CI_SEEDS, CI_LINES).leaps;
     let fixed = of_ticks().map(|(_, input)| input).join(&b'\n');
     let in_fixed = leaps::Count::of_input(&fixed);
-    let text = count.print(&in_fixed);
+    let text = count.print(["scripts", "fixed inputs"], &in_fixed);
     println!("{}", text);
     for row in ROWS {
         assert!(count.of(row) >= 20 || row == REFUSED_11, "{}: {}", row, text);
