@@ -4,11 +4,11 @@
 use crate::ffi::ANSWER;
 use comparer::prng::Prng;
 use comparer::profile::{Profile, Topic};
-use comparer::{spoil, wish};
+use comparer::{claims, spoil, wish};
 use engine::tables::shown_name;
 use engine::Engine;
 
-const REQUESTS: [Topic; 22] = [
+const REQUESTS: [Topic; 23] = [
     Topic::Load,
     Topic::Run,
     Topic::Suspend,
@@ -16,6 +16,7 @@ const REQUESTS: [Topic; 22] = [
     Topic::Priority,
     Topic::Off,
     Topic::Tick,
+    Topic::Ticks,
     Topic::Claim,
     Topic::GiveBack,
     Topic::GiveAll,
@@ -45,6 +46,16 @@ pub fn line(prng: &mut Prng, engine: &Engine) -> Vec<u8> {
         2 => spoil::spoil(prng, &good),
         3 => strange(prng, &good),
         _ => good.into_bytes(),
+    }
+}
+
+/// Ticks, mostly many at once.
+pub fn ticks(prng: &mut Prng, engine: &Engine) -> Vec<u8> {
+    let line = format!("TICK,{}", claims::ticks(prng, engine));
+    match prng.below(24) {
+        0 => spoil::spoil(prng, &line),
+        1 => b"TICK".to_vec(),
+        _ => line.into_bytes(),
     }
 }
 

@@ -4,6 +4,7 @@ use comparer::make;
 use comparer::script::generate;
 use comparer::texts::Pair;
 use engine::sheet;
+use engine::ticks::MOST_TICKS;
 
 /// Generated scripts one after the other, so many lines in all.
 pub fn mixed(lines: usize) -> Vec<u8> {
@@ -52,6 +53,60 @@ pub fn ticks(lines: usize) -> Vec<u8> {
     scheduled(&mut opening, 32);
     opening.extend((1..=32).map(|k| format!("EXEC,12,{},1,{},{}", name(k), k, k)));
     repeated(opening, &[String::from("TICK")], lines)
+}
+
+/// 32 programs that are dormant, each with a timer: its resolution, multiple and offset.
+fn dormant(timer: impl Fn(u64) -> (u64, u64, u64)) -> Vec<String> {
+    let mut opening = vec![String::from("FRESH,256,0,16")];
+    opening.extend((1..=32).map(|k| format!("LOAD,{},10", name(k))));
+    opening.push(format!("RU,{}", name(1)));
+    for k in 1..=32 {
+        let (resolution, multiple, offset) = timer(k as u64);
+        opening.push(format!("EXEC,12,{},{},{},{}", name(k), resolution, multiple, offset));
+    }
+    opening.push(String::from("EXEC,6"));
+    opening
+}
+
+/// Timers of 7 seconds to 10 hours.
+pub fn winter_tables() -> Vec<u8> {
+    joined(dormant(|k| match k {
+        1..=12 => (2, 7 * k, 5 * k),
+        13..=22 => (3, k - 9, 2 * k),
+        _ => (4, k - 22, 33 - k),
+    }))
+}
+
+/// 26 weeks.
+const WINTER: u64 = 26 * 7 * 8_640_000;
+
+/// A winter in lines of at most 100,000,000 ticks; after each the 32 programs, all of which it
+/// started, end one by one.
+pub fn winter() -> Vec<u8> {
+    let mut text = winter_tables();
+    let mut left = WINTER;
+    while left > 0 {
+        let n = left.min(MOST_TICKS);
+        text.extend(format!("TICK,{}\n", n).bytes());
+        text.extend(b"EXEC,6\n".repeat(32));
+        left -= n;
+    }
+    text
+}
+
+/// Timers that are due at every tick.
+pub fn every_tick_tables() -> Vec<u8> {
+    joined(dormant(|_| (1, 1, 1)))
+}
+
+/// The same, and the most ticks of one line.
+pub fn every_tick() -> Vec<u8> {
+    [every_tick_tables(), format!("TICK,{}\n", MOST_TICKS).into_bytes()].concat()
+}
+
+/// Timers that are due in the morning, 13 hours on and later.
+pub fn night_tables() -> Vec<u8> {
+    joined(dormant(|k| (4, k, 12 + k)))
 }
 
 /// Nothing but pages of tables in which every record, track and number is in use.

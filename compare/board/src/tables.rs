@@ -5,6 +5,7 @@ use crate::ffi::{self, Reply, ANSWER, TABLES};
 use crate::harm;
 use crate::pack::{formed, in_form, pack, OLDER};
 use crate::show;
+use comparer::leaps;
 use comparer::make;
 use comparer::prng::Prng;
 use comparer::report::shown;
@@ -76,11 +77,18 @@ pub struct Cases {
     prng: Prng,
     /// Sound tables of one script that have not been taken yet.
     reached: Vec<Raw>,
+    /// Ticks alone are asked for, and timers come due soon.
+    ticks: bool,
 }
 
 impl Cases {
     pub fn new(seed: u64) -> Cases {
-        Cases { prng: Prng::new(seed), reached: Vec::new() }
+        Cases { prng: Prng::new(seed), reached: Vec::new(), ticks: false }
+    }
+
+    /// The same kinds of tables, and mostly `TICK,n`.
+    pub fn of_ticks(seed: u64) -> Cases {
+        Cases { ticks: true, ..Cases::new(seed) }
     }
 
     fn sound(&mut self, kind: Kind) -> Raw {
@@ -108,9 +116,12 @@ impl Cases {
 
     pub fn case(&mut self, kind: Kind) -> Case {
         let mut raw = self.sound(kind);
-        let engine = raw.engine().expect("sound tables");
         let prng = &mut self.prng;
-        let line = ask::line(prng, &engine);
+        if self.ticks && prng.chance(2, 3) {
+            make::due_soon(prng, &mut raw);
+        }
+        let engine = raw.engine().expect("sound tables");
+        let line = if self.ticks { ask::ticks(prng, &engine) } else { ask::line(prng, &engine) };
         let size = if line == b"PAGE" || prng.chance(1, 10) {
             ask::buffer(prng, engine.page_bytes().len())
         } else {
@@ -233,6 +244,8 @@ pub struct Count {
     mismarked: u64,
     /// Calls by which a program was marked, lost its mark by its ending, or went to chain 6 with it.
     marks: [u64; 3],
+    /// What `TICK,n` did, on tables that a script reaches, or nearly, and on those that none does.
+    leaps: [leaps::Count; 2],
     /// Answers with too little room, and with more than they need.
     short: u64,
     longer: u64,
@@ -248,6 +261,7 @@ impl Count {
         }
         self.no_form += u64::from(!in_form(&case.tables));
         self.add_marks(case, sound, outcome);
+        self.add_leaps(case, sound, outcome);
         self.short += u64::from(case.answer.len() < ANSWER);
         self.longer += u64::from(case.answer.len() > ANSWER);
         if sound && case.answer.len() >= ANSWER {
@@ -282,6 +296,22 @@ impl Count {
         self.marks[2] += u64::from(happened && each().any(woken));
     }
 
+    fn add_leaps(&mut self, case: &Case, sound: bool, outcome: &Outcome) {
+        let n = match parse(&case.line) {
+            Some(Request::Ticks(n)) if sound && case.answer.len() >= ANSWER => n,
+            _ => return,
+        };
+        if let (Some(before), Some(after)) = (formed(&case.tables), formed(&outcome.tables)) {
+            let made = usize::from(case.kind == Kind::Unreached);
+            self.leaps[made].add(&before, n, outcome.number, &after);
+        }
+    }
+
+    /// How often this came of `TICK,n`.
+    pub fn leaps(&self, row: &str) -> u64 {
+        self.leaps.iter().map(|count| count.of(row)).sum()
+    }
+
     /// Sound tables with a mark, tables with one where none may stand, and how often a mark was set,
     /// was gone by an ending, and led to chain 6.
     pub fn marks(&self) -> (u64, u64, [u64; 3]) {
@@ -311,6 +341,8 @@ impl Count {
         for (what, times) in ["set", "gone by an ending", "to chain 6"].iter().zip(self.marks) {
             text += &format!("{:28}{:>10}\n", what, times);
         }
+        text +=
+            &format!("\n{}", self.leaps[0].print(["others", "reached by none"], &self.leaps[1]));
         text += &format!("\n{:28}{:>10}\n", "answer", "times");
         for (number, times) in self.answers.iter().enumerate() {
             text += &format!("{:<28}{:>10}\n", number, times);
@@ -321,7 +353,31 @@ impl Count {
 
 /// Compares so many cases. The report of the first that differs, if any does.
 pub fn agree(seed: u64, count: u64, total: &mut Count) -> Result<(), String> {
-    let mut cases = Cases::new(seed);
+    compare(Cases::new(seed), seed, count, total)
+}
+
+/// The same with ticks alone. Few of them have to come to what as many single ones do, which the
+/// library makes too.
+pub fn agree_ticks(seed: u64, count: u64, total: &mut Count) -> Result<(), String> {
+    compare(Cases::of_ticks(seed), seed, count, total)
+}
+
+/// Of single ticks no more are made.
+const SINGLE_TICKS: u64 = 60;
+
+/// What single ticks come to, where a line that is accepted makes no more than these: the tables
+/// after them, and the sum of their values.
+fn single_ticks(case: &Case, sound: bool, number: u64) -> Option<(Vec<u8>, u64)> {
+    let n = match parse(&case.line) {
+        Some(Request::Ticks(n)) if sound && number == 0 && n <= SINGLE_TICKS => n,
+        _ => return None,
+    };
+    let mut tables = case.tables.clone();
+    let sum = (0..n).map(|_| ffi::ask(&mut tables, b"TICK", &mut []).values[0]).sum();
+    Some((tables, sum))
+}
+
+fn compare(mut cases: Cases, seed: u64, count: u64, total: &mut Count) -> Result<(), String> {
     for place in 0..count {
         let case = cases.next_case();
         let (sound, expected) = engine_side(&case);
@@ -334,6 +390,16 @@ pub fn agree(seed: u64, count: u64, total: &mut Count) -> Result<(), String> {
                 case.kind.what()
             );
             return Err(title + &report(&case, sound, &expected, &got));
+        }
+        if let Some((tables, sum)) = single_ticks(&case, sound, expected.number) {
+            let reply = Reply { number: 0, values: [sum, 0, 0, 0, 0] };
+            let answer = answered(&reply, &case.answer);
+            if (&tables, &answer) != (&expected.tables, &expected.answer) {
+                let single = Outcome { tables, answer, ..expected.clone() };
+                let title =
+                    format!("single ticks differ on case {} of seed {}:\n", place + 1, seed);
+                return Err(title + &report(&case, sound, &expected, &Ok((sound, single))));
+            }
         }
         total.add(&case, sound, &expected);
     }

@@ -16,6 +16,14 @@ fn one_line_on_any_tables() {
 }
 
 #[test]
+fn many_ticks_on_any_tables() {
+    let mut count = tables::Count::default();
+    let compared = tables::agree_ticks(2, 10_000, &mut count);
+    assert!(compared.is_ok(), "{}", compared.unwrap_err());
+    assert_eq!(count.sum(), 10_000);
+}
+
+#[test]
 fn whole_texts() {
     let mut count = text::Count::default();
     let compared = text::agree(1..61, 100, &mut count);

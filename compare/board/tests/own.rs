@@ -7,6 +7,7 @@ use board::pack::{
 };
 use board::tables::{engine_side, Cases, Count, Kind};
 use board::{load, natural};
+use comparer::leaps;
 use comparer::make;
 use comparer::prng::Prng;
 use comparer::script::generate;
@@ -157,6 +158,7 @@ fn the_cases_go_everywhere() {
     // Some 10,000 of them are sound.
     let often = marked > 2_000 && mismarked > 300 && marks.iter().all(|times| *times > 50);
     assert!(often, "{}", count.print());
+    assert!(leaps::ROWS.iter().all(|row| count.leaps(row) > 0), "{}", count.print());
     let mut prng = Prng::new(1);
     let (mut dormant_owner, mut mutual, mut beyond, mut full) = (0, 0, 0, 0);
     for _ in 0..5_000 {
@@ -171,6 +173,23 @@ fn the_cases_go_everywhere() {
     }
     let seen = [dormant_owner, mutual, beyond, full];
     assert!(seen.iter().all(|times| *times > 100), "{:?}", seen);
+}
+
+/// Many ticks at once, on tables of every kind: each row comes up, and each answer but that of PAGE
+/// and of requests that name or call.
+#[test]
+fn the_ticks_go_everywhere() {
+    let mut cases = Cases::of_ticks(1);
+    let mut count = Count::default();
+    let mut answers = [0; 15];
+    for _ in 0..10_000 {
+        let case = cases.next_case();
+        let (sound, outcome) = engine_side(&case);
+        answers[outcome.number as usize] += 1;
+        count.add(&case, sound, &outcome);
+    }
+    assert!([0, 3, 11, 12, 13, 14].iter().all(|number| answers[*number] > 50), "{:?}", answers);
+    assert!(leaps::ROWS.iter().all(|row| count.leaps(row) >= 50), "{}", count.print());
 }
 
 /// The engine's own test says what the raw one says, on engines with a field changed.
@@ -270,6 +289,16 @@ fn loads() {
     let held = lines(&pages).iter().filter(|line| line.starts_with(b"held=")).count();
     assert_eq!((times(&pages, "programs=32"), held), (count, 256 * count));
     assert!(count > 500 && times(&pages, "number=16:global:1") == count);
+    // Every line of ticks starts all 32, and after each of them 32 end.
+    let winter = sheet(&load::winter());
+    assert_eq!((lines(&winter).len(), times(&winter, "answer=0,value=32")), (67 + 16 * 33, 17));
+    assert!(lines(&winter).iter().all(|line| line.starts_with(b"answer=0")));
+    let clock = sheet(&[&load::winter(), "PAGE\n".as_bytes()].concat());
+    assert_eq!(times(&clock, "clock=1572480000"), 1);
+    let every = sheet(&[&load::every_tick(), "PAGE\n".as_bytes()].concat());
+    assert_eq!((times(&every, "answer=0,value=32"), times(&every, "due=100000001")), (2, 32));
+    let night = sheet(&[&load::night_tables(), "TICK,4320000\nTICK,360000\n".as_bytes()].concat());
+    assert_eq!(lines(&night)[67..], [b"answer=0,value=0", b"answer=0,value=1"]);
     let ticks = sheet(&load::ticks(1_000));
     assert_eq!(lines(&ticks).iter().filter(|line| !line.starts_with(b"answer=0")).count(), 0);
     for n in [1, 8, 16, 32] {

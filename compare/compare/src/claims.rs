@@ -2,7 +2,9 @@
 //! numbers that are locked, timers due together.
 
 use crate::prng::Prng;
-use engine::{Engine, Holder};
+use engine::tables::CEILING;
+use engine::ticks::MOST_TICKS;
+use engine::{Engine, Holder, Timer};
 
 /// Runs of one holder: first track and length, upward.
 fn runs(engine: &Engine, holder: Holder) -> Vec<(u64, u64)> {
@@ -99,13 +101,79 @@ pub fn timer(prng: &mut Prng, engine: &Engine) -> (u64, u64, u64) {
         let multiple = prng.pick(&[0, 1, 7, 4094, 4095, 4096]);
         return (prng.between(1, 4), multiple, prng.pick(&[1, 7, 60, 4094, 4095, 4096]));
     }
-    let dues: Vec<u64> =
-        engine.programs.values().filter_map(|program| program.timer).map(|t| t.due).collect();
-    let offset = if !dues.is_empty() && prng.chance(1, 2) {
+    // Not by single ticks, but by many at once.
+    if prng.chance(1, 8) {
+        let multiple = prng.pick(&[0, 1, 2, 7, 60, 300]);
+        return (prng.pick(&[1, 1, 2, 2, 3]), multiple, prng.between(1, 400));
+    }
+    let set = timers(engine);
+    let offset = if !set.is_empty() && prng.chance(1, 2) {
         // A due is above the clock.
-        prng.pick(&dues) - engine.clock
+        prng.pick(&set).due - engine.clock
     } else {
         prng.between(1, 4)
     };
     (1, prng.pick(&[0, 0, 1, 2, 3]), offset.min(4095))
+}
+
+fn timers(engine: &Engine) -> Vec<Timer> {
+    engine.programs.values().filter_map(|program| program.timer).collect()
+}
+
+/// How many ticks at once: mostly few, or up to a due or beside it; now and then many, none, or too
+/// many. Near the ceiling often as many as there is room for, or beside that.
+pub fn ticks(prng: &mut Prng, engine: &Engine) -> u64 {
+    let set = timers(engine);
+    let room = CEILING - engine.clock;
+    if room <= MOST_TICKS && prng.chance(1, 3) {
+        return beside(prng, room);
+    }
+    match prng.below(16) {
+        0..=7 if !set.is_empty() => up_to_due(prng, engine, &set),
+        8 => prng.between(1, 40),
+        9 => prng.between(1, 1_000),
+        10 => {
+            let most = prng.pick(&[10_000, 1_000_000, MOST_TICKS]);
+            prng.between(1, most)
+        }
+        11 => prng.pick(&[1, 2, 256, 257, MOST_TICKS - 1, MOST_TICKS, MOST_TICKS]),
+        12 => prng.pick(&[
+            0,
+            0,
+            MOST_TICKS + 1,
+            MOST_TICKS + 1,
+            4_294_967_296,
+            4_294_967_297,
+            9_999_999_999,
+        ]),
+        _ => prng.between(1, 5),
+    }
+}
+
+/// A number, or one beside it; seldom 0.
+fn beside(prng: &mut Prng, number: u64) -> u64 {
+    let near = prng.pick(&[number.saturating_sub(1), number, number, number + 1]);
+    if near == 0 && prng.chance(7, 8) {
+        1
+    } else {
+        near
+    }
+}
+
+/// So many that a timer is due at the last of them, or nearly, for the first time or again, or for so
+/// long as its interval is. Of those that are too many for one line most become fewer.
+fn up_to_due(prng: &mut Prng, engine: &Engine, set: &[Timer]) -> u64 {
+    let Timer { due, interval } = prng.pick(set);
+    let last = set.iter().map(|timer| timer.due).max().unwrap_or(due);
+    let number = match prng.below(6) {
+        0 | 1 => due - engine.clock,
+        2 => last - engine.clock,
+        3 => interval,
+        4 => 2 * interval,
+        _ => due - engine.clock + prng.between(1, 3) * interval,
+    };
+    if number > MOST_TICKS && prng.chance(3, 4) {
+        return prng.pick(&[number % MOST_TICKS, number % 1_000]) + 1;
+    }
+    beside(prng, number)
 }

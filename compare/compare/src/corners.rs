@@ -1,7 +1,7 @@
 //! Fixed inputs, run after the scripts: how input can begin and end, every byte, every length, very
-//! long lines, bounds, every way to wake, and a long time.
+//! long lines, bounds, every way to wake, many ticks at once, and a long time.
 
-use crate::{forms, knots};
+use crate::{forms, knots, nights};
 
 /// Inputs by what they are about, the quick ones first. Each is run by itself, from the tables that
 /// `sheet` starts with.
@@ -12,12 +12,22 @@ pub fn named() -> Vec<(&'static str, Vec<u8>)> {
     inputs.push(("very long lines", long_lines()));
     inputs.push(("numbers at their bounds", forms::bounds()));
     inputs.push(("every way to wake", knots::every_waking()));
+    inputs.extend(of_ticks());
     inputs.push((FIELDS, forms::every_field()));
     inputs.push(("lines of every length", forms::every_length()));
     inputs.push((REPLACED, forms::bytes_replaced()));
     inputs.push((INSERTED, forms::bytes_inserted()));
     inputs.push(("two minutes of ticks", two_minutes()));
     inputs
+}
+
+/// Those with many ticks at once.
+pub fn of_ticks() -> [(&'static str, Vec<u8>); 3] {
+    [
+        ("many ticks, every moment", nights::every_moment()),
+        ("many ticks, days and years", nights::calendar()),
+        ("many ticks, up to the ceiling", nights::ceiling()),
+    ]
 }
 
 const FIELDS: &str = "fields of every length";

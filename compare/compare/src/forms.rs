@@ -2,7 +2,7 @@
 //! length, and numbers at the bounds of their ranges.
 
 /// Every form of a well-formed line, each accepted after `SETUP`.
-pub const FORMS: [&str; 27] = [
+pub const FORMS: [&str; 28] = [
     "FRESH,12,2,3",
     "LOAD,NEW,10",
     "RU,C",
@@ -12,6 +12,7 @@ pub const FORMS: [&str; 27] = [
     "OF,AB,1",
     "OF,C,8",
     "TICK",
+    "TICK,3",
     "EXEC,4,1,0",
     "EXEC,15,1,0",
     "EXEC,5,1,2",
@@ -37,6 +38,9 @@ pub const FORMS: [&str; 27] = [
 const SETUP: &str = "FRESH,12,2,3\nLOAD,AB,10\nLOAD,C,10\nLOAD,D,10\nRU,D\nSS,D\nRU,AB\n\
     EXEC,4,3,0\nEXEC,15,2,0\nRN,ALLOC,L,0\nRN,LOCK,1,0\nRN,ALLOC,G,0\n";
 
+/// C is due at every second tick, and AB at the third and then never again.
+const TIMERS: &str = "EXEC,12,C,1,2,2\nEXEC,12,AB,1,0,3\n";
+
 /// Words that stand behind the first comma of a form.
 const WORDS: [&str; 7] = ["ALL", "ALLOC", "LOCK", "CLEAR", "FREE", "L", "G"];
 
@@ -56,9 +60,16 @@ fn put(input: &mut Vec<u8>, line: &[u8]) {
 
 /// A line on tables set up for it, and the page after it.
 fn by_itself(input: &mut Vec<u8>, line: &[u8]) {
-    input.extend_from_slice(SETUP.as_bytes());
+    set_up(input, line);
     put(input, line);
     put(input, b"PAGE");
+}
+
+fn set_up(input: &mut Vec<u8>, line: &[u8]) {
+    input.extend_from_slice(SETUP.as_bytes());
+    if line.starts_with(b"TICK") {
+        input.extend_from_slice(TIMERS.as_bytes());
+    }
 }
 
 /// A byte that well-formed lines have.
@@ -111,7 +122,7 @@ pub fn bytes_inserted() -> Vec<u8> {
 pub fn every_length() -> Vec<u8> {
     let mut input = Vec::new();
     for form in FORMS {
-        input.extend_from_slice(SETUP.as_bytes());
+        set_up(&mut input, form.as_bytes());
         for length in 1..=100 {
             for filler in [b'0', b'1', b'A', b',', b' '] {
                 let mut line = form.as_bytes().to_vec();
@@ -188,6 +199,29 @@ fn lengths_together() -> Vec<u8> {
     input
 }
 
+const NUMBERS_OF_TICKS: [u64; 20] = [
+    0,
+    1,
+    2,
+    3,
+    4,
+    5,
+    255,
+    256,
+    257,
+    999_999,
+    99_999_999,
+    100_000_000,
+    100_000_001,
+    999_999_999,
+    1_000_000_000,
+    4_294_967_295,
+    4_294_967_296,
+    4_294_967_297,
+    4_294_967_299,
+    9_999_999_999,
+];
+
 /// Numbers at the bounds of their ranges, one line at a time.
 pub fn bounds() -> Vec<u8> {
     let mut input = Vec::new();
@@ -202,6 +236,9 @@ pub fn bounds() -> Vec<u8> {
         for line in ["LOAD,NEW", "PR,AB", "PR,C", "PR,D"] {
             by_itself(&mut input, format!("{},{}", line, priority).as_bytes());
         }
+    }
+    for n in NUMBERS_OF_TICKS {
+        by_itself(&mut input, format!("TICK,{}", n).as_bytes());
     }
     for resolution in 0..=5 {
         for multiple in [0, 1, 2, 4_094, 4_095, 4_096] {

@@ -35,7 +35,8 @@ const WAITING: [&str; 4] = ["B", "C", "D", "F"];
 
 /// Asked of one who is marked, one after another: it stays so. Its timers come due.
 const KEPT: &str = "SS,* GO,* RU,* EXEC,9,* EXEC,10,* PR,*,10 PR,*,9 PR,*,10 PAGE EXEC,12,*,1,0,1 \
-                    TICK PAGE EXEC,12,*,1,2,1 TICK TICK EXEC,12,*,2,1,1 PAGE SS,*";
+                    TICK PAGE EXEC,12,*,1,2,1 TICK TICK EXEC,12,*,1,1,1 TICK,3 PAGE EXEC,12,*,1,0,2 TICK,2 \
+                    EXEC,12,*,2,1,1 TICK,300 PAGE SS,*";
 
 /// All of it, with a page wherever something may show.
 pub fn every_waking() -> Vec<u8> {

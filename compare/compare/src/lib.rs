@@ -9,11 +9,14 @@
 //! | `claims` | the numbers of such lines: tracks, resource numbers, timers |
 //! | `spoil` | lines that are nearly right, and lines that are not |
 //! | `tangle` | an opening in which many wait for one program |
+//! | `rota` | an opening in which timers come due at several moments of one line |
 //! | `script` | a whole script from a seed |
 //! | `marks` | who woke by what, marked or not, and how often |
+//! | `leaps` | what `TICK,n` did, and how often |
 //! | `corners` | fixed inputs |
 //! | `forms` | fixed inputs made from the forms of a line |
 //! | `knots` | a fixed input with every way to wake, marked or not |
+//! | `nights` | fixed inputs with many ticks at once, up to the ceiling |
 //! | `damage` | tables that are not sound |
 //! | `make` | sound tables: some that a run reaches, some that none does |
 //! | `pages` | pages from a seed |
@@ -48,10 +51,12 @@ pub mod filed;
 pub mod following;
 pub mod forms;
 pub mod knots;
+pub mod leaps;
 pub mod looking;
 pub mod make;
 pub mod marks;
 pub mod miscopy;
+pub mod nights;
 pub mod nooks;
 pub mod other;
 pub mod pages;
@@ -59,6 +64,7 @@ pub mod prng;
 pub mod profile;
 pub mod reading;
 pub mod report;
+pub mod rota;
 pub mod script;
 pub mod sheets;
 pub mod shrink;
@@ -75,7 +81,7 @@ use std::ops::Range;
 
 /// The seeds that the tests use and that `compare run` takes unless it is told others. Within
 /// them, and in the fixed inputs, every wrong engine is found but those of `faults::ON_TABLES`.
-pub const CI_SEEDS: Range<u64> = 1..801;
+pub const CI_SEEDS: Range<u64> = 1..841;
 
 /// Lines per script.
 pub const CI_LINES: usize = 250;

@@ -1,20 +1,23 @@
 //! The command line: see `USAGE`.
 
 use comparer::asks::Ask;
+use comparer::corners::of_ticks;
 use comparer::differ::{self, shortest, Count, Failure};
 use comparer::filed::{self, Folder, Program, CI_FILED};
 use comparer::following::{self, CI_TRIPLES};
+use comparer::leaps;
 use comparer::looking::{self, Trial, CI_PAIRS};
 use comparer::marks;
 use comparer::other::Other;
 use comparer::pages::{in_turn, turn, Pages};
 use comparer::reading::{self, CI_PAGES};
 use comparer::report::report;
-use comparer::script::generate;
+use comparer::script::generate_within;
 use comparer::tally;
 use comparer::texts::Pair;
 use comparer::verdicts;
 use comparer::{CI_LINES, CI_SEEDS};
+use engine::ticks::MOST_TICKS;
 use engine::{sheet, Answer, Desk, Found, Value};
 use faults::{Fault, FAULTS};
 use std::ffi::OsString;
@@ -37,8 +40,8 @@ const USAGE: &str = "usage:
   compare sheet
   compare look ORIGINAL COPY [KEY OCCURRENCE]
   compare after FIRST [REQUESTS NEXT ..]
-  compare gen [--seed K] [--lines N]
-  compare cases [--seeds A..B] [--lines N]
+  compare gen [--seed K] [--lines N] [--ticks N]
+  compare cases [--seeds A..B] [--lines N] [--ticks N]
   compare readings [--seeds A..B] [--count N]
   compare lookings [--seeds A..B] [--count N]
 Seeds A..B are A and up, below B. Status 0: no difference; 1: a difference; 2: not run.";
@@ -46,6 +49,7 @@ Seeds A..B are A and up, below B. Status 0: no difference; 1: a difference; 2: n
 struct Options {
     seeds: Range<u64>,
     lines: usize,
+    ticks: Option<u64>,
     count: Option<usize>,
     limit: Duration,
     save: Option<String>,
@@ -91,7 +95,8 @@ fn command() -> Result<u8, String> {
         }
         "gen" => {
             let options = options(rest)?;
-            print(&generate(options.seeds.start, options.lines))
+            let most_ticks = options.ticks.unwrap_or(MOST_TICKS);
+            print(&generate_within(options.seeds.start, options.lines, most_ticks))
         }
         "cases" => cases(options(rest)?),
         "readings" => readings(options(rest)?),
@@ -104,6 +109,7 @@ fn options(args: Vec<String>) -> Result<Options, String> {
     let mut options = Options {
         seeds: CI_SEEDS,
         lines: CI_LINES,
+        ticks: None,
         count: None,
         limit: Duration::from_secs(60),
         save: None,
@@ -121,6 +127,7 @@ fn options(args: Vec<String>) -> Result<Options, String> {
             "--seeds" => options.seeds = range(&value)?,
             "--seed" => options.seeds.start = whole(&value)?,
             "--lines" => options.lines = whole(&value)? as usize,
+            "--ticks" => options.ticks = Some(whole(&value)?.max(1)),
             "--count" => options.count = Some(whole(&value)? as usize),
             "--limit" => options.limit = Duration::from_secs(whole(&value)?),
             "--save" => options.save = Some(value),
@@ -156,10 +163,13 @@ fn run(options: Options) -> Result<u8, String> {
     let failure = differ::run(&other, options.seeds.clone(), options.lines, &mut count)?;
     match failure {
         None => {
-            let marks = marks::Count::of_scripts(options.seeds, options.lines).print();
+            let marks = marks::Count::of_scripts(options.seeds, options.lines);
+            let fixed = of_ticks().map(|(_, input)| input).join(&b'\n');
+            let fixed = leaps::Count::of_input(&fixed);
+            let leaps = marks.leaps.print(["scripts", "fixed inputs"], &fixed);
             let Count { runs, scripts, lines } = count;
             let said = format!("{runs} runs, {scripts} scripts, {lines} lines: no difference\n");
-            print((marks + &said).as_bytes())
+            print(format!("{}\n{}{}", marks.print(), leaps, said).as_bytes())
         }
         Some(failure) => show(&other, &failure, options.save),
     }
@@ -293,11 +303,15 @@ fn look(args: &[OsString]) -> Result<u8, String> {
     print(&Desk::new(&original, &copy).print(wanted))
 }
 
+/// The most ticks of one line in a case: whoever computes definitions makes them one by one.
+const FEW_TICKS: u64 = 30;
+
 /// Three lines for each seed: `seed K`, `script` and `output` with their bytes in decimal.
 fn cases(options: Options) -> Result<u8, String> {
+    let most_ticks = options.ticks.unwrap_or(FEW_TICKS);
     let mut text = String::new();
     for seed in options.seeds {
-        let script = generate(seed, options.lines);
+        let script = generate_within(seed, options.lines, most_ticks);
         let output = sheet(&script);
         text += &format!("seed {}\nscript{}\noutput{}\n", seed, decimal(&script), decimal(&output));
     }

@@ -1,7 +1,7 @@
 //! Sound tables. Some are met by running scripts; others are put together field by field, as far
 //! as soundness lets them go: no run from FRESH makes a dormant program that owns a number, two
-//! programs that wait for each other, or an interval that is no multiple of a unit, and none that
-//! ends brings the clock near its ceiling.
+//! programs that wait for each other, or an interval that is no multiple of a unit, and no script
+//! here brings the clock near its ceiling.
 
 use crate::prng::Prng;
 use crate::script::generate;
@@ -10,6 +10,7 @@ use engine::raw::{
 };
 use engine::sheet::{lines, print_line};
 use engine::tables::{CEILING, CHAINS, DISC, FURTHEST, GENERAL_WAIT, LOWEST_PRIORITY, RECORDS};
+use engine::ticks::MOST_TICKS;
 use engine::Engine;
 
 const DAY: u64 = 8_640_000;
@@ -74,7 +75,10 @@ fn clock(prng: &mut Prng) -> u64 {
         3 => year + 1 - near.min(2),
         4 => CEILING,
         5 => CEILING - near,
-        6 => CEILING - prng.below(FURTHEST),
+        6 => {
+            let most = prng.pick(&[FURTHEST, MOST_TICKS, 5_000]);
+            CEILING - prng.below(most)
+        }
         _ => any,
     }
 }
@@ -134,6 +138,17 @@ fn timer(prng: &mut Prng, clock: u64) -> (u64, u64) {
     let ahead = prng.pick(&[1, 1, 1, 2, 3, FURTHEST - 1, FURTHEST, any]);
     let any = prng.below(FURTHEST + 1);
     (clock + ahead, prng.pick(&[0, 0, 1, 2, 100, FURTHEST - 1, FURTHEST, any]))
+}
+
+/// Most timers of these tables come due soon, some of them at one moment.
+pub fn due_soon(prng: &mut Prng, raw: &mut Raw) {
+    let span = prng.pick(&[3, 10, 300, 5_000]);
+    for record in raw.records.iter_mut().filter(|record| record.used) {
+        if prng.chance(3, 4) {
+            record.due = raw.clock + prng.between(1, span);
+            record.interval = prng.pick(&[0, 0, 1, 2, 3, 7, 100, span, span + 1]);
+        }
+    }
 }
 
 /// In states 5 and 3 a why that fits. A son may be any program that is not dormant, a father of its

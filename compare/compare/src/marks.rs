@@ -1,10 +1,12 @@
 //! How often what came up in scripts: who woke by what, with the mark of request (ii) and without
-//! it, and what was asked of those who wait and are marked.
+//! it, and what was asked of those who wait and are marked; and what many ticks at once did.
 
+use crate::leaps;
 use crate::script::generate;
+use engine::raw::Raw;
 use engine::sheet::lines;
 use engine::tables::{DISC, DORMANT, GENERAL_WAIT, SCHEDULED, SUSPENDED};
-use engine::{parse, Engine, Name, Program, Request, Why};
+use engine::{parse, Answer, Engine, Name, Program, Request, Why};
 use std::collections::{BTreeMap, BTreeSet};
 use std::ops::Range;
 
@@ -62,6 +64,7 @@ pub struct Count {
     pub scripts: u64,
     /// Those in which somebody was marked.
     pub marked: u64,
+    pub leaps: leaps::Count,
     causes: BTreeMap<&'static str, Woken>,
     rows: BTreeMap<&'static str, u64>,
 }
@@ -91,9 +94,13 @@ impl Count {
                 Some(request) => request,
             };
             let before = engine.clone();
-            let accepted = engine.perform(request, &mut []).is_ok();
+            let outcome = engine.perform(request, &mut []);
             self.add_asked(&before, request);
-            if accepted {
+            if let Request::Ticks(n) = request {
+                let answer = Answer::of(outcome).number;
+                self.leaps.add(&Raw::of(&before), n, answer, &Raw::of(&engine));
+            }
+            if outcome.is_ok() {
                 self.add_records(&before, request, &engine, &mut removed);
                 self.add_woken(&before, request, &engine);
             }

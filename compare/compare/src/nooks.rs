@@ -11,7 +11,7 @@ pub fn fixed() -> Vec<Run> {
     let mut runs = counts_of_arguments();
     runs.extend([seven_or_one(), given_outranks(), gone_and_back(), all_refusals()]);
     runs.extend([nothing_changed(), more_and_fewer(), unread_requests(), strange_names()]);
-    runs.extend([marks(), longest_page()]);
+    runs.extend([marks(), many_ticks(), longest_page()]);
     runs.extend(no_pages());
     runs.extend([lines_shown(), long_files_of_requests(), many_lines()]);
     runs
@@ -216,11 +216,41 @@ fn marks() -> Run {
     steps("marks of those who wait", &none, &rest)
 }
 
+/// Many ticks at once, from an evening to the ceiling; pages whose clock is one tick short, on which a
+/// due has not moved on, or who was started last stands first.
+fn many_ticks() -> Run {
+    let first = page(&format!("{} EXEC,12,LOG,2,10,7 LOAD,NIGHT,50 EXEC,12,NIGHT,3,0,1", EVENING));
+    let night = b"TICK,699\nTICK,1\nTICK,0\nTICK,\nTICK,01\nTICK,1,2\nTICK,100000001\nPAGE\n\
+                  TICK,6000\nEXEC,11\nTICK,100000000\nEXEC,11";
+    let after = next_page(&first, night);
+    let other = |from: &str, to: &str| String::from_utf8_lossy(&after).replace(from, to);
+    let short = other("clock=100006700", "clock=100006699").into_bytes();
+    let stayed = other("due=100007700", "due=100006800").into_bytes();
+    let turned = other("chain1=1,2,3", "chain1=1,3,2").into_bytes();
+    let text = String::from_utf8_lossy(&page("LOAD,A,1")).to_string();
+    let near = |clock: &str| text.replace("clock=0", &format!("clock={}", clock)).into_bytes();
+    let [before, ceiling] = ["999999999600", "1000000000000"].map(near);
+    let last =
+        b"TICK,401\nTICK,100000000\nTICK,0\nTICK,400\nTICK,1\nTICK\nTICK,0\nTICK,100000001\n";
+    let rest: [(&[u8], &[u8]); 9] = [
+        (night, &after),
+        (b"", &short),
+        (b"TICK,1", &after),
+        (b"", &stayed),
+        (b"", &after),
+        (b"", &turned),
+        (b"", &before),
+        (last, &ceiling),
+        (b"TICK,1\nTICK,99999999\nPAGE", &ceiling),
+    ];
+    steps("many ticks at once", &first, &rest)
+}
+
 /// The longest page there is, asked for among requests.
 fn longest_page() -> Run {
     let page = make::largest().engine().expect("sound tables").page_bytes();
     let next = next_page(&page, b"PR,WAITA,1");
-    let asked = b"PAGE\nSS,WAITA\nGO,WAITA\nTICK\nPAGE";
+    let asked = b"PAGE\nSS,WAITA\nGO,WAITA\nTICK\nTICK,1\nPAGE";
     steps("the longest page", &page, &[(asked, &page), (b"PR,WAITA,1\nPAGE", &next)])
 }
 

@@ -13,6 +13,7 @@ pub enum Topic {
     Priority,
     Off,
     Tick,
+    Ticks,
     Claim,
     GiveBack,
     GiveAll,
@@ -35,7 +36,7 @@ pub enum Topic {
 use Topic::*;
 
 /// Every topic with its usual weight.
-const TOPICS: [(Topic, u64); 24] = [
+const TOPICS: [(Topic, u64); 25] = [
     (Load, 8),
     (Run, 12),
     (Suspend, 7),
@@ -43,6 +44,7 @@ const TOPICS: [(Topic, u64); 24] = [
     (Priority, 8),
     (Off, 5),
     (Tick, 6),
+    (Ticks, 6),
     (Claim, 10),
     (GiveBack, 6),
     (GiveAll, 2),
@@ -80,8 +82,8 @@ const THEMES: [Theme; 11] = [
     Theme { loud: &[Claim, GiveBack], quiet: &[GiveAll, Off, Alloc, Lock, Son, Fresh], gaps: true },
     theme(&[Alloc, Lock, Clear, Free, Priority], &[Claim, Timer]),
     theme(&[Son, End, Off, Load, Priority], &[Claim, Timer, Lock]),
-    theme(&[Timer, Tick, End], &[Claim, Alloc, Lock]),
-    theme(&[Timer, Tick, Load], &[Run, Start, Off, Claim, Alloc, Lock, Spoilt, Fresh]),
+    theme(&[Timer, Tick, Ticks, End], &[Claim, Alloc, Lock]),
+    theme(&[Timer, Tick, Ticks, Load], &[Run, Start, Off, Claim, Alloc, Lock, Spoilt, Fresh]),
     theme(&[Alloc, Lock, Son, Off, Priority], &[Claim, Timer, Free, Clear]),
     theme(&[Claim, Lock, Alloc, Off, Run], &[GiveBack]),
     theme(&[Edge, Spoilt], &[]),

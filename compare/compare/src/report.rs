@@ -17,11 +17,26 @@ pub fn shown(line: &[u8]) -> String {
     text
 }
 
+/// Lines that are alike and more than so many are shown once: the way to the ceiling has thousands.
+const MOST_ALIKE: usize = 5;
+
 fn block(text: &mut String, title: &str, bytes: &[u8], mark: Option<usize>) {
     let _ = writeln!(text, "{}:", title);
-    for (place, line) in lines(bytes).iter().enumerate() {
-        let sign = if mark == Some(place) { '>' } else { ' ' };
-        let _ = writeln!(text, "  {} {}", sign, shown(line));
+    let all = lines(bytes);
+    let mut place = 0;
+    while place < all.len() {
+        let alike = |next: &usize| all[*next] == all[place] && mark != Some(*next);
+        let mut count = (place..all.len()).take_while(alike).count();
+        if mark == Some(place) {
+            let _ = writeln!(text, "  > {}", shown(all[place]));
+            count = 1;
+        } else if count > MOST_ALIKE {
+            let _ = writeln!(text, "    {} ({} times)", shown(all[place]), count);
+        } else {
+            let line = format!("    {}\n", shown(all[place]));
+            *text += &line.repeat(count);
+        }
+        place += count;
     }
     if !bytes.is_empty() && !bytes.ends_with(b"\n") {
         let _ = writeln!(text, "    (no byte 10 at the end)");

@@ -3,13 +3,21 @@
 
 use crate::prng::Prng;
 use crate::profile::{Profile, Topic};
+use crate::rota::rota;
 use crate::tangle::tangle;
 use crate::{spoil, wish};
 use engine::sheet::print_line;
-use engine::Engine;
+use engine::ticks::MOST_TICKS;
+use engine::{parse, Engine, Request};
 
 /// A script of so many lines. The first is an accepted FRESH; the last may lack its byte 10.
 pub fn generate(seed: u64, lines: usize) -> Vec<u8> {
+    generate_within(seed, lines, MOST_TICKS)
+}
+
+/// The same where no line makes more ticks than so many, at least one: for somebody who makes them
+/// one by one.
+pub fn generate_within(seed: u64, lines: usize, most_ticks: u64) -> Vec<u8> {
     let mut prng = Prng::new(seed);
     let profile = Profile::new(&mut prng);
     let mut engine = Engine::smallest();
@@ -24,6 +32,7 @@ pub fn generate(seed: u64, lines: usize) -> Vec<u8> {
         } else {
             next_line(&mut prng, &profile, &engine)
         };
+        let line = fewer_ticks(line, most_ticks);
         print_line(&mut engine, &line);
         script.extend_from_slice(&line);
         script.push(b'\n');
@@ -47,10 +56,22 @@ pub fn going_on(prng: &mut Prng, engine: &mut Engine, count: usize) -> Vec<Vec<u
     lines
 }
 
+/// A line that makes too many ticks makes some of them; one that is refused stays.
+fn fewer_ticks(line: Vec<u8>, most: u64) -> Vec<u8> {
+    match parse(&line) {
+        Some(Request::Ticks(n)) if n > most && n <= MOST_TICKS => {
+            format!("TICK,{}", n % most + 1).into_bytes()
+        }
+        _ => line,
+    }
+}
+
 fn opening(prng: &mut Prng, profile: &Profile) -> Vec<String> {
     let mut opening = vec![format!("FRESH,{},{},{}", profile.t, profile.s, profile.r)];
     if prng.chance(2, 5) {
         opening.extend(tangle(prng, profile));
+    } else if prng.chance(1, 5) {
+        opening.extend(rota(prng, profile));
     }
     opening
 }

@@ -10,6 +10,20 @@ const ANY: [u8; 5] = [DORMANT, SCHEDULED, GENERAL_WAIT, DISC, SUSPENDED];
 const IN_CHAIN: [u8; 4] = [SCHEDULED, GENERAL_WAIT, DISC, SUSPENDED];
 const WAITING: [u8; 2] = [GENERAL_WAIT, DISC];
 
+/// By which a program may get to run; of ticks, one or many, each is half of what the others are.
+const STARTING: [Topic; 10] = [
+    Topic::Run,
+    Topic::Run,
+    Topic::Run,
+    Topic::Run,
+    Topic::Go,
+    Topic::Go,
+    Topic::Off,
+    Topic::Off,
+    Topic::Tick,
+    Topic::Ticks,
+];
+
 /// Needs a program that runs: without one the line is only answered with 2.
 fn needs_caller(topic: Topic) -> bool {
     use Topic::*;
@@ -41,7 +55,7 @@ pub fn useful(engine: &Engine, topic: Topic) -> bool {
         Suspend => [SCHEDULED, GENERAL_WAIT, DISC].into_iter().any(any_in),
         Go => any_in(SUSPENDED),
         Priority | Off => engine.programs.len() > 2,
-        Tick => engine.programs.values().any(|program| program.timer.is_some()),
+        Tick | Ticks => engine.programs.values().any(|program| program.timer.is_some()),
         GiveBack => engine.tracks.iter().any(|h| !matches!(h, Holder::Free | Holder::System)),
         Lock | Free => engine.numbers.iter().any(|number| number.owner != Holder::Free),
         Clear => engine.numbers.iter().any(|number| number.lock.is_some()),
@@ -52,7 +66,7 @@ pub fn useful(engine: &Engine, topic: Topic) -> bool {
 /// A line of this topic. Where no program runs, one is mostly got to run in its stead.
 pub fn line(prng: &mut Prng, profile: &Profile, engine: &Engine, topic: Topic) -> String {
     if needs_caller(topic) && engine.caller().is_err() && prng.chance(7, 8) {
-        let topic = prng.pick(&[Topic::Run, Topic::Run, Topic::Go, Topic::Off, Topic::Tick]);
+        let topic = prng.pick(&STARTING);
         return operator(prng, profile, engine, topic);
     }
     if needs_caller(topic) {
@@ -87,6 +101,7 @@ fn operator(prng: &mut Prng, profile: &Profile, engine: &Engine, topic: Topic) -
             format!("FRESH,{},{},{}", t, s, r)
         }
         Topic::Page => String::from("PAGE"),
+        Topic::Ticks => format!("TICK,{}", claims::ticks(prng, engine)),
         _ => String::from("TICK"),
     }
 }

@@ -221,10 +221,19 @@ fn sheet_gen_and_cases() {
         compare(&["sheet"], b"TICK\nEXEC,6").stdout,
         b"answer=0,value=0\nanswer=2,value=0\n"
     );
-    let script = compare(&["gen", "--seed", "9", "--lines", "30"], b"").stdout;
-    let printed = compare(&["sheet"], &script).stdout;
-    let cases = compare(&["cases", "--seeds", "9..10", "--lines", "30"], b"").stdout;
     let decimal = |bytes: &[u8]| bytes.iter().map(|b| format!(" {}", b)).collect::<String>();
-    let expected = format!("seed 9\nscript{}\noutput{}\n", decimal(&script), decimal(&printed));
-    assert_eq!(String::from_utf8_lossy(&cases), expected);
+    let case = |ticks: &[&str], few: &[&str]| {
+        let script = compare(&[&["gen", "--seed", "9", "--lines", "150"], ticks].concat(), b"");
+        let printed = compare(&["sheet"], &script.stdout).stdout;
+        let cases =
+            compare(&[&["cases", "--seeds", "9..10", "--lines", "150"], few].concat(), b"").stdout;
+        let (given, printed) = (decimal(&script.stdout), decimal(&printed));
+        let expected = format!("seed 9\nscript{}\noutput{}\n", given, printed);
+        assert_eq!(String::from_utf8_lossy(&cases), expected);
+        given
+    };
+    // Few ticks, unless it is told how many.
+    let few = case(&["--ticks", "30"], &[]);
+    assert_eq!(few, case(&["--ticks", "30"], &["--ticks", "30"]));
+    assert_ne!(few, case(&[], &["--ticks", "100000000"]));
 }

@@ -2,6 +2,7 @@
 //! on tables put by hand alone (`faults/tests/hand.rs`), on pages (`pages.rs`), on pairs of texts
 //! (`texts.rs`) and on runs of sheets (`follow.rs`).
 
+use comparer::corners::of_ticks;
 use comparer::differ::{begins_fresh, differs, fixed_inputs, run, shortest, Count, Failure};
 use comparer::other::Other;
 use comparer::report::report;
@@ -10,8 +11,26 @@ use engine::sheet;
 use engine::sheet::lines;
 use faults::{together, Fault, Shown, FAULTS, ON_TABLES};
 
-/// A minute of ticks is more than a script has; some of the fixed inputs have it.
-const BY_FIXED_INPUT: [&str; 3] = ["seconds-run-on", "minutes-run-on", "hours-lost"];
+/// No script comes to the end of a year, or near the ceiling; some of the fixed inputs do.
+const BY_FIXED_INPUT: [(&str, &str); 13] = [
+    ("days-run-on", DAYS),
+    ("ticks-clock-in-32-bits", DAYS),
+    ("ceiling-passed", TO_THE_CEILING),
+    ("ticks-ceiling-without-n", TO_THE_CEILING),
+    ("ticks-ceiling-refused", TO_THE_CEILING),
+    ("ticks-ceiling-passed", TO_THE_CEILING),
+    ("ticks-in-part", TO_THE_CEILING),
+    ("ticks-up-to-ceiling", TO_THE_CEILING),
+    ("ticks-11-tells-room", TO_THE_CEILING),
+    ("ticks-11-before-3", TO_THE_CEILING),
+    ("ticks-0-at-ceiling", TO_THE_CEILING),
+    ("ticks-due-cut-at-ceiling", TO_THE_CEILING),
+    ("ticks-beyond-ceiling-gone", TO_THE_CEILING),
+];
+
+const MOMENTS: &str = "many ticks, every moment";
+const DAYS: &str = "many ticks, days and years";
+const TO_THE_CEILING: &str = "many ticks, up to the ceiling";
 
 fn first_failure(other: &Other) -> Option<Failure> {
     run(other, CI_SEEDS, CI_LINES, &mut Count::default()).expect("a mutant always runs")
@@ -19,17 +38,16 @@ fn first_failure(other: &Other) -> Option<Failure> {
 
 #[test]
 fn each_mutant_is_found_and_its_script_shrinks() {
-    assert!(FAULTS.iter().filter(|fault| fault.shown == Shown::OnConsole).count() >= 122);
+    assert!(FAULTS.iter().filter(|fault| fault.shown == Shown::OnConsole).count() >= 186);
     for fault in FAULTS {
-        if ON_TABLES.contains(&fault.name) || fault.shown != Shown::OnConsole {
+        let elsewhere = ON_TABLES.contains(&fault.name) || fault.shown != Shown::OnConsole;
+        if elsewhere || BY_FIXED_INPUT.iter().any(|(name, _)| *name == fault.name) {
             continue;
         }
         let other = Other::Engine(fault.sheet);
         let failure = first_failure(&other).unwrap_or_else(|| panic!("missed: {}", fault.name));
-        assert_eq!(failure.fresh, !BY_FIXED_INPUT.contains(&fault.name), "{}", fault.name);
-        if failure.fresh {
-            shrinks(fault, &failure);
-        }
+        assert!(failure.fresh, "{}: no script shows it", fault.name);
+        shrinks(fault, &failure);
     }
 }
 
@@ -76,22 +94,65 @@ fn fixed_inputs_find_their_mutants() {
         ("suspend-0-written", "how input begins and ends"),
         ("suspend-before-interval", "every way to wake"),
         ("sum-in-32-bits", "fields of every length"),
-        ("wraps-32", "fields of every length"),
+        ("wraps-32", "numbers at their bounds"),
         ("eleven-digits", "fields of every length"),
         ("over-30-bytes", "fields of every length"),
         ("of-46-bytes", "fields of every length"),
         ("colon-digit", "every byte at every place"),
         ("slash-digit", "every byte at every place"),
         ("digit-first", "every byte at every place"),
-        ("seconds-run-on", "two minutes of ticks"),
-        ("minutes-run-on", "an hour of ticks"),
-        ("hours-lost", "an hour of ticks"),
-    ] {
+        ("seconds-run-on", DAYS),
+        ("minutes-run-on", DAYS),
+        ("hours-lost", DAYS),
+        ("hours-run-on", DAYS),
+        ("ticks-100000000-refused", "numbers at their bounds"),
+        ("ticks-100000001-taken", "numbers at their bounds"),
+        ("ticks-0-done", "numbers at their bounds"),
+        ("ticks-in-32-bits", "numbers at their bounds"),
+        ("ticks-empty-number", TO_THE_CEILING),
+        ("ticks-leading-zero", TO_THE_CEILING),
+        ("ticks-of-eleven-digits", "fields of every length"),
+    ]
+    .into_iter()
+    .chain(BY_FIXED_INPUT)
+    {
         let wrong = Fault::by_name(name).expect("a fault").sheet;
         let found = right.iter().find(|(_, output, input)| wrong(input) != *output);
         assert_eq!(found.map(|(about, _, _)| *about), Some(about), "{}", name);
     }
 }
+
+/// The input with every moment finds, by itself, all that is wrong in how many ticks go from due to
+/// due, but what shows near the ceiling alone.
+#[test]
+fn every_moment_finds_its_mutants() {
+    let [(about, input), ..] = of_ticks();
+    assert_eq!(about, MOMENTS);
+    let right = sheet(&input);
+    let elsewhere = |name: &str| BY_FIXED_INPUT.iter().any(|(other, _)| *other == name);
+    let mut found = 0;
+    for fault in FAULTS.iter().filter(|fault| fault.name.starts_with("ticks-")) {
+        let differs = (fault.sheet)(&input) != right;
+        found += usize::from(differs);
+        let forms = FORMS_OF_TICKS.contains(&fault.name);
+        assert_eq!(differs, !forms && !elsewhere(fault.name), "{}", fault.name);
+    }
+    assert!(found >= 40, "{}", found);
+}
+
+/// Wrong in the numbers and forms that the line takes, which are right ones there.
+const FORMS_OF_TICKS: [&str; 10] = [
+    "ticks-100000000-refused",
+    "ticks-100000001-taken",
+    "ticks-0-done",
+    "ticks-0-is-one",
+    "ticks-bounds-as-11",
+    "ticks-in-32-bits",
+    "ticks-empty-number",
+    "ticks-more-fields",
+    "ticks-leading-zero",
+    "ticks-of-eleven-digits",
+];
 
 /// The right engine passes, over the same seeds and through the same code: what all wrong ones that
 /// are built together have in common.

@@ -7,9 +7,9 @@ use engine::sheet::lines;
 use engine::{parse, Engine, Request};
 use std::collections::BTreeMap;
 
-/// Every answer that a console line can get from tables that runs from FRESH reach. 11, 12 and 14
-/// are not among them.
-const REACHED: [(&str, &[u64]); 25] = [
+/// Every answer that a console line can get from tables that short runs from FRESH reach. 11, 12 and
+/// 14 are not among them.
+const REACHED: [(&str, &[u64]); 26] = [
     ("none", &[13]),
     ("Fresh", &[0, 3]),
     ("Load", &[0, 3, 6, 7]),
@@ -19,6 +19,7 @@ const REACHED: [(&str, &[u64]); 25] = [
     ("Pr", &[0, 3, 4]),
     ("Of", &[0, 3, 4]),
     ("Tick", &[0]),
+    ("Ticks", &[0, 3]),
     ("Exec4", &[0, 1, 2, 3, 8]),
     ("Exec15", &[0, 1, 2, 3, 8]),
     ("Exec5", &[0, 2, 3, 9]),

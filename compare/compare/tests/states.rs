@@ -38,7 +38,7 @@ fn sound_after_every_line() {
 }
 
 /// Demand 3: no call but FRESH alters the record of a program that is not its caller, not named in
-/// it, not due at that tick and not woken by it. A refused call alters nothing at all.
+/// it, not due at that tick (of many, at one of them) and not woken by it. A refused call alters nothing at all.
 fn frame(before: &Raw, line: &[u8], after: &Raw, answer: u64) {
     if answer > 1 {
         assert_eq!(before, after);
@@ -52,7 +52,8 @@ fn frame(before: &Raw, line: &[u8], after: &Raw, answer: u64) {
         let (old, new) = (&before.records[place], &after.records[place]);
         let caller = usize::from(before.links[1]) == place + 1 && running(request);
         let named = name_of(request).map_or(false, |name| old.name == name || new.name == name);
-        let due = request == Request::Tick && old.due == after.clock;
+        let ticks = matches!(request, Request::Tick | Request::Ticks(_));
+        let due = ticks && before.clock < old.due && old.due <= after.clock;
         let woken = (old.state == 3 || old.state == 5) && *new == as_woken(old);
         assert!(
             old == new || caller || named || due || woken,
@@ -72,7 +73,7 @@ fn as_woken(old: &RawRecord) -> RawRecord {
 /// Whether it is a call of the running program.
 fn running(request: Request) -> bool {
     use Request::*;
-    !matches!(request, Load(..) | Ru(_) | Ss(_) | Go(_) | Pr(..) | Of(..) | Tick | Page)
+    !matches!(request, Load(..) | Ru(_) | Ss(_) | Go(_) | Pr(..) | Of(..) | Tick | Ticks(_) | Page)
 }
 
 fn name_of(request: Request) -> Option<[u8; 5]> {

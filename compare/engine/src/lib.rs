@@ -13,6 +13,7 @@
 //! | `waking` | Ending and waking |
 //! | `page`, `line`, `sheet` | The page and the console line |
 //! | `operator`, `waking` | SS of a program that waits, and its waking: request (ii) |
+//! | `ticks` | many ticks at once: request (iii) |
 //! | `read` | a page read back: request (i) |
 //! | `desk` | a line found, and lines that differ, in two texts: request (xii) |
 //! | `follow` | whether the next sheet can follow: the program `follow` |
@@ -31,6 +32,7 @@ pub mod read;
 pub mod sheet;
 pub mod sound;
 pub mod tables;
+pub mod ticks;
 pub mod tracks;
 pub mod waking;
 

@@ -85,9 +85,14 @@ impl Engine {
         done(freed)
     }
 
-    /// TICK: clock + 1, then by program number each timer now due. Value programs scheduled.
+    /// TICK: one tick. Value programs scheduled. With a number it is in `ticks`.
     pub fn tick(&mut self) -> Outcome {
         require(self.clock < CEILING, answer::CEILING)?;
+        done(self.one_tick())
+    }
+
+    /// Clock + 1, then by program number each timer now due. How many programs were scheduled.
+    pub(crate) fn one_tick(&mut self) -> u64 {
         self.clock += 1;
         let mut scheduled = 0;
         for p in self.now_due() {
@@ -97,7 +102,7 @@ impl Engine {
             }
             self.move_due(p);
         }
-        done(scheduled)
+        scheduled
     }
 
     /// The programs whose timer is due at this tick, by program number.

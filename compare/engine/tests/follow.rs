@@ -269,6 +269,28 @@ fn refusals() {
     assert_eq!(keyed(&ceiling, "TICK"), said);
 }
 
+/// Each is one line, whatever it makes; 11 is told in the same words where the clock would pass its
+/// ceiling.
+#[test]
+fn many_ticks() {
+    let first = page("LOAD,A,10 LOAD,B,10 RU,A EXEC,12,B,2,3,4");
+    assert_eq!(
+        keyed(&first, "TICK,399\nTICK,100000000\nTICK,0\nTICK,\nEXEC,11"),
+        "1: TICK,399 -> answer=0,value=0\n\
+         2: TICK,100000000 -> answer=0,value=1\n\
+         3: TICK,0 -> answer=3,value=0 (refused: a number or parameter is not allowed)\n\
+         4: TICK, -> answer=13,value=0 (refused: the line is not understood)\n\
+         5: EXEC,11 -> answer=0,value=12.13.46.43.99\n"
+    );
+    let near = page("").replace("clock=0", "clock=999999999998");
+    assert_eq!(
+        keyed(&near, "TICK,3\nTICK,2\nTICK,1"),
+        "1: TICK,3 -> answer=11,value=0 (refused: the clock is at its ceiling)\n\
+         2: TICK,2 -> answer=0,value=0\n\
+         3: TICK,1 -> answer=11,value=0 (refused: the clock is at its ceiling)\n"
+    );
+}
+
 /// A refused line changes nothing and does not end the run.
 #[test]
 fn refused_lines_among_others() {

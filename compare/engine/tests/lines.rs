@@ -14,7 +14,7 @@ fn not_understood(line: &[u8]) {
 
 /// Parted by bars, since some of the lines have blanks.
 const WRONG: &str =
-    "|,|TICK,|,TICK|TICK,1|PAGE,|PAGES|tick|Tick| TICK|TICK |TICK\r|FRESH|FRESH,1,0\
+    "|,|TICK,|,TICK|TICK,01|TICK,1,|TICK,1,2|TICK,A|TICK,-1|TICK,00|TICK, 1|TICK,12345678901|PAGE,|PAGES|tick|Tick| TICK|TICK |TICK\r|FRESH|FRESH,1,0\
     |FRESH,1,0,0,0|FRESH,01,0,0|FRESH,1,00,0|FRESH,+1,0,0|FRESH,-1,0,0|FRESH,,0,0|FRESH,1, 0,0\
     |FRESH,12345678901,0,0|LOAD,A|LOAD,A,|LOAD,,1|LOAD,A,1,1|LOAD,1A,1|LOAD,a,1|LOAD,ABCDEF,1\
     |LOAD,A B,1|LOAD,A_B,1|LOAD,A,B|RU|RU,|RU,A,1|RU,A |SS|GO|PR,A|OF,A|OF,A,01|OF,A,-1|EXEC|EXEC,\
@@ -69,6 +69,10 @@ fn numbers_out_of_range_are_3() {
         "FRESH,9999999999,0,0",
         "LOAD,B,32768",
         "LOAD,B,9999999999",
+        "TICK,0",
+        "TICK,100000001",
+        "TICK,4294967297",
+        "TICK,9999999999",
         "PR,A,0",
         "PR,A,32768",
         "OF,A,0",

@@ -8,6 +8,7 @@ use std::process::ExitCode;
 
 const USAGE: &str = "usage:
   agree tables [--count N] [--seed S]
+  agree ticks [--count N] [--seed S]
   agree text [--seeds A..B] [--lines N]
   agree pages [--count N] [--seed S]
   agree desk [--count N] [--seed S]
@@ -16,7 +17,8 @@ Seeds A..B are A and up, below B. Status 0: no difference; 1: a difference; 2: n
 fn main() -> ExitCode {
     let words: Vec<String> = std::env::args().skip(1).collect();
     let ran = match words.split_first() {
-        Some((first, rest)) if first == "tables" => run_tables(rest),
+        Some((first, rest)) if first == "tables" => run_tables(rest, tables::agree),
+        Some((first, rest)) if first == "ticks" => run_tables(rest, tables::agree_ticks),
         Some((first, rest)) if first == "text" => run_text(rest),
         Some((first, rest)) if first == "pages" => run_pages(rest),
         Some((first, rest)) if first == "desk" => run_desk(rest),
@@ -54,10 +56,13 @@ fn count_and_seed(rest: &[String]) -> Result<(u64, u64), String> {
     Ok((count, seed))
 }
 
-fn run_tables(rest: &[String]) -> Result<Verdict, String> {
+/// So many cases of a seed.
+type Agree = fn(u64, u64, &mut tables::Count) -> Result<(), String>;
+
+fn run_tables(rest: &[String], agree: Agree) -> Result<Verdict, String> {
     let (count, seed) = count_and_seed(rest)?;
     let mut total = tables::Count::default();
-    let compared = tables::lengths().and_then(|()| tables::agree(seed, count, &mut total));
+    let compared = tables::lengths().and_then(|()| agree(seed, count, &mut total));
     Ok(compared.map(|()| format!("{}\n{} tables: no difference\n", total.print(), total.sum())))
 }
 

@@ -8,7 +8,10 @@ use board::pack::{formed, pack};
 use board::tables::{reply_of, Case, Cases, Kind};
 use board::{ffi, load, natural, words};
 use comparer::texts::Pair;
-use engine::sheet::lines;
+use engine::raw::Raw;
+use engine::sheet::{lines, print_line};
+use engine::ticks::MOST_TICKS;
+use engine::Engine;
 use std::process::ExitCode;
 
 const USAGE: &str = "usage:
@@ -24,7 +27,7 @@ fn main() -> ExitCode {
             return ExitCode::from(2);
         }
     };
-    match rows(rounds).and_then(|()| growth(rounds)) {
+    match rows(rounds).and_then(|()| many_ticks(rounds)).and_then(|()| growth(rounds)) {
         Ok(()) => ExitCode::SUCCESS,
         Err(message) => {
             println!("{}", message);
@@ -134,6 +137,8 @@ fn rows(rounds: usize) -> Result<(), String> {
     let texts = [
         ("mixed console lines", load::mixed(200_000)),
         ("TICK, 32 timers", load::ticks(100_000)),
+        ("a winter, 16 lines of ticks", load::winter()),
+        ("32 timers of 1, TICK,100000000", load::every_tick()),
         ("PAGE, full tables", load::pages(3_000)),
         ("claims, 256 tracks in fragments", load::claims(256, 50_000)),
     ];
@@ -159,6 +164,48 @@ fn rows(rounds: usize) -> Result<(), String> {
     look(rounds, "find the last key, full page", What::Find(b"end"), &load::same_pages())?;
     look(rounds, "list, 10,000 lines", What::List, &load::same_lines(10_000, 10_000))?;
     look(rounds, "list, 10,000, first missing", What::List, &load::first_missing(10_000, 10_000))
+}
+
+/// One line of many ticks on tables in bytes, and one tick on the same.
+fn many_ticks(rounds: usize) -> Result<(), String> {
+    println!(
+        "\nMany ticks in one line, on tables in bytes. \"of a TICK\" is the time of the line as a"
+    );
+    println!("multiple of that of a bare TICK on the same tables, each time by the library alone.");
+    println!("{:32}{:>8}{:>12}{:>10}{:>12}", "", "ratio", "library ns", "engine ns", "of a TICK");
+    let most = format!("TICK,{}", MOST_TICKS);
+    for (name, line, text) in [
+        ("a winter's tables", most.as_str(), load::winter_tables()),
+        ("32 timers of 1", most.as_str(), load::every_tick_tables()),
+        ("an idle night, TICK,4320000", "TICK,4320000", load::night_tables()),
+    ] {
+        let many = [tables_after(&text, line)];
+        let single = [tables_after(&text, "TICK")];
+        let mut sides = asks(&many);
+        sides.extend(asks(&single));
+        if sides[0].work() != sides[1].work() || sides[2].work() != sides[3].work() {
+            return Err(String::from("the two sides answer differently; run `agree ticks`"));
+        }
+        let times = race(rounds, &mut sides);
+        let (ours, rust, tick) = (times[0], times[1], times[2]);
+        let (ratio, of_tick) = (rust / ours, ours / tick);
+        let digits = if ratio < 0.1 { 6 } else { 2 };
+        println!("{:32}{:>8.*}{:>12.0}{:>10.0}{:>12.2}", name, digits, ratio, ours, rust, of_tick);
+    }
+    Ok(())
+}
+
+/// The tables that a text leaves, with a line for them.
+fn tables_after(text: &[u8], line: &str) -> Case {
+    let mut engine = Engine::smallest();
+    lines(text).into_iter().for_each(|line| drop(print_line(&mut engine, line)));
+    Case {
+        kind: Kind::Reached,
+        tables: pack(&Raw::of(&engine)).to_vec(),
+        line: line.as_bytes().to_vec(),
+        page: Vec::new(),
+        answer: vec![0; ffi::ANSWER],
+    }
 }
 
 /// Sound tables, reached and not, each with a line.

@@ -4,9 +4,6 @@
 use tried::raw::{Raw, RawRecord, RawWhy, GLOBAL, LINKS, UNUSED};
 use tried::{Answer, Engine, Outcome};
 
-const CEILING: u64 = 1_000_000_000_000;
-const DAY: u64 = 8_640_000;
-
 type Call = fn(&mut Engine) -> Outcome;
 
 /// A runs (1), B and C wait for the lock of number 1 (2, 3), D is suspended (4), all equals.
@@ -35,12 +32,8 @@ fn changed(change: impl FnOnce(&mut Raw)) -> Raw {
 
 /// The tables and the call for each of these wrong engines, with the answer number that is right.
 fn case(fault: &str) -> (Raw, Call, u64) {
-    let at_clock = |clock: u64| changed(|raw| raw.clock = clock);
     match fault {
         "sum-in-64-bits" => (tables(), |engine| engine.exec5(u64::MAX, 2), 3),
-        "hours-run-on" => (at_clock(DAY), |engine| engine.exec11(), 0),
-        "days-run-on" => (at_clock(365 * DAY), |engine| engine.exec11(), 0),
-        "ceiling-passed" => (at_clock(CEILING), |engine| engine.tick(), 11),
         "clear-already-wakes" => (tables(), |engine| engine.clear(1), 0),
         "unlocked-wakes-none" => (tables(), |engine| engine.free(1), 0),
         "cycle-sound" => (changed(|raw| raw.links[LINKS + 3] = 2), |engine| engine.exec6(), 14),
