@@ -93,10 +93,25 @@ fn ceiling() {
     show(d, b"PAGE");
 }
 
+// The ceiling and many ticks at once: refused as a whole, or made up to the last one.
+fn ceiling_at_once() {
+    let t = at_clock(two_programs(), 999999999990);
+    let a = show(t, b"EXEC,12,A,1,3,1");
+    let b = show(a, b"EXEC,12,B,1,0,4");
+    let c = show(b, b"EXEC,6");
+    let d = show(c, b"TICK,11");
+    let e = show(d, b"TICK,0");
+    let f = show(e, b"PAGE");
+    let g = show(f, b"TICK,10");
+    let h = show(g, b"PAGE");
+    show(h, b"TICK,1");
+}
+
 // Tables that are not sound: 14 comes before all else.
 fn unsound() {
     let t = with_head(two_programs(), 2);
-    let a = show(t, b"RU,B");
+    let r = show(t, b"RU,B");
+    let a = show(r, b"TICK,5");
     let b = show(a, b"no line");
     let c = show(b, b"FRESH,1,0,0");
     let d = show(c, b"PAGE");
@@ -161,6 +176,7 @@ fn main() {
     day_end();
     year_end();
     ceiling();
+    ceiling_at_once();
     unsound();
     short_buffer();
 }
