@@ -5,8 +5,6 @@ use native.Mathlib.Omega.{arith}
 use mathlib.Core.Path.{_≡_, refl, sym, ap}
 use mathlib.Core.Bool.{Bool, true, false}
 use mathlib.Core.List.{List, [], _∷_}
-use denote.Enum.Declared.{tagOf}
-use types.Run.{OneOf, miss}
 use Rattle.lists.proofs.Tests.{false-true}
 use Rattle.rules.specs.declared.Answer.the-variants.{NotUnderstood, NotSound}
 use Rattle.rules.specs.Answers.{number, values}
@@ -19,7 +17,6 @@ use Rattle.tables.proofs.ManyTicks.{told-unsound}
 use Rattle.rules.specs.Engine.{beside, notSound, pagedIn}
 use Rattle.page.specs.Paging.{Written, paged}
 use Rattle.console.specs.declared.Said.{Said}
-use Rattle.console.proofs.Said.{the-type}
 use Rattle.console.specs.declared.Said.the-variants.{Bad, Page, Asks, Ticks}
 use Rattle.console.specs.Line.{Line, bad, PAGE, asks, ticks, lineOf}
 use Rattle.console.specs.Console.{obeyed, keyed, keyedIn}
@@ -80,22 +77,3 @@ page-unsaid nm Bad e s = let z : _≡_ {A = ℕ} 0 1 = cc in omega arith
 page-unsaid nm Page e s = false-true (sym e)
 page-unsaid nm (Asks q) e s = let z : _≡_ {A = ℕ} 0 1 = cc in omega arith
 page-unsaid nm (Ticks n) e s = let z : _≡_ {A = ℕ} 0 1 = cc in omega arith
-
--- what the match tells of the cases that are left
-abbrev notPage : List ℕ
-notPage = 0 ∷ 2 ∷ 3 ∷ []
-
-pub no-page : (a : Said) → OneOf notPage (tagOf the-type a) → isPage a ≡ false
-no-page Bad h = refl
-no-page Page h = absurd (miss notPage 1 tt h)
-no-page (Asks q) h = refl
-no-page (Ticks n) h = refl
-
-abbrev badOrPage : List ℕ
-badOrPage = 0 ∷ 1 ∷ []
-
-pub bad-left : (nm : List ℕ) (a : Said) → OneOf badOrPage (tagOf the-type a) → isPage a ≡ false → bad ≡ saying nm a
-bad-left nm Bad h e = refl
-bad-left nm Page h e = false-true (sym e)
-bad-left nm (Asks q) h e = absurd (miss badOrPage 2 tt h)
-bad-left nm (Ticks n) h e = absurd (miss badOrPage 3 tt h)

@@ -1,7 +1,6 @@
 // What a line does, and what is printed for it.
 ghost use Prim.Native.Nat.{ℕ, _≤_};
 ghost use mathlib.Core.Path.{_≡_};
-ghost use mathlib.Core.Bool.{false};
 ghost use mathlib.Core.List.{List};
 ghost use lib.ListN.{length};
 ghost use Rattle.limits.specs.Limits.{pageRoom};
@@ -10,7 +9,7 @@ ghost use Rattle.rules.specs.Engine.{beside};
 ghost use Rattle.console.specs.Line.{PAGE, lineOf};
 ghost use Rattle.console.specs.Console.{keyed};
 ghost use Rattle.console.specs.Sheet.{lineShown};
-ghost use Rattle.console.specs.Inner.{obeys, refusing, isPage, saying, says};
+ghost use Rattle.console.specs.Inner.{obeys, refusing, says};
 use super::Command;
 use super::Said;
 use super::answers;
@@ -31,30 +30,21 @@ fn refusal(tables: Tables) -> Answer
     Answer::NotSound
 }
 
-// What a command comes to that does not ask for the page.
-fn answer_to(tables: Tables, name: [u8; 5], said: Said) -> Outcome
-    ensures { λ r. ⌜ (isPage said ≡ false → (buf : List ℕ) → beside buf (told r) ≡ obeys tables buf (saying name said)) ⌝ }
-{
-    match said {
-        Said::Asks(q) => tables.ask(name, q),
-        Said::Ticks(n) => tables.ticks(n),
-        _ => Outcome {
-            answer: refusal(tables),
-            tables: tables,
-        },
-    }
-}
-
 // What a command does.
 fn obey(tables: Tables, command: Command, buf: &mut [u8]) -> Outcome
     ensures { λ r. ⌜ beside (now (buf .exit)) (told r) ≡ obeys tables (now (buf .entry)) (says command) ⌝ }
 {
     let name = command.name;
     let said = command.said;
-    if let Said::Page = said {
-        return page::write_page(tables, buf);
+    match said {
+        Said::Bad => Outcome {
+            answer: refusal(tables),
+            tables: tables,
+        },
+        Said::Page => page::write_page(tables, buf),
+        Said::Asks(q) => tables.ask(name, q),
+        Said::Ticks(n) => tables.ticks(n),
     }
-    answer_to(tables, name, said)
 }
 
 // A line of any bytes, keyed in on any tables; only PAGE writes to the lent buffer.
@@ -97,15 +87,34 @@ pub fn print_line(tables: Tables, line: &[u8], out: &mut [u8]) -> Outcome
     let command = parse::command_of(line);
     let name = command.name;
     let said = command.said;
-    if let Said::Page = said {
-        return print_page(tables, out);
-    }
-    let outcome = answer_to(tables, name, said);
-    let after = outcome.tables;
-    let answer = outcome.answer;
-    let length = answers::put_answer(out, answer);
-    Outcome {
-        answer: Answer::Done(length as u64),
-        tables: after,
+    match said {
+        Said::Bad => {
+            let length = answers::put_answer(out, refusal(tables));
+            Outcome {
+                answer: Answer::Done(length as u64),
+                tables: tables,
+            }
+        }
+        Said::Page => print_page(tables, out),
+        Said::Asks(q) => {
+            let outcome = tables.ask(name, q);
+            let after = outcome.tables;
+            let answer = outcome.answer;
+            let length = answers::put_answer(out, answer);
+            Outcome {
+                answer: Answer::Done(length as u64),
+                tables: after,
+            }
+        }
+        Said::Ticks(n) => {
+            let outcome = tables.ticks(n);
+            let after = outcome.tables;
+            let answer = outcome.answer;
+            let length = answers::put_answer(out, answer);
+            Outcome {
+                answer: Answer::Done(length as u64),
+                tables: after,
+            }
+        }
     }
 }

@@ -145,20 +145,26 @@ module _ (t : Tables) (n : State entries) (K : Kept t n) where
           → Alongside (beside buf (manyTicks t m)) (beside buf (tickedIn replaying n m))
       go true r true c =
           let A = along-ticks m t n K in
-          rw (many-made sound clockOf asked t m (K .test) r c,
-          many-made (replaying .sound) (replaying .clock) (replaying .asked) n m refl r (ap (λ (k : ℕ). leb (k + m) ceiling) (sym clocks) ∙ c))
+          rw (
+            many-made sound clockOf asked t m (K .test) r c,
+            many-made (replaying .sound) (replaying .clock) (replaying .asked) n m refl r (ap (λ (k : ℕ). leb (k + m) ceiling) (sym clocks) ∙ c),
+          )
           (record {
             told = λ i. record { number = 0; values = A .1 i ∷ []; tables = tt; buffer = buf };
             answers = refl;
             kept = A .0;
           })
       go true r false c =
-          rw (many-ceiling sound clockOf asked t m (K .test) r c,
-          many-ceiling (replaying .sound) (replaying .clock) (replaying .asked) n m refl r (ap (λ (k : ℕ). leb (k + m) ceiling) (sym clocks) ∙ c))
+          rw (
+            many-ceiling sound clockOf asked t m (K .test) r c,
+            many-ceiling (replaying .sound) (replaying .clock) (replaying .asked) n m refl r (ap (λ (k : ℕ). leb (k + m) ceiling) (sym clocks) ∙ c),
+          )
           (record { told = refl; answers = refl; kept = K })
       go false r y c =
-          rw (many-range sound clockOf asked t m (K .test) r,
-          many-range (replaying .sound) (replaying .clock) (replaying .asked) n m refl r)
+          rw (
+            many-range sound clockOf asked t m (K .test) r,
+            many-range (replaying .sound) (replaying .clock) (replaying .asked) n m refl r,
+          )
           (record { told = refl; answers = refl; kept = K })
 
   -- PAGE

@@ -56,8 +56,8 @@ scheduled-put p P t z =
     let b : Book = t .book in
     let c : Book = put p (inState 1 Nothing (at b p)) (put p (inState 0 Nothing (at b p)) b) in
     let pr : prioOf c ≡ prioOf b = same-prios c b (
-      prios-put (put p (inState 0 Nothing (at b p)) b) p (inState 1 Nothing (at b p)) (sym (prio-kept b p))
-      ∙ prios-put b p (inState 0 Nothing (at b p)) refl
+    prios-put (put p (inState 0 Nothing (at b p)) b) p (inState 1 Nothing (at b p)) (sym (prio-kept b p))
+    ∙ prios-put b p (inState 0 Nothing (at b p)) refl
     ) in
     step-put lists p P (becomes 1 Nothing) t
     ∙ ap₂ (λ (x : Bool) (f : ℕ → ℕ). record {
@@ -72,8 +72,8 @@ scheduled-put p P t z =
 -- enters.
 module _ (Q : ℕ → Type 0) (g : ℕ → List Event) (old new : ℕ → Program) (enters : ℕ → Bool)
     (one : (p : ℕ) → Known p → Q p → (t : State lists) → length (t .book .programs) ≡ 32 → at (t .book) p ≡ old p
-      → play lists (g p) t
-      ≡ record { book = put p (new p) (t .book); kept = cond (enters p) (joined (prioOf (t .book)) p (t .kept)) (t .kept) })
+    → play lists (g p) t
+    ≡ record { book = put p (new p) (t .book); kept = cond (enters p) (joined (prioOf (t .book)) p (t .kept)) (t .kept) })
     (level : (p : ℕ) → new p .priority ≡ old p .priority) where
   -- they are still to come
   pub record Ahead (l : List ℕ) (t : State lists) : Type 0 where

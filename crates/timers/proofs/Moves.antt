@@ -284,8 +284,8 @@ module _ (now later : ℕ) (after : now ≤ later) (a : State lists) (idle : NoS
   pub moved-again : movedTo later (movedTo now a) ≡ movedTo later a
   moved-again =
       let k : enterAll (prioOf (movedTo now a .book)) (starters later (movedTo now a .book))
-          (enterAll (prioOf (a .book)) (starters now (a .book)) (a .kept))
-          ≡ enterAll (prioOf (a .book)) (starters later (a .book)) (a .kept) =
+      (enterAll (prioOf (a .book)) (starters now (a .book)) (a .kept))
+      ≡ enterAll (prioOf (a .book)) (starters later (a .book)) (a .kept) =
       ap₂ (λ (f : ℕ → ℕ) (l : List ℕ). enterAll f l (enterAll (prioOf (a .book)) (starters now (a .book)) (a .kept))) same-order same-starters
       ∙ ap (λ (l : List ℕ). enterAll (prioOf (a .book)) (starters later (a .book)) (enterAll (prioOf (a .book)) l (a .kept))) none-start in
       ap₂ (λ (ps : List Program) (c : List (List ℕ)). record {

@@ -21,7 +21,6 @@ use Rattle.rules.specs.Plans.{on, becomes}
 use Rattle.rules.specs.Keeper.{lists, State, play}
 use Rattle.rules.proofs.shared.Places.{all-one, all-once, all-in}
 use Rattle.timers.specs.Inner.{fallsDue, moved, starts, struck, starters, enterAll, movedTo, passed, starting}
-
 use Rattle.timers.proofs.InTurn.{setAll, joined, scheduled-put, in-turn, put-in, put-out, length-put}
 use Rattle.timers.proofs.Moves.{moved-at}
 

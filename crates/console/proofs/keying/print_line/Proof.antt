@@ -1,5 +1,5 @@
--- `console::keying::print_line` meets its contract: every line but PAGE leaves the buffer, and the line for its answer goes to its front; PAGE is
--- printed by itself. Assumes nothing.
+-- `console::keying::print_line` meets its contract: a line that is not understood and a request leave the buffer, and the line for the
+-- answer goes to its front; PAGE is printed by itself. Assumes nothing.
 use Prim.Native.Nat.{ℕ, _≤_}
 use mathlib.Core.Path.{_≡_, refl, sym, ap, _∙_}
 use mathlib.Core.Bool.{false}
@@ -13,11 +13,11 @@ use Rattle.tables.specs.declared.Outcome.{Outcome}
 use Rattle.tables.specs.Calls.{told}
 use Rattle.rules.specs.Engine.{beside}
 use Rattle.console.specs.declared.Said.{Said}
-use Rattle.console.specs.Line.{PAGE, lineOf}
+use Rattle.console.specs.Line.{bad, PAGE, lineOf}
 use Rattle.console.specs.Console.{keyed}
 use Rattle.console.specs.Sheet.{lineShown}
 use Rattle.console.specs.Inner.{obeys, saying, isPage, answerBytes}
-use Rattle.console.proofs.KeyLaws.{keyed-obeys, page-unsaid, no-page}
+use Rattle.console.proofs.KeyLaws.{keyed-obeys, obeys-asks, obeys-ticks, obeys-bad, page-unsaid}
 use Rattle.console.proofs.OneLine.{shown-short, printed-room, printed-answer}
 use Rattle.console.proofs.keying.print_line.Statement.{statement}
 use Rattle.console.proofs.keying.print_line.Tie as tie
@@ -69,40 +69,80 @@ returns c =
     let a = c .before .before .before .args in
     sym (shown-short (a .tables) (a .line .now) (a .out .now) (c .if1 .taken))
 
+-- a line that is not understood
+abbrev Name1 : tie.After-refusal → tie.After-name
+Name1 r = r .before .before .before .before
+
+abbrev Outcome1 : tie.After-refusal → Outcome
+Outcome1 r = record { answer = r .refusal .result; tables = S (Name1 r) .args .tables }
+
+obeyed1 : (r : tie.After-refusal) → let a = S (Name1 r) .args in
+    beside (a .out .now) (told (Outcome1 r)) ≡ obeys (a .tables) (a .out .now) bad
+obeyed1 r = let a = S (Name1 r) .args in ap (beside (a .out .now)) (r .refusal .ensures) ∙ sym (obeys-bad (a .tables) (a .out .now))
+
+put-answer-requires : tie.Need-put-answer-requires
+put-answer-requires r κs = room (Name1 r) (r .before .before .enum-told .given .1) refl (Outcome1 r) (obeyed1 r)
+
+returns-2 : tie.Need-returns-2
+returns-2 c =
+    let u = c .before .before in
+    let r = u .before in
+    printed (Name1 r) (r .before .before .enum-told .given .1) refl (Outcome1 r) (obeyed1 r) (u .put-answer .last .0) (u .put-answer .result) (u .put-answer .ensures)
+
 -- PAGE
 print-page-requires : tie.Need-print-page-requires
 print-page-requires c κs = big (c .before .before .before)
 
-returns-2 : tie.Need-returns-2
-returns-2 c =
-    let w = c .before .before in
-    let e = w .before .before in
-    w .print-page .ensures _ (said (e .before .before) (e .enum-told .given .1))
-
--- any other line
-abbrev Name : tie.After-answer-to → tie.After-name
-Name k = k .before .before
-
-obeyed : (k : tie.After-answer-to) → let n = Name k in
-    (isPage (n .before .command-of .result .said) ≡ false)
-    × (beside (S n .args .out .now) (told (k .answer-to .result))
-    ≡ obeys (S n .args .tables) (S n .args .out .now) (saying (n .before .command-of .result .name) (n .before .command-of .result .said)))
-obeyed k =
-    let n = Name k in
-    let h = no-page (n .before .command-of .result .said) (k .before .match .keys2) in
-    (h, k .answer-to .ensures h (S n .args .out .now))
-
-put-answer-requires : tie.Need-put-answer-requires
-put-answer-requires c κs = let k = c .before .before in room (Name k) refl (obeyed k .0) (k .answer-to .result) (obeyed k .1)
-
 returns-3 : tie.Need-returns-3
 returns-3 c =
+    let w = c .before .before in
+    let e = w .before .before in
+    w .print-page .ensures _ (said (e .before .before) (e .enum-told2 .given .1))
+
+-- a request
+abbrev Name3 : tie.After-ask → tie.After-name
+Name3 k = k .before .before .before .before
+
+put-answer-requires-2 : tie.Need-put-answer-requires-2
+put-answer-requires-2 c κs =
+    let k = c .before .before in
+    let a = S (Name3 k) .args in
+    room (Name3 k) (k .before .before .said .given .1) refl (k .ask .result)
+    (ap (beside (a .out .now)) (k .ask .ensures) ∙ sym (obeys-asks (a .tables) (a .out .now) _))
+
+returns-4 : tie.Need-returns-4
+returns-4 c =
     let u = c .before .before in
     let k = u .before .before .before in
-    printed (Name k) refl (obeyed k .0) (k .answer-to .result) (obeyed k .1) (u .put-answer .last .0) (u .put-answer .result) (u .put-answer .ensures)
+    let a = S (Name3 k) .args in
+    printed (Name3 k) (k .before .before .said .given .1) refl (k .ask .result)
+    (ap (beside (a .out .now)) (k .ask .ensures) ∙ sym (obeys-asks (a .tables) (a .out .now) _))
+    (u .put-answer2 .last .0) (u .put-answer2 .result) (u .put-answer2 .ensures)
+
+-- so many ticks
+abbrev Name4 : tie.After-ticks → tie.After-name
+Name4 k = k .before .before .before .before
+
+put-answer-requires-3 : tie.Need-put-answer-requires-3
+put-answer-requires-3 c κs =
+    let k = c .before .before in
+    let a = S (Name4 k) .args in
+    room (Name4 k) (k .before .before .said2 .given .1) refl (k .ticks .result)
+    (ap (beside (a .out .now)) (k .ticks .ensures) ∙ sym (obeys-ticks (a .tables) (a .out .now) _))
+
+returns-5 : tie.Need-returns-5
+returns-5 c =
+    let u = c .before .before in
+    let k = u .before .before .before in
+    let a = S (Name4 k) .args in
+    printed (Name4 k) (k .before .before .said2 .given .1) refl (k .ticks .result)
+    (ap (beside (a .out .now)) (k .ticks .ensures) ∙ sym (obeys-ticks (a .tables) (a .out .now) _))
+    (u .put-answer3 .last .0) (u .put-answer3 .result) (u .put-answer3 .ensures)
 
 pub print-line-spec : {M : Type 1} → statement M
 print-line-spec =
     tie.close
-    (tie.spec returns (λ c κs. search needs) (λ c. search needs) print-page-requires (λ c. search needs) returns-2 (λ c κs. search needs)
-    put-answer-requires (λ c. search needs) returns-3)
+    (tie.spec returns (λ c κs. search needs) (λ c. search needs) (λ c κs. search needs) put-answer-requires (λ c. search needs)
+    print-page-requires (λ c. search needs) (λ c κs. search needs) put-answer-requires-2 (λ c. search needs) (λ c κs. search needs)
+    put-answer-requires-3 (λ c. search needs) returns-2 (λ c. search needs) returns-3 (λ c. search needs) returns-4 (λ c. search needs)
+    returns-5)
