@@ -26,12 +26,12 @@ filled t (l ∷ ls) n =
     let bytes : List ℕ = bytesFor t l in
     elim (leb (length bytes) n) [ true ↦ bytes ++ filled (keyed t l lent .tables) ls (n - length bytes) | false ↦ [] ]
 
--- the number of an answer and five values, those that it does not have 0, each in 8 bytes
+-- the number of an answer and six values, those that it does not have 0, each in 8 bytes
 unfoldable pub figures : ℕ → List ℕ → List ℕ
-figures a vs = join (map (inBytes 8) (a ∷ take 5 (vs ++ replicate 5 0)))
+figures a vs = join (map (inBytes 8) (a ∷ take 6 (vs ++ replicate 6 0)))
 
 abbrev pub figuresLength : ℕ
-figuresLength = 48
+figuresLength = 56
 
 -- an answer at the front of the bytes lent for it; where these are too few it is told by its number alone
 abbrev pub answering : ℕ → List ℕ → List ℕ → List ℕ

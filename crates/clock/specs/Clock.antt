@@ -1,9 +1,9 @@
--- The clock: its units, its ceiling, and the parts of a day.
+-- The clock: its units, its ceiling, the calendar, and the parts of the time.
 -- Assumes nothing.
-use Prim.Native.Nat.{ℕ, _+_, _/_, _%_}
-use mathlib.Core.Bool.{cond}
-use mathlib.Core.List.{List, [], _∷_}
-use lib.Dec.{eqb}
+use Prim.Native.Nat.{ℕ, zero, suc, _+_, _-_, _/_, _%_}
+use mathlib.Core.Bool.{Bool, cond, not, _&&_, _||_}
+use mathlib.Core.List.{List, [], _∷_, _++_}
+use lib.Dec.{eqb, ltb}
 use Rattle.clock.specs.declared.Time.{Time}
 
 -- the highest reading of the clock (OUTLINE, "The tables")
@@ -18,10 +18,24 @@ unit n = cond (eqb n 1) 1 (cond (eqb n 2) 100 (cond (eqb n 3) 6_000 360_000))
 abbrev pub farthest : ℕ
 farthest = 1_474_200_000
 
--- day, hour, minute, second and hundredth (OUTLINE, EXEC 11)
-unfoldable pub timeOf : ℕ → List ℕ
-timeOf c = (c / 8_640_000 % 365 + 1) ∷ (c / 360_000 % 24) ∷ (c / 6_000 % 60) ∷ (c / 100 % 60) ∷ (c % 100) ∷ []
+-- the Gregorian rule (OUTLINE, "Leap years"): every fourth year is a leap year, but of the hundreds only every fourth
+unfoldable pub leap : ℕ → Bool
+leap y = eqb (y % 4) 0 && (not (eqb (y % 100) 0) || eqb (y % 400) 0)
 
--- the same five numbers, as the code hands them over
+unfoldable pub daysIn : ℕ → ℕ
+daysIn y = cond (leap y) 366 365
+
+-- the year, and the day of it, when d days have gone by since the start of year y: years are counted off one after another, n of them at most
+unfoldable pub dated : ℕ → ℕ → ℕ → List ℕ
+dated zero y d = y ∷ (d + 1) ∷ []
+dated (suc n) y d = cond (ltb d (daysIn y)) (y ∷ (d + 1) ∷ []) (dated n (suc y) (d - daysIn y))
+
+-- year, day, hour, minute, second and hundredth of a clock that started in year y (OUTLINE, EXEC 11); so many days have not so many years
+unfoldable pub timeOf : ℕ → ℕ → List ℕ
+timeOf y c =
+    let d : ℕ = c / 8_640_000 in
+    dated d y d ++ ((c / 360_000 % 24) ∷ (c / 6_000 % 60) ∷ (c / 100 % 60) ∷ (c % 100) ∷ [])
+
+-- the same six numbers, as the code hands them over
 abbrev pub partsOf : Time → List ℕ
-partsOf t = t .day ∷ t .hour ∷ t .minute ∷ t .second ∷ t .hundredth ∷ []
+partsOf t = t .year ∷ t .day ∷ t .hour ∷ t .minute ∷ t .second ∷ t .hundredth ∷ []

@@ -7,7 +7,7 @@ use mathlib.Core.Bool.{true, false}
 use mathlib.Core.List.{List, [], _∷_}
 use mathlib.Core.Option.{none, some}
 use lib.ListN.{length}
-use Rattle.limits.specs.Limits.{longestLine}
+use Rattle.limits.specs.Limits.{longestLine, usualYear}
 use Rattle.lists.specs.Lists.{upTo, alike}
 use Rattle.text.specs.Text.{text, numberOf, parts}
 use Rattle.records.specs.Names.{nameOf}
@@ -94,7 +94,7 @@ numbers =
 unfoldable pub forms : List Entry
 unfolding execs numbers
 forms =
-    "FRESH" ↝ (number λ t. number λ s. number λ r. over (asks (FRESH t s r)))
+    "FRESH" ↝ (number λ t. number λ s. number λ r. bareOr (asks (FRESH t s r usualYear)) (number λ y. over (asks (FRESH t s r y))))
     ∷ "LOAD" ↝ (name λ nm. number λ p. over (asks (LOAD nm p)))
     ∷ "RU" ↝ (name λ nm. over (asks (operator RU nm)))
     ∷ "SS" ↝ (name λ nm. over (asks (operator SS nm)))

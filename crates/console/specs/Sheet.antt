@@ -29,7 +29,7 @@ answerLine r = answerOf (r .number) (r .values)
 
 -- that line put at the front of a buffer where the longest has room: how many bytes, and the buffer
 abbrev pub longestAnswer : ℕ
-longestAnswer = 139
+longestAnswer = 160
 
 pub record Put : Type 0 where
   pub many : ℕ
@@ -52,7 +52,7 @@ abbrev pub bytesFor : Tables → List ℕ → List ℕ
 bytesFor t l = shown (lineOf l) t (keyed t l lent)
 
 -- What a line prints, at the front of a lent buffer: 0, and how many bytes; or 12, and the bytes needed, where fewer than
--- 8,192 are lent: then nothing is done.
+-- 8,704 are lent: then nothing is done.
 unfoldable pub lineShown : Tables → List ℕ → List ℕ → Written
 lineShown t l out =
     elim (leb pageRoom (length out)) [

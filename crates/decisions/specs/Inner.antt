@@ -52,7 +52,7 @@ startsNow b p = dueAt b p && eqb (stateOf b p) dormant
 -- what happens, by the effect; nm is the name that stands beside
 abbrev pub eventsFor : View → List ℕ → Effect → List Event
 eventsFor v nm Stay = []
-eventsFor v nm (Renew T S R) = renewed T S R ∷ []
+eventsFor v nm (Renew T S R Y) = renewed T S R Y ∷ []
 eventsFor v nm (Load p n) = on p (loaded nm n) ∷ []
 eventsFor v nm (Price p n) = on p (priced n) ∷ []
 eventsFor v nm (Time p d i) = on p (timed d i) ∷ []
@@ -72,7 +72,7 @@ eventsFor v nm Tick = tickEvents (v .book)
 -- the number and the values: those of the answer, or what the effect tells: how many are woken or started, and 0 for new tables
 abbrev pub replyFor : View → Answer → Effect → ℕ × List ℕ
 replyFor v a Stay = (number a, values a)
-replyFor v a (Renew T S R) = (0, 0 ∷ [])
+replyFor v a (Renew T S R Y) = (0, 0 ∷ [])
 replyFor v a (Load p n) = (number a, values a)
 replyFor v a (Price p n) = (number a, values a)
 replyFor v a (Time p d i) = (number a, values a)
@@ -88,17 +88,19 @@ replyFor v a (Number r o l) = (number a, values a)
 replyFor v a (Release r o l d) = (0, length (woken v (clears r d)) ∷ [])
 replyFor v a Tick = (0, length (keep (startsNow (v .book)) all) ∷ [])
 
--- T tracks, S of them the system's, and R numbers are tables
-pub record Sizes (T S R : ℕ) : Type 0 where
+-- T tracks, S of them the system's, R numbers and a clock that starts in year Y are tables
+pub record Sizes (T S R Y : ℕ) : Type 0 where
   pub least : 1 ≤ T
   pub most : T ≤ mostTracks
   pub part : S ≤ T
   pub few : R ≤ mostNumbers
+  pub earliest : firstYear ≤ Y
+  pub latest : Y ≤ lastYear
 
 -- the numbers of an effect are those of programs, tracks and resource numbers
 abbrev pub Apt : View → Effect → Type 0
 Apt v Stay = Unit {0}
-Apt v (Renew T S R) = Sizes T S R
+Apt v (Renew T S R Y) = Sizes T S R Y
 Apt v (Load p n) = Known p
 Apt v (Price p n) = Known p
 Apt v (Time p d i) = Known p

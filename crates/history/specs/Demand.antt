@@ -65,7 +65,7 @@ firstEntries a = record { book = a .book; kept = inTurn (a .book) (join (a .kept
 
 -- what the replay begins with: fresh notes, of the smallest sizes where FRESH is refused; of tables that were read, the first entries
 unfoldable pub notesOf : Beginning → State entries
-notesOf (calls.fresh T S R) = madeBy (fresh entries) T S R .tables
+notesOf (calls.fresh T S R Y) = madeBy (fresh entries) T S R Y .tables
 notesOf (calls.read s) = firstEntries (plain (reading s .tables))
 
 -- what a call is told: its number, its values, and the buffer that was lent to it, without the tables
@@ -123,7 +123,7 @@ pub data Asks (q : Request) : Made → Type 0 where
 -- the call is an accepted FRESH, which takes no tables; or the tables are sound and it concerns program p: its caller, named
 -- in it, due at that tick, or woken by it; or it is an accepted TICK,n, and p is due at one of its ticks
 pub data Touches (t : Tables) (c : Made) (p : ℕ) : Type 0 where
-  anew : (T S R : ℕ) → c ≡ calls.request (FRESH T S R) → sizes T S R ≡ true → Touches t c p
+  anew : (T S R Y : ℕ) → c ≡ calls.request (FRESH T S R Y) → sizes T S R Y ≡ true → Touches t c p
   concerns : (q : Request) → Asks q c → sound t ≡ true → Concerned (view lists (plain t)) q p → Touches t c p
   -- k of its ticks are made, and p is due at the next
   ticking : (n k : ℕ) → AsksTicks n c → manyTicks t n .number ≡ 0 → k < n → dueAt (plain (afterTicks asked k t) .book) p ≡ true
@@ -139,6 +139,6 @@ afterwards t c p = at (plain (step linked t c .tables) .book) p
 -- p has nothing to do with the call but that it may be woken by it: the call is no FRESH, and neither is p its caller,
 -- nor named in it, nor due at that tick or, where the call is an accepted TICK,n, at one of its ticks
 pub record Bystander (t : Tables) (c : Made) (p : ℕ) : Type 0 where
-  pub old : (T S R : ℕ) → Asks (FRESH T S R) c → ⊥
+  pub old : (T S R Y : ℕ) → Asks (FRESH T S R Y) c → ⊥
   pub apart : (q : Request) → Asks q c → Party (view lists (plain t)) p q → ⊥
   pub undue : (n k : ℕ) → AsksTicks n c → manyTicks t n .number ≡ 0 → k < n → dueAt (plain (afterTicks asked k t) .book) p ≡ true → ⊥

@@ -13,14 +13,14 @@ use Rattle.tables.specs.Calls.{made}
 use Rattle.reader.specs.Reading.{reading}
 use Rattle.console.specs.Console.{keyedIn}
 
--- WHAT BEGINS A RUN: FRESH of some sizes, or the reading of a page. Neither takes tables; a reading is no call within a run.
+-- WHAT BEGINS A RUN: FRESH of some sizes and a year, or the reading of a page. Neither takes tables; a reading is no call within a run.
 pub data Beginning : Type 0 where
-  fresh : ℕ → ℕ → ℕ → Beginning  -- T, S, R
+  fresh : ℕ → ℕ → ℕ → ℕ → Beginning  -- T, S, R, the start year
   read : List ℕ → Beginning  -- the page's bytes
 
 -- the tables that it yields: the smallest where FRESH or the reading is refused
 unfoldable pub begins : Beginning → Tables
-begins (fresh T S R) = made T S R .tables
+begins (fresh T S R Y) = made T S R Y .tables
 begins (read s) = reading s .tables
 
 -- a call of a run, with the buffer that is lent to it
@@ -42,7 +42,7 @@ module _ (E : Engine) where
   begun t r = record { number = r .number; values = r .values; tables = cond (eqb (r .number) 0) (r .tables) t }
 
   abbrev pub requested : E .Form → Request → Reply (E .Form)
-  requested t (FRESH T S R) = begun t (madeBy (E .fresh) T S R)
+  requested t (FRESH T S R Y) = begun t (madeBy (E .fresh) T S R Y)
   requested t (LOAD nm n) = E .asked t (LOAD nm n)
   requested t (operator o nm) = E .asked t (operator o nm)
   requested t TICK = E .asked t TICK

@@ -20,6 +20,7 @@ abbrev pub bookOf : Ledger → Book
 bookOf l = record {
   programs = l .programs;
   clock = l .clock .ticks;
+  year = l .clock .year;
   tracks = l .tracks .count;
   system = l .tracks .system;
   numbers = l .numbers .count;
@@ -30,7 +31,7 @@ bookOf l = record {
 abbrev pub ledgerOf : Book → Ledger
 ledgerOf b = record {
   programs = b .programs;
-  clock = record { ticks = b .clock };
+  clock = record { ticks = b .clock; year = b .year };
   tracks = tracks.tableOf (b .tracks) (b .system) (b .holders);
   numbers = numbers.tableOf (b .numbers) (b .resources);
 }

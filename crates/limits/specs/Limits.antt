@@ -1,5 +1,5 @@
 -- The outline's figures, once for all definitions (OUTLINE, "The tables", EXEC
--- 12, "Many ticks at once" and "The page and the console line"). The code has its own in src/lib.rt.
+-- 12, "Many ticks at once", "Leap years" and "The page and the console line"). The code has its own in src/lib.rt.
 -- Assumes nothing.
 use Prim.Native.Nat.{ℕ}
 
@@ -49,7 +49,17 @@ abbrev pub longestLine : ℕ
 longestLine = 72
 
 abbrev pub pageRoom : ℕ
-pageRoom = 8192
+pageRoom = 8704
+
+-- the years in which a clock may start, and the one in which it starts where none is said
+abbrev pub firstYear : ℕ
+firstYear = 1970
+
+abbrev pub lastYear : ℕ
+lastYear = 2099
+
+abbrev pub usualYear : ℕ
+usualYear = 1975
 
 -- the digits of a number on a page, at most
 abbrev pub pageDigits : ℕ

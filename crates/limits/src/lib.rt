@@ -34,7 +34,14 @@ pub const MOST_TICKS: u64 = 100000000;
 // The bytes of a line, at most; and the bytes that no page passes.
 pub const LONGEST_LINE: usize = 72;
 
-pub const PAGE_ROOM: usize = 8192;
+pub const PAGE_ROOM: usize = 8704;
+
+// The years in which a clock may start, and the one in which it starts where none is said.
+pub const FIRST_YEAR: u16 = 1970;
+
+pub const LAST_YEAR: u16 = 2099;
+
+pub const USUAL_YEAR: u16 = 1975;
 
 // The digits of a number on a page, at most.
 pub const PAGE_DIGITS: usize = 13;

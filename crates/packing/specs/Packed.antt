@@ -75,24 +75,24 @@ resourceAt s o = record { owner = getD s o 0; lock = getD s (o + 1) 0 }
 
 -- where each part of the tables stands, and how many bytes there are
 abbrev pub holdersPlace : ℕ
-holdersPlace = 13
+holdersPlace = 15
 
 abbrev pub resourcesPlace : ℕ
-resourcesPlace = 269
+resourcesPlace = 271
 
 abbrev pub linksPlace : ℕ
-linksPlace = 301
+linksPlace = 303
 
 abbrev pub programsPlace : ℕ
-programsPlace = 341
+programsPlace = 343
 
 abbrev pub packedLength : ℕ
-packedLength = 1269
+packedLength = 1271
 
--- clock, tracks, system's tracks, numbers; holders; resources; links; records
+-- clock, start year, tracks, system's tracks, numbers; holders; resources; links; records
 unfoldable pub packed : Tables → List ℕ
 packed t =
-    inBytes 8 (t .ledger .clock .ticks) ++ inBytes 2 (t .ledger .tracks .count) ++ inBytes 2 (t .ledger .tracks .system)
+    inBytes 8 (t .ledger .clock .ticks) ++ inBytes 2 (t .ledger .clock .year) ++ inBytes 2 (t .ledger .tracks .count) ++ inBytes 2 (t .ledger .tracks .system)
     ++ (t .ledger .numbers .count ∷ [])
     ++ places (t .ledger .tracks) ++ join (map packResource (t .ledger .numbers .resources)) ++ t .links
     ++ join (map packProgram (t .ledger .programs))
@@ -102,9 +102,9 @@ unfolding programAt
 unpacked s = record {
   ledger = record {
     programs = map (λ i. programAt s (programsPlace + 29 * i)) (from 0 mostPrograms);
-    clock = record { ticks = figureAt 8 s 0 };
-    tracks = tableAt (figureAt 2 s 8) (figureAt 2 s 10) (take mostTracks (drop holdersPlace s));
-    numbers = record { count = getD s 12 0; resources = map (λ i. resourceAt s (resourcesPlace + 2 * i)) (from 0 mostNumbers) };
+    clock = record { ticks = figureAt 8 s 0; year = figureAt 2 s 8 };
+    tracks = tableAt (figureAt 2 s 10) (figureAt 2 s 12) (take mostTracks (drop holdersPlace s));
+    numbers = record { count = getD s 14 0; resources = map (λ i. resourceAt s (resourcesPlace + 2 * i)) (from 0 mostNumbers) };
   };
   links = take slots (drop linksPlace s);
 }

@@ -6,7 +6,7 @@ use mathlib.Core.Bool.{Bool, cond, _||_}
 use mathlib.Core.List.{List, [], _∷_, _++_, map}
 use lib.ListN.{length, getD}
 use lib.Dec.{eqb, ltb}
-use Rattle.limits.specs.Limits.{scheduled, general, disc, suspended}
+use Rattle.limits.specs.Limits.{scheduled, general, disc, suspended, usualYear}
 use Rattle.lists.specs.Lists.{keep, from, join}
 use Rattle.text.specs.Text.{text, decimal, between, entry}
 use Rattle.records.specs.declared.Program.{Program}
@@ -39,6 +39,9 @@ pageKey = "page"
 
 abbrev pub clockKey : String
 clockKey = "clock"
+
+abbrev pub yearKey : String
+yearKey = "year"
 
 abbrev pub tracksKey : String
 tracksKey = "tracks"
@@ -88,9 +91,12 @@ numberKey = "number"
 abbrev pub endKey : String
 endKey = "end"
 
--- the head's, and those that every record has, as they come on the page
-abbrev pub headKeys : List String
-headKeys = pageKey ∷ clockKey ∷ tracksKey ∷ systemKey ∷ numbersKey ∷ programsKey ∷ []
+-- the head's, before the year and behind it, and those that every record has, as they come on the page
+abbrev pub firstKeys : List String
+firstKeys = pageKey ∷ clockKey ∷ []
+
+abbrev pub sizeKeys : List String
+sizeKeys = tracksKey ∷ systemKey ∷ numbersKey ∷ programsKey ∷ []
 
 abbrev pub recordKeys : List String
 recordKeys = idKey ∷ nameKey ∷ priorityKey ∷ stateKey ∷ whyKey ∷ dueKey ∷ intervalKey ∷ []
@@ -156,8 +162,14 @@ paired [] vs = []
 paired (k ∷ ks) [] = []
 paired (k ∷ ks) (v ∷ vs) = line k v ∷ paired ks vs
 
-abbrev pub headLines : ℕ → ℕ → ℕ → ℕ → ℕ → List Line
-headLines clock T S R n = paired headKeys (text firstWord ∷ decimal clock ∷ decimal T ∷ decimal S ∷ decimal R ∷ decimal n ∷ [])
+-- the start year, unless it is the usual one
+abbrev pub yearLine : ℕ → List Line
+yearLine Y = cond (eqb Y usualYear) [] (line yearKey (decimal Y) ∷ [])
+
+abbrev pub headLines : ℕ → ℕ → ℕ → ℕ → ℕ → ℕ → List Line
+headLines clock Y T S R n =
+    paired firstKeys (text firstWord ∷ decimal clock ∷ []) ++ yearLine Y
+    ++ paired sizeKeys (decimal T ∷ decimal S ∷ decimal R ∷ decimal n ∷ [])
 
 -- the numbers of the used records, upward
 unfoldable pub usedIn : List Program → List ℕ
@@ -207,7 +219,7 @@ numberLines n xs = join (map (λ r. numberLine r (numberAt xs r)) (from 1 n))
 abbrev pub parts : State lists → List (List Line)
 parts a =
     let b : Book = a .book in
-    headLines (b .clock) (b .tracks) (b .system) (b .numbers) (length (usedIn (b .programs))) ∷ recordLines (b .programs)
+    headLines (b .clock) (b .year) (b .tracks) (b .system) (b .numbers) (length (usedIn (b .programs))) ∷ recordLines (b .programs)
     ∷ chainLines (a .kept) ∷ heldLines (b .holders) ∷ numberLines (b .numbers) (b .resources) ∷ (line endKey (text lastWord) ∷ []) ∷ []
 
 unfoldable pub lines : State lists → List Line

@@ -12,7 +12,7 @@ use Rattle.tables.specs.declared.Tables.{Tables}
 use Rattle.tables.specs.Tables.{plain, Arrays}
 use Rattle.tables.specs.Sound.{Sound}
 use Rattle.page.specs.Page.{page}
-use Rattle.reader.specs.Order.{Place, heading, headForms, behindLine, ended}
+use Rattle.reader.specs.Order.{Place, pageAhead, behindLine, ended}
 use Rattle.reader.specs.Reading.{wasRead, reading}
 
 -- the lines of a text that are ended by byte 10
@@ -27,7 +27,7 @@ behindThese p (l ∷ ls) = elim (behindLine p l) [ none ↦ none | some q ↦ be
 -- the first k lines of a text are well formed, and the reader stands at p behind them
 pub record FormedTo (s : List ℕ) (k : ℕ) (p : Place) : Type 0 where
   pub there : k ≤ length (endedLines s)
-  pub formed : behindThese (heading headForms) (take k (endedLines s)) ≡ some p
+  pub formed : behindThese pageAhead (take k (endedLines s)) ≡ some p
 
 -- Line k + 1 is the first that is not well formed: those before it are, and it may not come; or it is not there, or not ended, and the
 -- page is not at its end before it
@@ -37,7 +37,7 @@ pub data FirstNot (s : List ℕ) (k : ℕ) : Type 0 where
 
 -- all lines are well formed, and the page is at its end behind the last
 pub record AllFormed (s : List ℕ) : Type 0 where
-  pub formed : behindThese (heading headForms) (endedLines s) ≡ some ended
+  pub formed : behindThese pageAhead (endedLines s) ≡ some ended
   pub nothing : lastBytes (parts 10 s) ≡ []
 
 -- sound tables write these bytes

@@ -9,7 +9,7 @@ use mathlib.Core.Option.{Option, none, some}
 use Rattle.lists.specs.Lists.{alike}
 use Rattle.text.specs.Text.{text, behind}
 use Rattle.records.specs.Names.{nameOf}
-use Rattle.page.specs.Page.{headKeys, recordKeys, suspendKey, heldKey, numberKey, endKey, chained, keyOfChain, firstWord, lastWord, markWord}
+use Rattle.page.specs.Page.{firstKeys, yearKey, sizeKeys, recordKeys, suspendKey, heldKey, numberKey, endKey, chained, keyOfChain, firstWord, lastWord, markWord}
 use Rattle.shapes.specs.Shapes.{there, otherwise, figure, figureOrDash, reasonOf, listed, runIn, numbered}
 
 -- a kind of line: its key, and whether a value has its shape
@@ -32,8 +32,14 @@ isFigure v = there (figure v)
 abbrev pub isFigureOrDash : List ℕ → Bool
 isFigureOrDash v = there (figureOrDash v)
 
-abbrev pub headForms : List Form
-headForms = formed headKeys ((λ v. alike v (text firstWord)) ∷ isFigure ∷ isFigure ∷ isFigure ∷ isFigure ∷ isFigure ∷ [])
+abbrev pub firstForms : List Form
+firstForms = formed firstKeys ((λ v. alike v (text firstWord)) ∷ isFigure ∷ [])
+
+abbrev pub yearForm : Form
+yearForm = form yearKey isFigure
+
+abbrev pub sizeForms : List Form
+sizeForms = formed sizeKeys (isFigure ∷ isFigure ∷ isFigure ∷ isFigure ∷ [])
 
 abbrev pub recordForms : List Form
 recordForms =
@@ -57,9 +63,10 @@ endForm = form endKey (λ v. alike v (text lastWord))
 
 -- where a reader of the page stands
 pub data Place : Type 0 where
-  heading : List Form → Place  -- lines of the head come
+  opening : List Form → Place  -- the first lines of the head come
+  heading : List Form → Place  -- its last lines
   recording : List Form → ℕ → Place  -- lines of a record, and then so many records
-  marking : Place → Place  -- the mark of the record just read, or what may come at that place
+  perhaps : Form → Place → Place  -- a line of that kind, or what may come at that place
   chaining : List Form → Place  -- chains
   holding : Place  -- tracks that are held, as many as there are; or what may stand behind them
   numbering : Place  -- numbers, as many as there are; or the last line
@@ -76,8 +83,15 @@ recordsAhead zero = chainsAhead chainForms
 recordsAhead (suc n) = recording recordForms n
 
 abbrev pub recordAhead : List Form → ℕ → Place
-recordAhead [] n = marking (recordsAhead n)
+recordAhead [] n = perhaps markForm (recordsAhead n)
 recordAhead (f ∷ fs) n = recording (f ∷ fs) n
+
+-- the year, if it is there, and then the sizes; the whole page
+abbrev pub yearAhead : Place
+yearAhead = perhaps yearForm (heading sizeForms)
+
+abbrev pub pageAhead : Place
+pageAhead = opening firstForms
 
 -- a kind of line that may come, and where the reader stands behind it, by its value
 pub record Choice : Type 0 where
@@ -89,12 +103,15 @@ choice f p = record { kind = f; then = λ v. p }
 
 -- the kinds that may come: the records as many as the head's last line says
 abbrev pub mayCome : Place → List Choice
+mayCome (opening []) = []
+mayCome (opening (f ∷ [])) = choice f yearAhead ∷ []
+mayCome (opening (f ∷ g ∷ fs)) = choice f (opening (g ∷ fs)) ∷ []
 mayCome (heading []) = []
 mayCome (heading (f ∷ [])) = record { kind = f; then = λ v. recordsAhead (otherwise 0 (figure v)) } ∷ []
 mayCome (heading (f ∷ g ∷ fs)) = choice f (heading (g ∷ fs)) ∷ []
 mayCome (recording [] n) = []
 mayCome (recording (f ∷ fs) n) = choice f (recordAhead fs n) ∷ []
-mayCome (marking p) = choice markForm p ∷ mayCome p
+mayCome (perhaps f p) = choice f p ∷ mayCome p
 mayCome (chaining []) = []
 mayCome (chaining (f ∷ fs)) = choice f (chainsAhead fs) ∷ []
 mayCome holding = choice heldForm holding ∷ choice numberForm numbering ∷ choice endForm ended ∷ []
@@ -127,9 +144,10 @@ behindLine p l = afterOne (mayCome p) l
 abbrev pub behindAll : Place → ℕ → List ℕ → ℕ
 behindAll ended n [] = 0
 behindAll ended n (c ∷ cs) = n
+behindAll (opening fs) n l = n
 behindAll (heading fs) n l = n
 behindAll (recording fs k) n l = n
-behindAll (marking p) n l = n
+behindAll (perhaps f p) n l = n
 behindAll (chaining fs) n l = n
 behindAll holding n l = n
 behindAll numbering n l = n

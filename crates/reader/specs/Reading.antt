@@ -10,7 +10,7 @@ use Rattle.tables.specs.Tables.{plain, lay, smallest}
 use Rattle.tables.specs.Sound.{sound}
 use Rattle.tables.specs.Calls.{Result}
 use Rattle.page.specs.Page.{page}
-use Rattle.reader.specs.Order.{heading, headForms, firstBad}
+use Rattle.reader.specs.Order.{pageAhead, firstBad}
 use Rattle.reader.specs.Said.{said}
 
 -- read: 0, value 0, and the tables; not read: 15, the line, and the smallest tables
@@ -31,4 +31,4 @@ judged s (suc n) t = notRead (suc n)
 
 unfoldable pub reading : List ℕ → Result
 unfolding writes
-reading s = judged s (firstBad (heading headForms) 1 (parts 10 s)) (lay (said (parts 10 s)))
+reading s = judged s (firstBad pageAhead 1 (parts 10 s)) (lay (said (parts 10 s)))

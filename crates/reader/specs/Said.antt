@@ -17,13 +17,14 @@ use Rattle.records.specs.Records.{known}
 use Rattle.records.specs.Numbers.{withNumber}
 use Rattle.tracks.specs.declared.held.Run.{Run}
 use Rattle.tracks.specs.Tracks.{filled}
+use Rattle.limits.specs.Limits.{usualYear}
 use Rattle.rules.specs.Book.{Book, put, withClock, withHolders, withResources, freshBook}
 use Rattle.rules.specs.Rules.{sizes}
 use Rattle.rules.specs.Keeper.{lists, State}
-use Rattle.page.specs.Page.{clockKey, tracksKey, systemKey, numbersKey, programsKey, idKey, nameKey, priorityKey, stateKey, whyKey, dueKey}
-use Rattle.page.specs.Page.{intervalKey, headKeys, recordKeys, heldKey, numberKey, chained, keyOfChain}
+use Rattle.page.specs.Page.{clockKey, yearKey, tracksKey, systemKey, numbersKey, programsKey, idKey, nameKey, priorityKey, stateKey, whyKey, dueKey}
+use Rattle.page.specs.Page.{intervalKey, firstKeys, sizeKeys, recordKeys, heldKey, numberKey, chained, keyOfChain}
 use Rattle.shapes.specs.Shapes.{otherwise, figure, figureOrDash, reasonOf, listed, runIn, Numbered, numbered}
-use Rattle.reader.specs.Order.{markForm, valueBehind}
+use Rattle.reader.specs.Order.{Form, yearForm, markForm, valueBehind}
 
 -- the value of the line of that key among some lines; a number there
 unfoldable pub valueOf : String → List (List ℕ) → List ℕ
@@ -41,18 +42,22 @@ onBook f a = record { book = f (a .book); kept = a .kept }
 abbrev pub withChain : ℕ → List ℕ → State lists → State lists
 withChain s c a = record { book = a .book; kept = set (a .kept) s c }
 
--- the head: what FRESH yields for these sizes, the smallest where they are not allowed, at that time
-abbrev pub started : ℕ → ℕ → ℕ → ℕ → State lists
-started clock T S R =
-    record { book = withClock clock (cond (sizes T S R) (freshBook T S R) (freshBook 1 0 0)); kept = lists .none }
+-- whether the first of some lines is of a kind; whether it is a mark
+abbrev pub beginsWith : Form → List (List ℕ) → Bool
+beginsWith f [] = false
+beginsWith f (l ∷ ls) = elim (valueBehind (f .key) l) [ some v ↦ f .shape v | none ↦ false ]
 
-abbrev pub headIn : List (List ℕ) → State lists
-headIn ls = started (figureOf clockKey ls) (figureOf tracksKey ls) (figureOf systemKey ls) (figureOf numbersKey ls)
-
--- whether the first of some lines is a mark
 abbrev pub markedBy : List (List ℕ) → Bool
-markedBy [] = false
-markedBy (l ∷ ls) = elim (valueBehind (markForm .key) l) [ some v ↦ markForm .shape v | none ↦ false ]
+markedBy ls = beginsWith markForm ls
+
+-- the head: what FRESH yields for this year and these sizes, the smallest where they are not allowed, at that time
+abbrev pub started : ℕ → ℕ → ℕ → ℕ → ℕ → State lists
+started clock Y T S R =
+    record { book = withClock clock (cond (sizes T S R Y) (freshBook T S R Y) (freshBook 1 0 0 usualYear)); kept = lists .none }
+
+-- the year, by the lines behind the first: the usual one where there is no line for it
+abbrev pub yearSaid : List (List ℕ) → ℕ
+yearSaid ls = cond (beginsWith yearForm ls) (figureOf yearKey ls) usualYear
 
 -- a record, by its lines, and whether a mark stands behind them
 abbrev pub recordIn : List (List ℕ) → Bool → Program
@@ -122,5 +127,10 @@ recordsSaid (suc n) a ls =
 unfoldable pub said : List (List ℕ) → State lists
 unfolding recordsSaid
 said ls =
-    let own : List (List ℕ) = take (length headKeys) ls in
-    recordsSaid (figureOf programsKey own) (headIn own) (drop (length headKeys) ls)
+    let first : List (List ℕ) = take (length firstKeys) ls in
+    let rest : List (List ℕ) = drop (length firstKeys) ls in
+    let behind : List (List ℕ) = drop (hit (beginsWith yearForm rest)) rest in
+    let own : List (List ℕ) = take (length sizeKeys) behind in
+    recordsSaid (figureOf programsKey own)
+    (started (figureOf clockKey first) (yearSaid rest) (figureOf tracksKey own) (figureOf systemKey own) (figureOf numbersKey own))
+    (drop (length sizeKeys) behind)

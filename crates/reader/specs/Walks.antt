@@ -5,6 +5,7 @@ use mathlib.Core.Path.{_≡_}
 use mathlib.Core.List.{List, [], _∷_, map}
 use lib.ListN.{length, drop, replicate}
 use Rattle.limits.specs.Limits.{mostPrograms}
+use Rattle.lists.specs.Lists.{hit}
 use Rattle.text.specs.Text.{text, parts}
 use Rattle.records.specs.declared.Program.{Program}
 use Rattle.records.specs.declared.Numbers.{Numbers}
@@ -17,15 +18,16 @@ use Rattle.chains.specs.Links.{slots, layChain}
 use Rattle.rules.specs.Book.{Book, altered, withHolders, withResources}
 use Rattle.rules.specs.Keeper.{lists, State}
 use Rattle.page.specs.Page.{chained, numberKey}
+use Rattle.reader.specs.declared.parts.Year.{Year}
 use Rattle.reader.specs.declared.parts.Head.{Head}
 use Rattle.reader.specs.declared.parts.Record.{Record}
 use Rattle.reader.specs.declared.parts.Records.{Records}
 use Rattle.reader.specs.declared.parts.Chains.{Chains}
 use Rattle.reader.specs.declared.parts.Held.{Held}
 use Rattle.reader.specs.declared.parts.Numbered.{Numbered}
-use Rattle.reader.specs.Order.{heading, recording, recordsAhead, chainsAhead, holding, numbering, headForms, recordForms, chainForms}
+use Rattle.reader.specs.Order.{pageAhead, yearAhead, yearForm, heading, sizeForms, recording, recordsAhead, chainsAhead, holding, numbering, recordForms, chainForms}
 use Rattle.reader.specs.Order.{firstBad}
-use Rattle.reader.specs.Said.{onBook, withChain, withRecord, started, restSaid, chainsSaid, recordsSaid, said}
+use Rattle.reader.specs.Said.{beginsWith, yearSaid, onBook, withChain, withRecord, started, restSaid, chainsSaid, recordsSaid, said}
 use Rattle.shapes.specs.Inner.{byte, narrowResource, numberIn, NoLine}
 use Rattle.reader.specs.Inner.{narrowRecord}
 
@@ -33,15 +35,26 @@ use Rattle.reader.specs.Inner.{narrowRecord}
 abbrev pub ahead : List ℕ → ℕ → List (List ℕ)
 ahead s at = parts 10 (drop at s)
 
+-- the year's line, where it stands, and the place behind it: what it says, where a line comes there
+pub record YearRead (s : List ℕ) (at : ℕ) (r : Year) : Type 0 where
+  pub few : r .lines ≤ 1
+  pub beyond : at ≤ r .at
+  pub within : r .at ≤ length s
+  pub scan : (k : ℕ) → firstBad yearAhead k (ahead s at) ≡ firstBad (heading sizeForms) (k + r .lines) (ahead s (r .at))
+  pub says : 2 ≤ length (ahead s (r .at)) → (yearSaid (ahead s at) ≡ r .year) × (drop (hit (beginsWith yearForm (ahead s at))) (ahead s at) ≡ ahead s (r .at))
+
 pub record HeadIs (s : List ℕ) (at : ℕ) (r : Head) : Type 0 where
   pub beyond : at + 12 ≤ r .at
   pub within : r .at ≤ length s
-  pub scan : firstBad (heading headForms) 1 (ahead s at) ≡ firstBad (recordsAhead (r .programs)) 7 (ahead s (r .at))
-  pub says : said (ahead s at) ≡ recordsSaid (r .programs) (started (r .clock) (r .tracks) (r .system) (r .numbers)) (ahead s (r .at))
+  pub few : r .line ≤ 8
+  pub some : 1 ≤ r .line
+  pub scan : firstBad pageAhead 1 (ahead s at) ≡ firstBad (recordsAhead (r .programs)) (r .line) (ahead s (r .at))
+  pub says : said (ahead s at)
+      ≡ recordsSaid (r .programs) (started (r .clock) (r .year) (r .tracks) (r .system) (r .numbers)) (ahead s (r .at))
 
 pub record HeadRead (s : List ℕ) (at : ℕ) (r : Head) : Type 0 where
   pub read : r .bad ≡ 0 → HeadIs s at r
-  pub stops : 1 ≤ r .bad → firstBad (heading headForms) 1 (ahead s at) ≡ r .bad
+  pub stops : 1 ≤ r .bad → firstBad pageAhead 1 (ahead s at) ≡ r .bad
 
 -- a record, as the tables hold it, and the place behind it
 pub record RecordIs (s : List ℕ) (at : ℕ) (r : Record) : Type 0 where

@@ -28,7 +28,7 @@ number NotSound = 14
 number (NotRead n) = 15
 number InNeither = 17
 
--- one value, or the five parts of the time
+-- one value, or the six parts of the time
 abbrev pub values : Answer → List ℕ
 values (Done v) = v ∷ []
 values (Told t) = partsOf t

@@ -15,6 +15,7 @@ use Rattle.tracks.specs.Tracks.{nobody, system}
 pub record Book : Type 0 where
   pub programs : List Program
   pub clock : ℕ
+  pub year : ℕ  -- in which the clock started
   pub tracks : ℕ
   pub system : ℕ
   pub numbers : ℕ
@@ -43,6 +44,7 @@ abbrev pub altered : Book → List Program → ℕ → List ℕ → List Resourc
 altered b ps c hs rs = record {
   programs = ps;
   clock = c;
+  year = b .year;
   tracks = b .tracks;
   system = b .system;
   numbers = b .numbers;
@@ -63,11 +65,12 @@ withHolders h b = altered b (b .programs) (b .clock) h (b .resources)
 abbrev pub withResources : List Resource → Book → Book
 withResources r b = altered b (b .programs) (b .clock) (b .holders) r
 
--- clock 0, no record used, every track from S up and every number free (OUTLINE, FRESH)
-abbrev pub freshBook : ℕ → ℕ → ℕ → Book
-freshBook T S R = record {
+-- clock 0 of year Y, no record used, every track from S up and every number free (OUTLINE, FRESH and "Leap years")
+abbrev pub freshBook : ℕ → ℕ → ℕ → ℕ → Book
+freshBook T S R Y = record {
   programs = replicate mostPrograms unused;
   clock = 0;
+  year = Y;
   tracks = T;
   system = S;
   numbers = R;

@@ -36,7 +36,7 @@ theCall nm (Clear r) = requests.CLEAR r
 theCall nm (Free r) = requests.FREE r
 
 abbrev pub theRequest : List ℕ → Request → requests.Request
-theRequest nm (Fresh T S R) = requests.FRESH T S R
+theRequest nm (Fresh T S R Y) = requests.FRESH T S R Y
 theRequest nm (Load n) = requests.LOAD nm n
 theRequest nm (Operator o) = requests.operator (theOrder o) nm
 theRequest nm Tick = requests.TICK

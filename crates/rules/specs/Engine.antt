@@ -6,7 +6,7 @@ use mathlib.Core.Bool.{Bool, true, false, cond}
 use mathlib.Core.List.{List, [], _∷_, _++_}
 use lib.ListN.{length, drop}
 use lib.Dec.{leb}
-use Rattle.limits.specs.Limits.{mostTicks}
+use Rattle.limits.specs.Limits.{mostTicks, usualYear}
 use Rattle.lists.specs.Lists.{sum, upTo}
 use Rattle.clock.specs.Clock.{ceiling}
 use Rattle.rules.specs.Requests.{Request, TICK}
@@ -38,10 +38,10 @@ abbrev pub front : List ℕ → List ℕ → List ℕ
 front bytes buf = bytes ++ drop (length bytes) buf
 
 -- FRESH, which takes no tables, where `new` makes fresh ones: refused it yields the smallest
-unfoldable pub madeBy : {S : Type 0} → (ℕ → ℕ → ℕ → S) → ℕ → ℕ → ℕ → Reply S
-madeBy new T S R =
-    cond (sizes T S R) (record { number = 0; values = 0 ∷ []; tables = new T S R })
-    (record { number = 3; values = 0 ∷ []; tables = new 1 0 0 })
+unfoldable pub madeBy : {S : Type 0} → (ℕ → ℕ → ℕ → ℕ → S) → ℕ → ℕ → ℕ → ℕ → Reply S
+madeBy new T S R Y =
+    cond (sizes T S R Y) (record { number = 0; values = 0 ∷ []; tables = new T S R Y })
+    (record { number = 3; values = 0 ∷ []; tables = new 1 0 0 usualYear })
 
 -- TICK,n is n single ticks one after another, where `asked` says what a request comes to (OUTLINE, "Many ticks at once"): the tables
 -- after them, and the sum of their values
@@ -78,7 +78,7 @@ pub record Engine : Type 1 where
   pub sound : Form → Bool
   pub clock : Form → ℕ
   pub asked : Form → Request → Reply Form
-  pub fresh : ℕ → ℕ → ℕ → Form
+  pub fresh : ℕ → ℕ → ℕ → ℕ → Form
   pub page : Form → List ℕ
 
 module _ (E : Engine) where

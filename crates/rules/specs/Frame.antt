@@ -35,7 +35,7 @@ pub data Woken (v : View) (R : Release) (x : ℕ) : Type 0 where
 -- to do with it, or all if it is FRESH; and those whom what it sets free wakes.
 pub data Concerned (v : View) (q : Request) (x : ℕ) : Type 0 where
   party : eventsOf v (plan v q) ≢ [] → Party v x q → Concerned v q x
-  anew : eventsOf v (plan v q) ≢ [] → (T S R : ℕ) → q ≡ FRESH T S R → Concerned v q x
+  anew : eventsOf v (plan v q) ≢ [] → (T S R Y : ℕ) → q ≡ FRESH T S R Y → Concerned v q x
   woken : Woken v (releaseOf (plan v q)) x → Concerned v q x
 
 -- a record that stays, or whose program's wait is over

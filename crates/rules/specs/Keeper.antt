@@ -92,8 +92,8 @@ module _ (K : Keeper) where
   act p (timed d i) t = amend p (withTimer d i (at (t .book) p)) t
   act p marked t = amend p (withMark (at (t .book) p)) t
 
-  abbrev pub fresh : ℕ → ℕ → ℕ → State
-  fresh T S R = record { book = freshBook T S R; kept = K .none }
+  abbrev pub fresh : ℕ → ℕ → ℕ → ℕ → State
+  fresh T S R Y = record { book = freshBook T S R Y; kept = K .none }
 
   -- one event; a deed of a program that is none of 1 to 32 is nothing
   unfoldable pub step : Event → State → State
@@ -102,7 +102,7 @@ module _ (K : Keeper) where
   step (clocked c) t = record { book = withClock c (t .book); kept = t .kept }
   step (held h) t = record { book = withHolders h (t .book); kept = t .kept }
   step (numbered r) t = record { book = withResources r (t .book); kept = t .kept }
-  step (renewed T S R) t = fresh T S R
+  step (renewed T S R Y) t = fresh T S R Y
 
   abbrev pub play : List Event → State → State
   play [] t = t

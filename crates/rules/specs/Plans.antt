@@ -25,13 +25,13 @@ pub data Deed : Type 0 where
   timed : ℕ → ℕ → Deed
   marked : Deed
 
--- what may happen: a deed of a program, another clock, other holders of tracks, other resource numbers, fresh tables of T, S and R
+-- what may happen: a deed of a program, another clock, other holders of tracks, other resource numbers, fresh tables of T, S, R and a start year
 pub data Event : Type 0 where
   on : ℕ → Deed → Event
   clocked : ℕ → Event
   held : List ℕ → Event
   numbered : List Resource → Event
-  renewed : ℕ → ℕ → ℕ → Event
+  renewed : ℕ → ℕ → ℕ → ℕ → Event
 
 -- What a call sets free (OUTLINE, "Ending and waking"): the program that ended, or 0; how
 -- many tracks; which numbers were cleared or deallocated; whether one was deallocated.

@@ -23,7 +23,7 @@ pub data Call : Type 0 where
   CLEAR FREE : ℕ → Call  -- r
 
 pub data Request : Type 0 where
-  FRESH : ℕ → ℕ → ℕ → Request  -- T, S, R
+  FRESH : ℕ → ℕ → ℕ → ℕ → Request  -- T, S, R, the start year
   LOAD : List ℕ → ℕ → Request  -- name, priority
   operator : Order → List ℕ → Request  -- of the program of that name
   TICK : Request

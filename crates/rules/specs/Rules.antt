@@ -6,7 +6,7 @@ use mathlib.Core.Bool.{Bool, true, false, cond, _&&_, _||_}
 use mathlib.Core.List.{List, [], _∷_, _++_, map}
 use lib.ListN.{length, drop}
 use lib.Dec.{leb, ltb, eqb}
-use Rattle.limits.specs.Limits.{dormant, scheduled, general, disc, suspended, mostTracks, mostNumbers, lastPriority, mostUnits}
+use Rattle.limits.specs.Limits.{dormant, scheduled, general, disc, suspended, mostTracks, mostNumbers, lastPriority, mostUnits, firstYear, lastYear}
 use Rattle.lists.specs.Lists.{count, keep, first, any, from, upTo, join}
 use Rattle.clock.specs.Clock.{ceiling, unit, timeOf}
 use Rattle.records.specs.declared.Program.{Program}
@@ -127,7 +127,7 @@ call v c EXEC5ALL =
     releasing (n ∷ []) (held (replaced c nobody (v .book .holders)) ∷ []) (frees n)
 call v c EXEC6 = releasing (length (woken v (ends v c 0)) ∷ []) (on c (becomes dormant Nothing) ∷ quit v c ∷ []) (ends v c 0)
 call v c EXEC7 = done (0 ∷ []) (on c (becomes suspended Nothing) ∷ [])
-call v c EXEC11 = done (timeOf (v .book .clock)) []
+call v c EXEC11 = done (timeOf (v .book .year) (v .book .clock)) []
 call v c (EXEC9 nm) =
     named v nm λ p. inside v p dormant
     (waiting general (on p (becomes scheduled Nothing) ∷ on c (becomes general (Son p)) ∷ []))
@@ -162,13 +162,13 @@ head (p ∷ ps) = p
 unfoldable pub asCaller : View → (ℕ → Plan) → Plan
 asCaller v f = need (ltb 0 (head (v .chain scheduled))) 2 0 (f (head (v .chain scheduled)))
 
--- T from 1 to 256, S from 0 to T, R from 0 to 16 (OUTLINE, "The tables")
-abbrev pub sizes : ℕ → ℕ → ℕ → Bool
-sizes T S R = upTo 1 mostTracks T && leb S T && leb R mostNumbers
+-- T from 1 to 256, S from 0 to T, R from 0 to 16 (OUTLINE, "The tables"); the start year from 1970 to 2099 (OUTLINE, "Leap years")
+abbrev pub sizes : ℕ → ℕ → ℕ → ℕ → Bool
+sizes T S R Y = upTo 1 mostTracks T && leb S T && leb R mostNumbers && upTo firstYear lastYear Y
 
 -- a request
 unfoldable pub plan : View → Request → Plan
-plan v (FRESH T S R) = need (sizes T S R) 3 0 (done (0 ∷ []) (renewed T S R ∷ []))
+plan v (FRESH T S R Y) = need (sizes T S R Y) 3 0 (done (0 ∷ []) (renewed T S R Y ∷ []))
 plan v (LOAD nm n) =
     need (legal nm && leb n lastPriority) 3 0
     (need (eqb (find (v .book .programs) nm) 0) 6 0

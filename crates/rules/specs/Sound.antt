@@ -8,7 +8,7 @@ use mathlib.Core.Bool.{Bool, true, false, not, _&&_, _||_}
 use mathlib.Core.List.{List, []}
 use lib.ListN.{length, getD}
 use lib.Dec.{eqb}
-use Rattle.limits.specs.Limits.{dormant, scheduled, general, disc, suspended, states, mostPrograms, mostTracks, mostNumbers, lastPriority}
+use Rattle.limits.specs.Limits.{dormant, scheduled, general, disc, suspended, states, mostPrograms, mostTracks, mostNumbers, lastPriority, firstYear, lastYear}
 use Rattle.lists.specs.Lists.{same, count, upTo, Ascending}
 use Rattle.clock.specs.Clock.{ceiling, farthest}
 use Rattle.records.specs.declared.Why.{Why}
@@ -80,6 +80,8 @@ pub record Limits (b : Book) : Type 0 where
   pub first : b .system ≤ b .tracks
   pub few : b .numbers ≤ mostNumbers
   pub time : b .clock ≤ ceiling
+  pub earliest : firstYear ≤ b .year
+  pub latest : b .year ≤ lastYear
   pub priority : (p : ℕ) → Known p → prioOf b p ≤ lastPriority
   pub holder : (i : ℕ) → i < b .tracks → holderOf b i ≤ system
   pub owner : (r : ℕ) → Ours b r → numberAt (b .resources) r .owner ≤ globally

@@ -5,7 +5,7 @@ use mathlib.Core.Bool.{Bool, true, false, not, _&&_, _||_, Bool·beq}
 use mathlib.Core.List.{List, [], _∷_}
 use lib.ListN.{getD}
 use lib.Dec.{leb, ltb, eqb}
-use Rattle.limits.specs.Limits.{states, mostPrograms, mostTracks, mostNumbers, lastPriority}
+use Rattle.limits.specs.Limits.{states, mostPrograms, mostTracks, mostNumbers, lastPriority, firstYear, lastYear}
 use Rattle.lists.specs.Lists.{same, count, every, along, from, upTo, alike}
 use Rattle.clock.specs.Clock.{ceiling, farthest}
 use Rattle.records.specs.declared.Program.{Program}
@@ -92,7 +92,7 @@ testUnlocked b = numbers b λ x. not (eqb (x .owner) 0) || eqb (x .lock) 0
 unfoldable pub testLimits : Book → Bool
 testLimits b =
     upTo 1 mostTracks (b .tracks) && leb (b .system) (b .tracks) && leb (b .numbers) mostNumbers && leb (b .clock) ceiling
-    && programs b (λ p r. leb (r .priority) lastPriority) && tracks b (λ i h. leb h system)
+    && upTo firstYear lastYear (b .year) && programs b (λ p r. leb (r .priority) lastPriority) && tracks b (λ i h. leb h system)
     && numbers b (λ x. leb (x .owner) globally && leb (x .lock) mostPrograms)
 
 unfoldable pub testDues : Book → Bool

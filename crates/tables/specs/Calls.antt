@@ -42,5 +42,5 @@ abbrev pub manyTicks : Tables → ℕ → Result
 manyTicks t n = tickedBy sound clockOf asked t n
 
 -- FRESH, which takes no tables
-abbrev pub made : ℕ → ℕ → ℕ → Result
-made T S R = madeBy freshly T S R
+abbrev pub made : ℕ → ℕ → ℕ → ℕ → Result
+made T S R Y = madeBy freshly T S R Y

@@ -3,7 +3,7 @@
 use Prim.Native.Nat.{ℕ}
 use mathlib.Core.Path.{_≡_}
 use lib.ListN.{length}
-use Rattle.limits.specs.Limits.{mostPrograms, mostTracks, mostNumbers}
+use Rattle.limits.specs.Limits.{mostPrograms, mostTracks, mostNumbers, usualYear}
 use Rattle.rules.specs.Rules.{head}
 use Rattle.rules.specs.Keeper.{lists, State, scheduledChain, fresh}
 use Rattle.chains.specs.Links.{slots, read, linksOf}
@@ -16,12 +16,12 @@ plain t = record { book = bookOf (t .ledger); kept = read (t .links) }
 abbrev pub lay : State lists → Tables
 lay a = record { ledger = ledgerOf (a .book); links = linksOf (a .kept) }
 
--- fresh tables; and the smallest: T=1, S=0, R=0 (OUTLINE, "Answer numbers")
-abbrev pub freshly : ℕ → ℕ → ℕ → Tables
-freshly T S R = lay (fresh lists T S R)
+-- fresh tables; and the smallest: T=1, S=0, R=0, of the usual year (OUTLINE, "Answer numbers")
+abbrev pub freshly : ℕ → ℕ → ℕ → ℕ → Tables
+freshly T S R Y = lay (fresh lists T S R Y)
 
 abbrev pub smallest : Tables
-smallest = freshly 1 0 0
+smallest = freshly 1 0 0 usualYear
 
 -- the caller: the head of the scheduled chain, or 0
 abbrev pub callerOf : Tables → ℕ
