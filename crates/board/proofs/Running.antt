@@ -32,11 +32,11 @@ use Rattle.board.proofs.Answered.{answering-put}
 use Rattle.board.proofs.Whole.{after, printed-length, printed-none, filled-fits, filled-over, filled-none, filled-most, ran-put}
 
 -- FRESH of the smallest tables yields them, allowed or not
-pub made-smallest : (r : Outcome) → told r ≡ made 1 0 0 → r .tables ≡ smallest
+pub made-smallest : (r : Outcome) → told r ≡ made 1 0 0 1975 → r .tables ≡ smallest
 unfolding madeBy
 made-smallest r e = ap (λ (x : Result). x .tables) e ∙ go (sizes 1 0 0)
   where
-    go : (b : Bool) → (cond {A = Result} b (record { number = 0; values = 0 ∷ []; tables = lay (fresh lists 1 0 0) })
+    go : (b : Bool) → (cond {A = Result} b (record { number = 0; values = 0 ∷ []; tables = lay (fresh lists 1 0 0 1975) })
         (record { number = 3; values = 0 ∷ []; tables = smallest })) .tables ≡ smallest
     go true = refl
     go false = refl

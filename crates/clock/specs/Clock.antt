@@ -1,7 +1,7 @@
 -- The clock: its units, its ceiling, the calendar, and the parts of the time.
 -- Assumes nothing.
 use Prim.Native.Nat.{ℕ, zero, suc, _+_, _-_, _/_, _%_}
-use mathlib.Core.Bool.{Bool, cond, not, _&&_, _||_}
+use mathlib.Core.Bool.{Bool, true, false, cond, not, _&&_, _||_}
 use mathlib.Core.List.{List, [], _∷_, _++_}
 use lib.Dec.{eqb, ltb}
 use Rattle.clock.specs.declared.Time.{Time}
@@ -28,9 +28,10 @@ daysIn y = cond (leap y) 366 365
 -- the year, and the day of it, when d days have gone by since the start of year y: years are counted off one after another, n of them at most
 unfoldable pub dated : ℕ → ℕ → ℕ → List ℕ
 dated zero y d = y ∷ (d + 1) ∷ []
-dated (suc n) y d = cond (ltb d (daysIn y)) (y ∷ (d + 1) ∷ []) (dated n (suc y) (d - daysIn y))
+dated (suc n) y d = elim (ltb d (daysIn y)) [ true ↦ y ∷ (d + 1) ∷ [] | false ↦ dated n (suc y) (d - daysIn y) ]
 
--- year, day, hour, minute, second and hundredth of a clock that started in year y (OUTLINE, EXEC 11); so many days have not so many years
+-- year, day, hour, minute, second and hundredth of a clock that started in year y (OUTLINE, EXEC 11). No year is shorter than a day, so to count
+-- off d years is enough for d days; Dates.antt says what the six numbers are without counting.
 unfoldable pub timeOf : ℕ → ℕ → List ℕ
 timeOf y c =
     let d : ℕ = c / 8_640_000 in

@@ -1,6 +1,7 @@
--- What it is that a day falls on a date: the days of the years from the first on, and those of the last year up to it, are so many.
+-- What it is that a clock shows a time: the ticks of the years from the first on, of the days of the last year, and of the parts of the day are
+-- the clock's.
 -- Assumes nothing.
-use Prim.Native.Nat.{ℕ, zero, suc, _+_, _≤_}
+use Prim.Native.Nat.{ℕ, zero, suc, _+_, _-_, _*_, _≤_, _<_}
 use mathlib.Core.Path.{_≡_}
 use Rattle.clock.specs.Clock.{daysIn}
 
@@ -14,3 +15,13 @@ pub record Falls (y d n day : ℕ) : Type 0 where
   pub first : 1 ≤ day
   pub last : day ≤ daysIn (y + n)
   pub all : daysOf n y + day ≡ d + 1
+
+-- c ticks after the start of year y it is that day, h hours, m minutes, s seconds and x hundredths
+pub record Shows (y c n day h m s x : ℕ) : Type 0 where
+  pub first : 1 ≤ day
+  pub last : day ≤ daysIn (y + n)
+  pub hour : h < 24
+  pub minute : m < 60
+  pub second : s < 60
+  pub hundredth : x < 100
+  pub all : c ≡ (daysOf n y + (day - 1)) * 8_640_000 + h * 360_000 + m * 6_000 + s * 100 + x

@@ -1,4 +1,4 @@
--- The bytes of an answer: five parts of a time with dots between, how long they are, and that an answer's line has at most 139 bytes.
+-- The bytes of an answer: six parts of a time with dots between, how long they are, and that an answer's line has at most 160 bytes.
 -- Assumes nothing.
 use Prim.Native.Nat.{ℕ, _+_, _≤_}
 use native.Mathlib.Omega.{arith}
@@ -30,8 +30,8 @@ dot-length x y = omega (arith, length-append x (46 ∷ y))
 
 -- a time
 pub time-length : (t : Time) → length (between 46 (map decimal (partsOf t)))
-    ≡ length (decimal (t .day)) + length (decimal (t .hour)) + length (decimal (t .minute)) + length (decimal (t .second))
-    + length (decimal (t .hundredth)) + 4
+    ≡ length (decimal (t .year)) + length (decimal (t .day)) + length (decimal (t .hour)) + length (decimal (t .minute))
+    + length (decimal (t .second)) + length (decimal (t .hundredth)) + 5
 time-length t = simp dot-length (omega arith)
 
 -- an answer tells a time, or has one value
@@ -83,8 +83,8 @@ pub answer-length : (a : Answer) (n : ℕ) → n ≡ number a → length (answer
 unfolding answerBytes
 answer-length a n is = rw is (simp length-append (omega arith))
 
--- 7 bytes, a number, 7 bytes, at most five numbers with four dots, and byte 10
-values-room : (a : Answer) → length (valuesLine a) ≤ 104
+-- 7 bytes, a number, 7 bytes, at most six numbers with five dots, and byte 10
+values-room : (a : Answer) → length (valuesLine a) ≤ 125
 unfolding valuesLine
 values-room a =
     elim (one-value a) [
@@ -95,6 +95,7 @@ values-room a =
           omega (
             arith,
             time-length t,
+            decimal-most (t .year),
             decimal-most (t .day),
             decimal-most (t .hour),
             decimal-most (t .minute),
@@ -103,7 +104,7 @@ values-room a =
           )
     ]
 
-pub answer-room : (a : Answer) → length (answerBytes a) ≤ 139
+pub answer-room : (a : Answer) → length (answerBytes a) ≤ 160
 answer-room a = omega (arith, answer-length a (number a) refl, values-room a, decimal-most (number a))
 
 -- an answer at another place than `Done` is not that, and has no bytes printed

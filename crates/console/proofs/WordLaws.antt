@@ -179,9 +179,9 @@ page-line = refl
 
 -- what word i says where no word comes, by its row
 pub ended-as : (i : ℕ) {w : Word} {named : Bool} → w ≡ rowAt i → w .1 ≡ named → (fs : List (List ℕ))
-    → ended i fs ≡ taking named (w .2) i fs
+    → ended i fs ≡ taking named (w .2) (w .5) i fs
 unfolding ended
-ended-as i {w} e h fs = ap (λ (x : Word). taking (x .1) (x .2) i fs) (sym e) ∙ ap (λ (b : Bool). taking b (w .2) i fs) h
+ended-as i {w} e h fs = ap (λ (x : Word). taking (x .1) (x .2) (x .5) i fs) (sym e) ∙ ap (λ (b : Bool). taking b (w .2) (w .5) i fs) h
 
 -- The search among the words: what is left of them, from word i on, is searched in the same way.
 pub record Seeking (last : ℕ) (f : List ℕ) (i : ℕ) : Type 0 where

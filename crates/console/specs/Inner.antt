@@ -7,6 +7,7 @@ use mathlib.Core.List.{List, [], _∷_, _++_, map}
 use lib.ListN.{length, getD, drop, replicate}
 use lib.Dec.{leb, eqb}
 use lib.Seq.{slice}
+use Rattle.limits.specs.Limits.{usualYear}
 use Rattle.lists.specs.Lists.{alike}
 use Rattle.text.specs.Text.{text, decimal, between, parts}
 use Rattle.rules.specs.Requests.{EXEC5ALL, ALLOC}
@@ -30,7 +31,7 @@ use Rattle.console.specs.declared.fields.Numbers.the-variants as numbers
 use Rattle.console.specs.declared.fields.NameField.{NameField}
 use Rattle.console.specs.declared.fields.NameField.the-variants as nameField
 use Rattle.console.specs.declared.words.Word.{Word}
-use Rattle.console.specs.Line.{Line, bad, PAGE, asks, ticks, Form, over, number, name, Entry, word}
+use Rattle.console.specs.Line.{Line, bad, PAGE, asks, ticks, Form, over, bareOr, number, name, Entry, word}
 use Rattle.console.specs.Line.{unknown, _↝_, calls, execs, numbers, forms}
 use Rattle.console.specs.Console.{obeyed}
 
@@ -57,34 +58,45 @@ onName k s (nameField.Is a b c d e next) = k (a ∷ b ∷ c ∷ d ∷ e ∷ []) 
 pub record NameRead (s : List ℕ) (at : ℕ) (r : NameField) : Type 0 where
   pub says : (k : List ℕ → Form) → name k (fieldsFrom s at) ≡ onName k s r
 
--- then n numbers that the line ends with, and 0 for each that there is not
-abbrev pub counted : ℕ → (ℕ → ℕ → ℕ → Line) → Form
-counted zero k = over (k 0 0 0)
-counted (suc n) k = number λ a. counted n (λ b c d. k a b c)
+-- then n numbers that the line ends with, the last of which may be left away where it is spare; for each that there is not the usual year,
+-- which is FRESH's, and which nobody else looks at
+abbrev pub Counted : Type 0
+Counted = ℕ → ℕ → ℕ → ℕ → Line
 
-abbrev pub onNumbers : (ℕ → ℕ → ℕ → Line) → Numbers → Line
+abbrev pub noneLeft : Counted → Line
+noneLeft k = k usualYear usualYear usualYear usualYear
+
+abbrev pub orEnd : Bool → Line → Form → Form
+orEnd true x f = bareOr x f
+orEnd false x f = f
+
+abbrev pub counted : ℕ → Bool → Counted → Form
+counted zero spare k = over (noneLeft k)
+counted (suc n) spare k = orEnd (spare && eqb n 0) (noneLeft k) (number λ a. counted n spare (λ b c d e. k a b c d))
+
+abbrev pub onNumbers : Counted → Numbers → Line
 onNumbers k numbersRead.Not = bad
-onNumbers k (numbersRead.Are a b c) = k a b c
+onNumbers k (numbersRead.Are a b c d) = k a b c d
 
-pub record NumbersRead (s : List ℕ) (at n : ℕ) (r : Numbers) : Type 0 where
-  pub says : (k : ℕ → ℕ → ℕ → Line) → counted n k (fieldsFrom s at) ≡ onNumbers k r
+pub record NumbersRead (s : List ℕ) (at n : ℕ) (spare : Bool) (r : Numbers) : Type 0 where
+  pub says : (k : Counted) → counted n spare k (fieldsFrom s at) ≡ onNumbers k r
 
--- The words as the code numbers them, each with the word before it, whether a name comes next, and how many numbers; others may come behind
--- a leading word, and where a field comes that is none of them, another row may hold in its place. And what each says where no word comes behind
--- it.
+-- The words as the code numbers them, each with the word before it, whether a name comes next, how many numbers, and whether the last of these is
+-- spare; others may come behind a leading word, and where a field comes that is none of them, another row may hold in its place. And what each
+-- says where no word comes behind it.
 abbrev pub noWord : ℕ
 noWord = 30
 
 abbrev pub row : ℕ → ℕ → Bool → ℕ → Word
-row own before named n = record { 0 = before; 1 = named; 2 = n; 3 = true; 4 = own }
+row own before named n = record { 0 = before; 1 = named; 2 = n; 3 = true; 4 = own; 5 = false }
 
 abbrev pub lead : ℕ → ℕ → ℕ → Word
-lead instead before n = record { 0 = before; 1 = false; 2 = n; 3 = false; 4 = instead }
+lead instead before n = record { 0 = before; 1 = false; 2 = n; 3 = false; 4 = instead; 5 = false }
 
 unfoldable pub rows : List Word
 rows =
     lead 0 noWord 0
-    ∷ row 1 0 false 3 ∷ row 2 0 true 1 ∷ row 3 0 true 0 ∷ row 4 0 true 0 ∷ row 5 0 true 0
+    ∷ record { 0 = 0; 1 = false; 2 = 4; 3 = true; 4 = 1; 5 = true } ∷ row 2 0 true 1 ∷ row 3 0 true 0 ∷ row 4 0 true 0 ∷ row 5 0 true 0
     ∷ row 6 0 true 1 ∷ row 7 0 true 1 ∷ lead 29 0 0 ∷ lead 9 0 0 ∷ lead 10 0 0
     ∷ row 11 0 false 0 ∷ row 12 9 false 2 ∷ row 13 9 false 2 ∷ lead 14 9 2 ∷ row 15 9 false 2
     ∷ row 16 9 false 0 ∷ row 17 9 false 0 ∷ row 18 9 false 0 ∷ row 19 9 true 0 ∷ row 20 9 true 0
@@ -95,10 +107,10 @@ rows =
 abbrev pub rowAt : ℕ → Word
 rowAt i = getD rows i (lead 0 0 0)
 
-unfoldable pub requests : ℕ → ℕ → ℕ → List Said
-requests a b c =
+unfoldable pub requests : ℕ → ℕ → ℕ → ℕ → List Said
+requests a b c d =
     Bad
-    ∷ Asks (Fresh a b c) ∷ Asks (Load a) ∷ Asks (Operator Ru) ∷ Asks (Operator Ss) ∷ Asks (Operator Go) ∷ Asks (Operator (Pr a))
+    ∷ Asks (Fresh a b c d) ∷ Asks (Load a) ∷ Asks (Operator Ru) ∷ Asks (Operator Ss) ∷ Asks (Operator Go) ∷ Asks (Operator (Pr a))
     ∷ Asks (Operator (Of a)) ∷ Asks Tick ∷ Bad ∷ Bad ∷ Page
     ∷ Asks (Running (Exec4 a b)) ∷ Asks (Running (Exec15 a b)) ∷ Asks (Running (Exec5 a b)) ∷ Asks (Running (Exec16 a b))
     ∷ Asks (Running Exec6) ∷ Asks (Running Exec7) ∷ Asks (Running Exec11) ∷ Asks (Running Exec9) ∷ Asks (Running Exec10)
@@ -108,15 +120,15 @@ requests a b c =
     ∷ Asks (Running Exec5All) ∷ Ticks a
     ∷ []
 
-abbrev pub request : ℕ → List ℕ → ℕ → ℕ → ℕ → Line
-request i nm a b c = saying nm (getD (requests a b c) i Bad)
+abbrev pub request : ℕ → List ℕ → Counted
+request i nm a b c d = saying nm (getD (requests a b c d) i Bad)
 
-abbrev pub taking : Bool → ℕ → ℕ → Form
-taking true n i = name (λ nm. counted n (request i nm))
-taking false n i = counted n (request i (replicate 5 32))
+abbrev pub taking : Bool → ℕ → Bool → ℕ → Form
+taking true n spare i = name (λ nm. counted n spare (request i nm))
+taking false n spare i = counted n spare (request i (replicate 5 32))
 
 unfoldable pub ended : ℕ → Form
-ended i = taking (rowAt i .1) (rowAt i .2) i
+ended i = taking (rowAt i .1) (rowAt i .2) (rowAt i .5) i
 
 -- the grammar's forms in the same order
 unfoldable pub entries : List Entry

@@ -83,16 +83,17 @@ fn put_dotted(buf: &mut [u8], at: usize, n: u64) -> usize
     text::put_number(buf, next, n)
 }
 
-// day.hour.minute.second.hundredth
+// year.day.hour.minute.second.hundredth
 fn put_time(buf: &mut [u8], at: usize, t: Time) -> usize
     requires { ⌜ at + length (between 46 (map decimal (partsOf t))) ≤ length (now buf) ⌝ }
     ensures { λ r. ⌜ Wrote (now (buf .entry)) at (between 46 (map decimal (partsOf t))) (now (buf .exit)) r ⌝ }
 {
-    let a = text::put_number(buf, at, t.day);
-    let b = put_dotted(buf, a, t.hour);
-    let c = put_dotted(buf, b, t.minute);
-    let d = put_dotted(buf, c, t.second);
-    put_dotted(buf, d, t.hundredth)
+    let a = text::put_number(buf, at, t.year);
+    let b = put_dotted(buf, a, t.day);
+    let c = put_dotted(buf, b, t.hour);
+    let d = put_dotted(buf, c, t.minute);
+    let e = put_dotted(buf, d, t.second);
+    put_dotted(buf, e, t.hundredth)
 }
 
 fn put_values(buf: &mut [u8], at: usize, answer: Answer) -> usize
@@ -118,9 +119,9 @@ pub(crate) fn put_answer(buf: &mut [u8], answer: Answer) -> usize
 }
 
 // The bytes of the longest line for an answer.
-const LONGEST_ANSWER: usize = 139;
+const LONGEST_ANSWER: usize = 160;
 
-// The line for an answer at the front of `out`, and how many bytes it has; none where fewer than 139 are lent.
+// The line for an answer at the front of `out`, and how many bytes it has; none where fewer than 160 are lent.
 pub fn print_answer(answer: Answer, out: &mut [u8]) -> usize
     ensures { λ r. ⌜ record { many = r; buffer = now (out .exit) } ≡ answerPut (number answer) (values answer) (now (out .entry)) ⌝ }
 {

@@ -3,12 +3,15 @@ ghost use Prim.Native.Nat.{_≤_};
 ghost use lib.ListN.{length};
 ghost use Rattle.limits.specs.Limits.{longestLine};
 ghost use Rattle.console.specs.Inner.{NumbersRead, NameRead};
+use limits::USUAL_YEAR;
 use records::Name;
 use text::Number;
 
-// The numbers that a line ends with, 0 where there are fewer than three; or not, where they are not there.
+const YEAR: u64 = USUAL_YEAR as u64;
+
+// The numbers that a line ends with, the usual year in the place of each that there is not; or not, where they are too few or too many.
 pub(crate) enum Numbers {
-    Are(u64, u64, u64),
+    Are(u64, u64, u64, u64),
     Not,
 }
 
@@ -18,14 +21,20 @@ pub(crate) enum NameField {
     Not,
 }
 
-// k numbers, and no field behind them.
-pub(crate) fn read_numbers(s: &[u8], at: usize, k: usize) -> Numbers
+// k numbers, or one less where the last may be left away, and no field behind them.
+pub(crate) fn read_numbers(s: &[u8], at: usize, k: usize, spare: bool) -> Numbers
     requires { ⌜ length (now s) ≤ longestLine ⌝ }
-    ensures { λ r. ⌜ NumbersRead (now (s .entry)) at k r ⌝ }
+    ensures { λ r. ⌜ NumbersRead (now (s .entry)) at k spare r ⌝ }
 {
     if s.len() < at {
         if k == 0 {
-            return Numbers::Are(0, 0, 0);
+            return Numbers::Are(YEAR, YEAR, YEAR, YEAR);
+        }
+        if k == 1 {
+            if spare {
+                return Numbers::Are(YEAR, YEAR, YEAR, YEAR);
+            }
+            return Numbers::Not;
         }
         return Numbers::Not;
     }
@@ -36,10 +45,10 @@ pub(crate) fn read_numbers(s: &[u8], at: usize, k: usize) -> Numbers
     let Number::Is(n) = text::read_number(s, at, end, 10) else {
         return Numbers::Not;
     };
-    let Numbers::Are(a, b, _) = read_numbers(s, end + 1, k - 1) else {
+    let Numbers::Are(a, b, c, _) = read_numbers(s, end + 1, k - 1, spare) else {
         return Numbers::Not;
     };
-    Numbers::Are(n, a, b)
+    Numbers::Are(n, a, b, c)
 }
 
 pub(crate) fn name_field(s: &[u8], at: usize) -> NameField

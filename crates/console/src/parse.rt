@@ -22,18 +22,25 @@ fn not_said() -> Command
     }
 }
 
-// Behind word `last` and a name the line ends with k numbers.
-fn with_numbers(s: &[u8], at: usize, last: usize, name: [u8; 5], k: usize) -> Command
+// Behind word `last` and a name the line ends with k numbers, or with one less where the last is spare.
+fn with_numbers(
+    s: &[u8],
+    at: usize,
+    last: usize,
+    name: [u8; 5],
+    k: usize,
+    spare: bool,
+) -> Command
     requires { ⌜ length (now s) ≤ longestLine ⌝ }
     requires { ⌜ last < noWord ⌝ }
-    ensures { λ r. ⌜ says r ≡ counted k (request last name) (fieldsFrom (now (s .entry)) at) ⌝ }
+    ensures { λ r. ⌜ says r ≡ counted k spare (request last name) (fieldsFrom (now (s .entry)) at) ⌝ }
 {
-    let Numbers::Are(a, b, c) = fields::read_numbers(s, at, k) else {
+    let Numbers::Are(a, b, c, d) = fields::read_numbers(s, at, k, spare) else {
         return not_said();
     };
     Command {
         name: name,
-        said: words::said_by(last, a, b, c),
+        said: words::said_by(last, a, b, c, d),
     }
 }
 
@@ -48,9 +55,9 @@ fn end_of(s: &[u8], at: usize, last: usize) -> Command
         let NameField::Is(a, b, c, d, e, next) = fields::name_field(s, at) else {
             return not_said();
         };
-        return with_numbers(s, next, last, [a, b, c, d, e], word.2 as usize);
+        return with_numbers(s, next, last, [a, b, c, d, e], word.2 as usize, word.5);
     }
-    with_numbers(s, at, last, [b' '; 5], word.2 as usize)
+    with_numbers(s, at, last, [b' '; 5], word.2 as usize, word.5)
 }
 
 // What a line of any bytes says: word after word is taken, as long as there is one behind the last.

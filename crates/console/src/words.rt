@@ -12,41 +12,42 @@ use rules::Request;
 // How many words there are; none has this number.
 pub(crate) const NO_WORD: usize = 30;
 
-// The word before, whether a name comes next, how many numbers come behind that, and whether it is a last word; and the word whose row holds in
-// its place where a field comes behind it that is no word. The last row is no word of its own: it is TICK with a number.
-pub(crate) struct Word(pub u8, pub bool, pub u8, pub bool, pub u8);
+// The word before, whether a name comes next, how many numbers come behind that, and whether it is a last word; the word whose row holds in
+// its place where a field comes behind it that is no word; and whether the last of its numbers may be left away. The last row is no word of its
+// own: it is TICK with a number.
+pub(crate) struct Word(pub u8, pub bool, pub u8, pub bool, pub u8, pub bool);
 
 const WORDS: [Word; NO_WORD] = [
-    Word(30, false, 0, false, 0), // the start
-    Word(0, false, 3, true, 1), // FRESH,T,S,R
-    Word(0, true, 1, true, 2), // LOAD,name,priority
-    Word(0, true, 0, true, 3), // RU,name
-    Word(0, true, 0, true, 4), // SS,name
-    Word(0, true, 0, true, 5), // GO,name
-    Word(0, true, 1, true, 6), // PR,name,number
-    Word(0, true, 1, true, 7), // OF,name,figure
-    Word(0, false, 0, false, 29), // TICK
-    Word(0, false, 0, false, 9), // EXEC
-    Word(0, false, 0, false, 10), // RN
-    Word(0, false, 0, true, 11), // PAGE
-    Word(9, false, 2, true, 12), // EXEC,4,n,w
-    Word(9, false, 2, true, 13), // EXEC,15,n,w
-    Word(9, false, 2, false, 14), // EXEC,5,n,start
-    Word(9, false, 2, true, 15), // EXEC,16,n,start
-    Word(9, false, 0, true, 16), // EXEC,6
-    Word(9, false, 0, true, 17), // EXEC,7
-    Word(9, false, 0, true, 18), // EXEC,11
-    Word(9, true, 0, true, 19), // EXEC,9,name
-    Word(9, true, 0, true, 20), // EXEC,10,name
-    Word(9, true, 3, true, 21), // EXEC,12,name,resolution,multiple,offset
-    Word(10, false, 0, false, 22), // RN,ALLOC
-    Word(10, false, 2, true, 23), // RN,LOCK,r,w
-    Word(10, false, 1, true, 24), // RN,CLEAR,r
-    Word(10, false, 1, true, 25), // RN,FREE,r
-    Word(22, false, 1, true, 26), // RN,ALLOC,L,w
-    Word(22, false, 1, true, 27), // RN,ALLOC,G,w
-    Word(14, false, 0, true, 28), // EXEC,5,ALL
-    Word(30, false, 1, true, 29), // TICK,n
+    Word(30, false, 0, false, 0, false), // the start
+    Word(0, false, 4, true, 1, true), // FRESH,T,S,R,year
+    Word(0, true, 1, true, 2, false), // LOAD,name,priority
+    Word(0, true, 0, true, 3, false), // RU,name
+    Word(0, true, 0, true, 4, false), // SS,name
+    Word(0, true, 0, true, 5, false), // GO,name
+    Word(0, true, 1, true, 6, false), // PR,name,number
+    Word(0, true, 1, true, 7, false), // OF,name,figure
+    Word(0, false, 0, false, 29, false), // TICK
+    Word(0, false, 0, false, 9, false), // EXEC
+    Word(0, false, 0, false, 10, false), // RN
+    Word(0, false, 0, true, 11, false), // PAGE
+    Word(9, false, 2, true, 12, false), // EXEC,4,n,w
+    Word(9, false, 2, true, 13, false), // EXEC,15,n,w
+    Word(9, false, 2, false, 14, false), // EXEC,5,n,start
+    Word(9, false, 2, true, 15, false), // EXEC,16,n,start
+    Word(9, false, 0, true, 16, false), // EXEC,6
+    Word(9, false, 0, true, 17, false), // EXEC,7
+    Word(9, false, 0, true, 18, false), // EXEC,11
+    Word(9, true, 0, true, 19, false), // EXEC,9,name
+    Word(9, true, 0, true, 20, false), // EXEC,10,name
+    Word(9, true, 3, true, 21, false), // EXEC,12,name,resolution,multiple,offset
+    Word(10, false, 0, false, 22, false), // RN,ALLOC
+    Word(10, false, 2, true, 23, false), // RN,LOCK,r,w
+    Word(10, false, 1, true, 24, false), // RN,CLEAR,r
+    Word(10, false, 1, true, 25, false), // RN,FREE,r
+    Word(22, false, 1, true, 26, false), // RN,ALLOC,L,w
+    Word(22, false, 1, true, 27, false), // RN,ALLOC,G,w
+    Word(14, false, 0, true, 28, false), // EXEC,5,ALL
+    Word(30, false, 1, true, 29, false), // TICK,n
 ];
 
 pub(crate) fn word_of(i: usize) -> Word
@@ -56,14 +57,14 @@ pub(crate) fn word_of(i: usize) -> Word
     WORDS[i]
 }
 
-// What a line says whose last word is word i, and whose numbers are a, b and c as far as there are any.
-pub(crate) fn said_by(i: usize, a: u64, b: u64, c: u64) -> Said
+// What a line says whose last word is word i, and whose numbers are a, b, c and d as far as there are any.
+pub(crate) fn said_by(i: usize, a: u64, b: u64, c: u64, d: u64) -> Said
     requires { ⌜ i < noWord ⌝ }
-    ensures { λ r. ⌜ r ≡ getD (requests a b c) i Said.Bad ⌝ }
+    ensures { λ r. ⌜ r ≡ getD (requests a b c d) i Said.Bad ⌝ }
 {
     let all = [
         Said::Bad,
-        Said::Asks(Request::Fresh(a, b, c)),
+        Said::Asks(Request::Fresh(a, b, c, d)),
         Said::Asks(Request::Load(a)),
         Said::Asks(Request::Operator(Order::Ru)),
         Said::Asks(Request::Operator(Order::Ss)),

@@ -6,10 +6,9 @@ use mathlib.Core.Path.{_≡_, refl, _∙_}
 use mathlib.Core.Bool.{true, false, _&&_}
 use mathlib.Core.List.{List, [], _∷_, map}
 use lib.ListN.{length}
-use lib.Dec.{leb, eqb}
-use borrow.Author.Tests.{leb-true, lt-ltb, le-ltb}
-use Rattle.lists.specs.Lists.{keep, upTo, join}
-use Rattle.lists.proofs.Tests.{both, upTo-true}
+use lib.Dec.{eqb}
+use borrow.Author.Tests.{lt-ltb, le-ltb}
+use Rattle.lists.specs.Lists.{keep, join}
 use Rattle.clock.specs.Clock.{ceiling}
 use Rattle.records.specs.Records.{all}
 use Rattle.rules.specs.Book.{at, stateOf}
@@ -18,25 +17,24 @@ use Rattle.rules.specs.declared.Order.the-variants.{Ru, Ss, Go, Pr, Of}
 use Rattle.rules.specs.Requests.{Call, FRESH, TICK, operator, running}
 use Rattle.rules.specs.Coded.{theOrder}
 use Rattle.rules.specs.Plans.{View, refused, done, renewed, clocked}
-use Rattle.rules.specs.Rules.{sizes, head, plan, call, order, dueAt, ticked}
+use Rattle.rules.specs.Rules.{mayStart, head, plan, call, order, dueAt, ticked}
+use Rattle.rules.proofs.shared.Starting.{starts-true}
 use Rattle.rules.proofs.shared.Paths.{need-met, need-failed, caller-none, caller-is}
 use Rattle.decisions.specs.Inner.{Sizes, Fits, taskOf, going, asking}
 
-pub sizes-true : (T S R : ℕ) → sizes T S R ≡ true → Sizes T S R
-sizes-true T S R e =
-    let b = both (upTo 1 256 T && leb S T) (leb R 16) e in
-    let d = both (upTo 1 256 T) (leb S T) (b .0) in
-    let u = upTo-true 1 256 T (d .0) in
-    record { least = u .0; most = u .1; part = leb-true S T (d .1); few = leb-true R 16 (b .1) }
+pub sizes-true : (T S R Y : ℕ) → mayStart T S R Y ≡ true → Sizes T S R Y
+sizes-true T S R Y e =
+    let Z = starts-true T S R Y e in
+    record { least = Z .some; most = Z .most; part = Z .first; few = Z .few; earliest = Z .earliest; latest = Z .latest }
 
 module _ (v : View) where
-  pub renewing : (T S R : ℕ) → sizes T S R ≡ true → plan v (FRESH T S R) ≡ done (0 ∷ []) (renewed T S R ∷ [])
+  pub renewing : (T S R Y : ℕ) → mayStart T S R Y ≡ true → plan v (FRESH T S R Y) ≡ done (0 ∷ []) (renewed T S R Y ∷ [])
   unfolding plan
-  renewing T S R e = need-met 3 0 _ e
+  renewing T S R Y e = need-met 3 0 _ e
 
-  pub renewing-not : (T S R : ℕ) → sizes T S R ≡ false → plan v (FRESH T S R) ≡ refused 3 0
+  pub renewing-not : (T S R Y : ℕ) → mayStart T S R Y ≡ false → plan v (FRESH T S R Y) ≡ refused 3 0
   unfolding plan
-  renewing-not T S R e = need-failed 3 0 _ e
+  renewing-not T S R Y e = need-failed 3 0 _ e
 
   pub ticking : v .book .clock < ceiling → plan v TICK
       ≡ done (length (keep (λ p. dueAt (v .book) p && eqb (stateOf (v .book) p) 0) all) ∷ [])

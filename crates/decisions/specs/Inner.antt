@@ -8,7 +8,7 @@ use mathlib.Core.List.{List, [], _∷_, _++_, map}
 use lib.ListN.{length}
 use lib.Dec.{leb, eqb}
 use Rattle.lists.specs.Lists.{count, keep, upTo, join}
-use Rattle.limits.specs.Limits.{dormant, scheduled, general, suspended, states, mostTracks, mostNumbers, mostUnits, lastPriority}
+use Rattle.limits.specs.Limits.{dormant, scheduled, general, suspended, states, mostTracks, mostNumbers, mostUnits, lastPriority, firstYear, lastYear}
 use Rattle.clock.specs.Clock.{ceiling, unit}
 use Rattle.records.specs.declared.Program.{Program}
 use Rattle.records.specs.declared.Resource.{Resource}

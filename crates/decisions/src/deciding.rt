@@ -3,7 +3,7 @@ ghost use Prim.Native.Nat.{ℕ};
 ghost use mathlib.Core.Path.{_≡_};
 ghost use mathlib.Core.List.{List};
 ghost use Rattle.rules.specs.Plans.{View};
-ghost use Rattle.rules.specs.Rules.{head, sizes, plan, call};
+ghost use Rattle.rules.specs.Rules.{head, mayStart, plan, call};
 ghost use Rattle.rules.specs.Requests.{FRESH, LOAD, TICK};
 ghost use Rattle.rules.specs.Coded.{theCall, theRequest};
 ghost use Rattle.ledger.specs.Ledger.{bookOf};
@@ -19,6 +19,8 @@ use super::stay;
 use clock::Clock;
 use ledger::Ledger;
 use limits::DORMANT;
+use limits::FIRST_YEAR;
+use limits::LAST_YEAR;
 use limits::MOST_NUMBERS;
 use limits::MOST_TRACKS;
 use limits::SCHEDULED;
@@ -30,9 +32,9 @@ use rules::Order;
 use rules::Request;
 use tracks::Tracks;
 
-// FRESH: whether tables may have these sizes.
-pub fn is_sized(tracks: u64, system: u64, numbers: u64) -> bool
-    ensures { λ r. ⌜ r ≡ sizes tracks system numbers ⌝ }
+// FRESH: whether tables may have these sizes, and their clock this start year.
+pub fn may_start(tracks: u64, system: u64, numbers: u64, year: u64) -> bool
+    ensures { λ r. ⌜ r ≡ mayStart tracks system numbers year ⌝ }
 {
     if tracks < 1 {
         return false;
@@ -43,16 +45,22 @@ pub fn is_sized(tracks: u64, system: u64, numbers: u64) -> bool
     if tracks < system {
         return false;
     }
-    numbers <= MOST_NUMBERS as u64
+    if (MOST_NUMBERS as u64) < numbers {
+        return false;
+    }
+    if year < FIRST_YEAR as u64 {
+        return false;
+    }
+    year <= LAST_YEAR as u64
 }
 
-fn renews(tracks: u64, system: u64, numbers: u64) -> Decision
-    ensures { λ r. ⌜ ((v : View) (nm : List ℕ) → Decides v nm (plan v (FRESH tracks system numbers)) r) ⌝ }
+fn renews(tracks: u64, system: u64, numbers: u64, year: u64) -> Decision
+    ensures { λ r. ⌜ ((v : View) (nm : List ℕ) → Decides v nm (plan v (FRESH tracks system numbers year)) r) ⌝ }
 {
-    if is_sized(tracks, system, numbers) {
+    if may_start(tracks, system, numbers, year) {
         return Decision {
             answer: Answer::Done(0),
-            effect: Effect::Renew(tracks as u16, system as u16, numbers as u8),
+            effect: Effect::Renew(tracks as u16, system as u16, numbers as u8, year as u16),
         };
     }
     stay(Answer::NotAllowed)
@@ -135,7 +143,7 @@ pub fn decide(book: Ledger, c: u8, name: [u8; 5], q: Request) -> Decision
     ensures { λ r. ⌜ ((v : View) → v .book ≡ bookOf book → head (v .chain 1) ≡ c → Decides v name (plan v (theRequest name q)) r) ⌝ }
 {
     match q {
-        Request::Fresh(t, s, r) => renews(t, s, r),
+        Request::Fresh(t, s, r, y) => renews(t, s, r, y),
         Request::Load(n) => loads(book, name, n),
         Request::Operator(o) => asks(book, 0, name, task_of(o)),
         Request::Tick => ticks_on(book.clock.ticks),

@@ -6,7 +6,7 @@ mod naming;
 mod numbering;
 
 pub use deciding::decide;
-pub use deciding::is_sized;
+pub use deciding::may_start;
 ghost use Prim.Native.Nat.{ℕ};
 ghost use mathlib.Core.Path.{_≡_};
 ghost use mathlib.Core.List.{List};
@@ -20,7 +20,7 @@ use rules::Answer;
 // What is left to be made; p and c are programs. A name stands beside, as it does beside a request.
 pub enum Effect {
     Stay,
-    Renew(u16, u16, u8),
+    Renew(u16, u16, u8, u16),
     Load(u8, u16),
     Price(u8, u16),
     Time(u8, u64, u64),

@@ -20,7 +20,7 @@ use Rattle.clock.specs.Clock.{ceiling}
 use Rattle.rules.specs.Book.{Book}
 use Rattle.rules.specs.Requests.{Call, Request, TICK, running}
 use Rattle.rules.specs.Plans.{Event, Plan, refused, numberOf, valuesOf, eventsOf}
-use Rattle.rules.specs.Rules.{call, sizes}
+use Rattle.rules.specs.Rules.{call, mayStart}
 use Rattle.rules.specs.Keeper.{lists, Entries, entries, sorted, State, play, view, asks, after, fresh}
 use Rattle.rules.specs.Replay.{Accounts, Fits, First}
 use Rattle.rules.proofs.Statements as rules
@@ -306,25 +306,25 @@ module _ (t : Tables) (A : Arrays t) (s : sound t ≡ true) where
       (e, first-accounted, demand-sound e first-accounted)
 
 -- from fresh tables of any accepted sizes on
-module _ (T S R : ℕ) (e : sizes T S R ≡ true) where
-  kept-new : Kept (freshly T S R) (fresh entries T S R)
-  kept-new = kept-lay (fresh lists T S R) (sound-fresh T S R e) (fresh entries T S R) (fresh-alike T S R)
+module _ (T S R Y : ℕ) (e : mayStart T S R Y ≡ true) where
+  kept-new : Kept (freshly T S R Y) (fresh entries T S R Y)
+  kept-new = kept-lay (fresh lists T S R Y) (sound-fresh T S R Y e) (fresh entries T S R Y) (fresh-alike T S R Y)
 
-  kept-fresh : Kept (made T S R .tables) (fresh entries T S R)
+  kept-fresh : Kept (made T S R Y .tables) (fresh entries T S R Y)
   unfolding madeBy
   kept-fresh = rw (e, madeBy) kept-new
 
-  pub demand-fresh : (cs : List Made) → Demanded (made T S R .tables) (fresh entries T S R) cs
-  demand-fresh = kept-demanded (made T S R .tables) (fresh entries T S R) kept-fresh
+  pub demand-fresh : (cs : List Made) → Demanded (made T S R Y .tables) (fresh entries T S R Y) cs
+  demand-fresh = kept-demanded (made T S R Y .tables) (fresh entries T S R Y) kept-fresh
 
-  pub laid-fresh : (cs : List Made) → run linked (made T S R .tables) cs ≡ lay (sortedOut (run replaying (fresh entries T S R) cs))
-  laid-fresh = kept-laid (made T S R .tables) (fresh entries T S R) kept-fresh
+  pub laid-fresh : (cs : List Made) → run linked (made T S R Y .tables) cs ≡ lay (sortedOut (run replaying (fresh entries T S R Y) cs))
+  laid-fresh = kept-laid (made T S R Y .tables) (fresh entries T S R Y) kept-fresh
 
 -- from whatever begins a run on: FRESH, and where it is refused the smallest tables
-kept-made : (T S R : ℕ) (b : Bool) → sizes T S R ≡ b → Kept (made T S R .tables) (madeBy (fresh entries) T S R .tables)
+kept-made : (T S R Y : ℕ) (b : Bool) → mayStart T S R Y ≡ b → Kept (made T S R Y .tables) (madeBy (fresh entries) T S R Y .tables)
 unfolding madeBy
-kept-made T S R true e = rw (e, madeBy) (kept-new T S R e)
-kept-made T S R false e = rw (e, madeBy) (kept-new 1 0 0 refl)
+kept-made T S R Y true e = rw (e, madeBy) (kept-new T S R Y e)
+kept-made T S R Y false e = rw (e, madeBy) (kept-new 1 0 0 1975 refl)
 
 -- a reading, whose tables are sound where it is accepted, and where it is refused the smallest
 smallest-arrays : Arrays smallest
@@ -338,11 +338,11 @@ kept-read bytes (yes e) =
     kept-first t (accepted-arrays bytes e) (sound-test t (accepted bytes e .0))
 kept-read bytes (no n) =
     subst (λ (t : Tables). Kept t (firstEntries (plain t))) (sym (ap (λ (r : Result). r .tables) (not-read bytes n)))
-    (kept-first smallest smallest-arrays (kept-new 1 0 0 refl .test))
+    (kept-first smallest smallest-arrays (kept-new 1 0 0 1975 refl .test))
 
 pub kept-begun : (b : Beginning) → Kept (begins b) (notesOf b)
 unfolding begins notesOf
-kept-begun (calls.fresh T S R) = kept-made T S R (sizes T S R) refl
+kept-begun (calls.fresh T S R Y) = kept-made T S R Y (mayStart T S R Y) refl
 kept-begun (calls.read bytes) = kept-read bytes (ℕ-discrete (reading bytes .number) 0)
 
 pub demand-begun : (b : Beginning) (cs : List Made) → Demanded (begins b) (notesOf b) cs

@@ -12,7 +12,7 @@ use Rattle.records.specs.Records.{Known}
 use Rattle.rules.specs.Book.{at}
 use Rattle.rules.specs.Requests.{Request, FRESH, LOAD, operator, TICK, running}
 use Rattle.clock.specs.Clock.{ceiling}
-use Rattle.rules.specs.Rules.{sizes, dueAt}
+use Rattle.rules.specs.Rules.{mayStart, dueAt}
 use Rattle.rules.specs.Keeper.{lists, State, after}
 use Rattle.rules.specs.Sound.{Sound}
 use Rattle.rules.specs.Engine.{afterTicks, madeBy, pagedIn}
@@ -106,12 +106,12 @@ module _ (t : Tables) (A : Arrays t) (p : ℕ) (P : Known p) where
           (λ k h d. f (ap (λ (r : Result). r .number) (M .made)) k h (ap (λ (u : Tables). dueAt (plain (afterTicks asked k u) .book) p) i ∙ d))
 
   -- FRESH as a call of its own
-  made-same : (T S R : ℕ) → (Touches t (calls.request (FRESH T S R)) p → ⊥) → Same t p (begun linked t (madeBy freshly T S R) .tables)
+  made-same : (T S R Y : ℕ) → (Touches t (calls.request (FRESH T S R Y)) p → ⊥) → Same t p (begun linked t (madeBy freshly T S R Y) .tables)
   unfolding madeBy
-  made-same T S R n = go (sizes T S R) refl
+  made-same T S R Y n = go (mayStart T S R Y) refl
     where
-      go : (b : Bool) → sizes T S R ≡ b → Same t p (begun linked t (madeBy freshly T S R) .tables)
-      go true e = absurd (n (anew T S R refl e))
+      go : (b : Bool) → mayStart T S R Y ≡ b → Same t p (begun linked t (madeBy freshly T S R Y) .tables)
+      go true e = absurd (n (anew T S R Y refl e))
       go false e = rw (e, madeBy)
 
   paged-same : (buf : List ℕ) → Same t p (paged t buf .tables)
@@ -137,7 +137,7 @@ module _ (t : Tables) (A : Arrays t) (p : ℕ) (P : Known p) where
   -- THE FRAME
   pub frame : (c : Made) → (Touches t c p → ⊥) → afterwards t c p ≡ before t p
   unfolding step
-  frame (calls.request (FRESH T S R)) n = made-same T S R n
+  frame (calls.request (FRESH T S R Y)) n = made-same T S R Y n
   frame (calls.request (LOAD nm m)) n = asked-same _ _ by-call n
   frame (calls.request (operator o nm)) n = asked-same _ _ by-call n
   frame (calls.request TICK) n = asked-same _ TICK by-call n
@@ -150,8 +150,8 @@ module _ (t : Tables) (A : Arrays t) (p : ℕ) (P : Known p) where
   asked-stirred : (c : Made) → Bystander t c p → (q : Request) → Asks q c → Stirred (before t p) (at (plain (asked t q .tables) .book) p)
   asked-stirred c B q a = go (sound t) refl
     where
-      old : (T S R : ℕ) → q ≢ FRESH T S R
-      old T S R e = B .old T S R (subst (λ (x : Request). Asks x c) e a)
+      old : (T S R Y : ℕ) → q ≢ FRESH T S R Y
+      old T S R Y e = B .old T S R Y (subst (λ (x : Request). Asks x c) e a)
 
       go : (b : Bool) → sound t ≡ b → Stirred (before t p) (at (plain (asked t q .tables) .book) p)
       go true e = subst (λ (x : State lists). Stirred (before t p) (at (x .book) p)) (sym (after-is t A e q))
@@ -176,7 +176,7 @@ module _ (t : Tables) (A : Arrays t) (p : ℕ) (P : Known p) where
 
   pub stirred : (c : Made) → Bystander t c p → Stirred (before t p) (afterwards t c p)
   unfolding step
-  stirred (calls.request (FRESH T S R)) B = absurd (B .old T S R by-call)
+  stirred (calls.request (FRESH T S R Y)) B = absurd (B .old T S R Y by-call)
   stirred (calls.request (LOAD nm m)) B = asked-stirred _ B _ by-call
   stirred (calls.request (operator o nm)) B = asked-stirred _ B _ by-call
   stirred (calls.request TICK) B = asked-stirred _ B TICK by-call

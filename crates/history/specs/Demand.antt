@@ -14,7 +14,7 @@ use Rattle.records.specs.Records.{Known}
 use Rattle.rules.specs.Book.{Book, at, stateOf}
 use Rattle.rules.specs.Requests.{Call, Request, FRESH, TICK, running}
 use Rattle.rules.specs.Plans.{numberOf, valuesOf}
-use Rattle.rules.specs.Rules.{sizes, dueAt, call}
+use Rattle.rules.specs.Rules.{mayStart, dueAt, call}
 use Rattle.rules.specs.Keeper.{lists, Entries, entries, sorted, State, view, asks, after, fresh}
 use Rattle.rules.specs.Engine.{Handed, Engine, afterTicks, madeBy}
 use Rattle.rules.specs.Replay.{Fits, First}
@@ -63,7 +63,7 @@ inTurn b (p ∷ ps) e = inTurn b ps (entries .entered b p (stateOf b p) e)
 abbrev pub firstEntries : State lists → State entries
 firstEntries a = record { book = a .book; kept = inTurn (a .book) (join (a .kept)) (entries .none) }
 
--- what the replay begins with: fresh notes, of the smallest sizes where FRESH is refused; of tables that were read, the first entries
+-- what the replay begins with: fresh notes, those of the smallest tables where FRESH is refused; of tables that were read, the first entries
 unfoldable pub notesOf : Beginning → State entries
 notesOf (calls.fresh T S R Y) = madeBy (fresh entries) T S R Y .tables
 notesOf (calls.read s) = firstEntries (plain (reading s .tables))
@@ -123,7 +123,7 @@ pub data Asks (q : Request) : Made → Type 0 where
 -- the call is an accepted FRESH, which takes no tables; or the tables are sound and it concerns program p: its caller, named
 -- in it, due at that tick, or woken by it; or it is an accepted TICK,n, and p is due at one of its ticks
 pub data Touches (t : Tables) (c : Made) (p : ℕ) : Type 0 where
-  anew : (T S R Y : ℕ) → c ≡ calls.request (FRESH T S R Y) → sizes T S R Y ≡ true → Touches t c p
+  anew : (T S R Y : ℕ) → c ≡ calls.request (FRESH T S R Y) → mayStart T S R Y ≡ true → Touches t c p
   concerns : (q : Request) → Asks q c → sound t ≡ true → Concerned (view lists (plain t)) q p → Touches t c p
   -- k of its ticks are made, and p is due at the next
   ticking : (n k : ℕ) → AsksTicks n c → manyTicks t n .number ≡ 0 → k < n → dueAt (plain (afterTicks asked k t) .book) p ≡ true

@@ -37,7 +37,7 @@ use Rattle.ledger.proofs.Facts.{Trim}
 
 -- what the code tests
 pub record Passed (l : Ledger) : Type 0 where
-  pub sizes : Sized (l .tracks .count) (l .tracks .system) (l .numbers .count) (l .clock .ticks)
+  pub sizes : Sized (l .tracks .count) (l .tracks .system) (l .numbers .count) (l .clock .ticks) (l .clock .year)
   pub roster : Roster (l .clock .ticks) (l .tracks .count) (l .numbers .count) (l .programs)
   pub places : Held (User (bookOf l)) (l .tracks)
   pub counts : Numbered (l .numbers .count) (User (bookOf l)) (l .numbers .resources)
@@ -203,6 +203,8 @@ module _ (l : Ledger) (c : Clauses l) where
       tracks = record { least = c .limits .some; most = c .limits .most; part = c .limits .first };
       few = c .limits .few;
       time = c .limits .time;
+      earliest = c .limits .earliest;
+      latest = c .limits .latest;
     };
     roster = roster-of l (places-from (λ i. Trim (l .clock .ticks) (held l i)) trim-in)
         (places-from (λ i. suits (bookOf l) (i + 1) (held l i .state) (held l i .why) ≡ true) suits-in) names-in sons-in;
@@ -296,6 +298,8 @@ module _ (l : Ledger) (H : length (places (l .tracks)) ≡ 256) (N : length (l .
     first = t .sizes .tracks .part;
     few = t .sizes .few;
     time = t .sizes .time;
+    earliest = t .sizes .earliest;
+    latest = t .sizes .latest;
     priority = λ p P. is-trim p P .priority;
     holder = λ i h. (holder-in i h) .0;
     owner = λ r o. omega (arith, number r o .owner .low);

@@ -6,7 +6,7 @@ use mathlib.Core.Bool.{Bool, false, _&&_, true, cond, not, _||_}
 use mathlib.Core.List.{List}
 use lib.ListN.{getD, take}
 use lib.Dec.{eqb, leb, ltb}
-use Rattle.limits.specs.Limits.{dormant, scheduled, general, disc, suspended, mostPrograms, mostNumbers, lastPriority}
+use Rattle.limits.specs.Limits.{dormant, scheduled, general, disc, suspended, mostPrograms, mostNumbers, lastPriority, firstYear, lastYear}
 use Rattle.lists.specs.Lists.{count, upTo}
 use Rattle.records.specs.declared.Numbers.{Numbers}
 use Rattle.records.specs.Records.{Known, known, missing, inWait}
@@ -52,11 +52,13 @@ pub record Listed (ids : List ℕ) (len : ℕ) : Type 0 where
   pub known : (z : ℕ) → 1 ≤ count z (take len ids) → Known z
   pub once : (z : ℕ) → count z (take len ids) ≤ 1
 
--- T, S, R and the clock
-pub record Sized (T S R c : ℕ) : Type 0 where
+-- T, S, R, the clock and its start year
+pub record Sized (T S R c Y : ℕ) : Type 0 where
   pub tracks : Sizes T S
   pub few : R ≤ mostNumbers
   pub time : c ≤ ceiling
+  pub earliest : firstYear ≤ Y
+  pub latest : Y ≤ lastYear
 
 -- due and interval, at a clock
 unfoldable pub timed : ℕ → ℕ → ℕ → Bool

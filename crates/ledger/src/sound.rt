@@ -5,6 +5,8 @@ use super::places::numbers_ok;
 use super::places::strangers;
 use super::roll::enrolled;
 use clock::Clock;
+use limits::FIRST_YEAR;
+use limits::LAST_YEAR;
 use limits::MOST_NUMBERS;
 use limits::MOST_PROGRAMS;
 use limits::MOST_TRACKS;
@@ -18,8 +20,8 @@ pub struct Review {
     pub priorities: [u16; MOST_PROGRAMS],
 }
 
-fn is_sized(all: u16, own: u16, numbers: u8, ticks: u64) -> bool
-    ensures { λ r. ⌜ Tells r (Sized all own numbers ticks) ⌝ }
+fn is_sized(all: u16, own: u16, numbers: u8, ticks: u64, year: u16) -> bool
+    ensures { λ r. ⌜ Tells r (Sized all own numbers ticks year) ⌝ }
 {
     if all == 0 {
         return false;
@@ -33,6 +35,12 @@ fn is_sized(all: u16, own: u16, numbers: u8, ticks: u64) -> bool
     if MOST_NUMBERS < numbers as usize {
         return false;
     }
+    if year < FIRST_YEAR {
+        return false;
+    }
+    if LAST_YEAR < year {
+        return false;
+    }
     ticks <= Clock::CEILING
 }
 
@@ -42,7 +50,7 @@ pub fn reviewed(l: Ledger) -> Review
 {
     let all = l.tracks.count;
     let numbers = l.numbers.count;
-    if !is_sized(all, l.tracks.system, numbers, l.clock.ticks) {
+    if !is_sized(all, l.tracks.system, numbers, l.clock.ticks, l.clock.year) {
         return Review {
             ok: false,
             states: [0; MOST_PROGRAMS],

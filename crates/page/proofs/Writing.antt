@@ -12,6 +12,7 @@ use lib.Dec.{eqb, ltb}
 use lib.ListN.{length, getD, take, drop, set, drop-of-length-le}
 use lib.Seq.{slice, slice-cons, drop-cons, length-take-le}
 use borrow.Author.Tests.{eq-eqb, ne-eqb}
+use Rattle.limits.specs.Limits.{usualYear}
 use Rattle.lists.specs.Lists.{join}
 use Rattle.text.specs.Text.{text, decimal, between, entry}
 use Rattle.text.specs.Inner.{Wrote}
@@ -23,7 +24,7 @@ use Rattle.tracks.specs.declared.held.Run.{Run}
 use Rattle.tracks.specs.Tracks.{nobody, system}
 use Rattle.rules.specs.Keeper.{lists, State}
 use Rattle.page.specs.Inner.{others}
-use Rattle.page.specs.Page.{Line, bytesOf, bytes, line, suspendKey, heldKey, numberKey, markWord, party, orDash, markLine}
+use Rattle.page.specs.Page.{Line, bytesOf, bytes, line, yearKey, suspendKey, heldKey, numberKey, markWord, party, orDash, yearLine, markLine}
 use Rattle.page.specs.Page.{heldLine, numberLine, parts, lines, page}
 
 -- what is written, under another name
@@ -59,6 +60,21 @@ pub lines-then : (xs ys : List Line) → bytes (xs ++ ys) ≡ join (map bytesOf 
 unfolding bytes
 lines-then [] ys = sym (append-nil (bytes ys))
 lines-then (x ∷ xs) ys = ap (λ (r : List ℕ). bytesOf x ++ r) (lines-then xs ys)
+
+-- and then others one by one
+pub lines-between : (xs ys zs : List Line) → bytes (xs ++ ys ++ zs) ≡ join (map bytesOf xs ++ (bytes ys ∷ map bytesOf zs))
+unfolding bytes
+lines-between [] ys zs = bytes-append ys zs
+lines-between (x ∷ xs) ys zs = ap (λ (r : List ℕ). bytesOf x ++ r) (lines-between xs ys zs)
+
+-- a year's line, and none
+pub year-there : (y : ℕ) → y ≢ usualYear → bytes (yearLine y) ≡ bytesOf (line yearKey (decimal y))
+year-there y n =
+    ap (λ (b : Bool). bytes (cond b [] (line yearKey (decimal y) ∷ []))) (ne-eqb y usualYear n) ∙ bytes-line (line yearKey (decimal y))
+
+pub year-none : (y : ℕ) → y ≡ usualYear → bytes (yearLine y) ≡ []
+unfolding bytes
+year-none y e = ap (λ (b : Bool). bytes (cond b [] (line yearKey (decimal y) ∷ []))) (eq-eqb y usualYear e)
 
 -- a mark's line, and none
 pub mark-there : (b : Bool) → b ≡ true → bytes (markLine b) ≡ bytesOf (line suspendKey (text markWord))

@@ -167,7 +167,7 @@ abbrev pub yearLine : ℕ → List Line
 yearLine Y = cond (eqb Y usualYear) [] (line yearKey (decimal Y) ∷ [])
 
 abbrev pub headLines : ℕ → ℕ → ℕ → ℕ → ℕ → ℕ → List Line
-headLines clock Y T S R n =
+headLines clock T S R Y n =
     paired firstKeys (text firstWord ∷ decimal clock ∷ []) ++ yearLine Y
     ++ paired sizeKeys (decimal T ∷ decimal S ∷ decimal R ∷ decimal n ∷ [])
 
@@ -219,7 +219,7 @@ numberLines n xs = join (map (λ r. numberLine r (numberAt xs r)) (from 1 n))
 abbrev pub parts : State lists → List (List Line)
 parts a =
     let b : Book = a .book in
-    headLines (b .clock) (b .year) (b .tracks) (b .system) (b .numbers) (length (usedIn (b .programs))) ∷ recordLines (b .programs)
+    headLines (b .clock) (b .tracks) (b .system) (b .numbers) (b .year) (length (usedIn (b .programs))) ∷ recordLines (b .programs)
     ∷ chainLines (a .kept) ∷ heldLines (b .holders) ∷ numberLines (b .numbers) (b .resources) ∷ (line endKey (text lastWord) ∷ []) ∷ []
 
 unfoldable pub lines : State lists → List Line

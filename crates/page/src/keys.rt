@@ -11,6 +11,8 @@ pub const RTE2: [u8; 4] = *b"rte2";
 
 pub const CLOCK: [u8; 5] = *b"clock";
 
+pub const YEAR: [u8; 4] = *b"year";
+
 pub const TRACKS: [u8; 6] = *b"tracks";
 
 pub const SYSTEM: [u8; 6] = *b"system";

@@ -36,6 +36,7 @@ pub fn put_page(buf: &mut [u8], tables: Tables) -> usize
         tracks.count,
         tracks.system,
         numbers.count,
+        clock.year,
         used,
     );
     let b = sections::put_records(buf, a, programs);

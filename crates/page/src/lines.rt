@@ -5,17 +5,29 @@ ghost use Rattle.limits.specs.Limits.{mostPrograms};
 ghost use Rattle.records.specs.Names.{bare};
 ghost use Rattle.text.specs.Text.{entry};
 ghost use Rattle.text.specs.Inner.{Wrote};
-ghost use Rattle.page.specs.Page.{bytesOf, bytes, reason, orDash, markLine, headLines, recorded, chainLine, heldLine, numberLine};
+ghost use Rattle.page.specs.Page.{bytesOf, bytes, reason, orDash, markLine, yearLine, headLines, recorded, chainLine, heldLine, numberLine};
 use super::keys;
 use super::values;
 use chains::Listing;
+use limits::USUAL_YEAR;
 use records::Program;
 use records::Resource;
 use records::Why;
 use tracks::Run;
 use tracks::Tracks;
 
-// The head of a page, of tables of these sizes with so many programs.
+// The start year; none where it is the usual one.
+fn put_year_line(buf: &mut [u8], at: usize, year: u16) -> usize
+    requires { ⌜ at + length (bytes (yearLine year)) ≤ length (now buf) ⌝ }
+    ensures { λ r. ⌜ Wrote (now (buf .entry)) at (bytes (yearLine year)) (now (buf .exit)) r ⌝ }
+{
+    if year == USUAL_YEAR {
+        return at;
+    }
+    text::put_figure(buf, at, &keys::YEAR, year as u64)
+}
+
+// The head of a page, of tables of these sizes and this start year with so many programs.
 pub(crate) fn put_heading(
     buf: &mut [u8],
     at: usize,
@@ -23,17 +35,19 @@ pub(crate) fn put_heading(
     tracks: u16,
     system: u16,
     numbers: u8,
+    year: u16,
     programs: usize,
 ) -> usize
-    requires { ⌜ at + length (bytes (headLines clock tracks system numbers programs)) ≤ length (now buf) ⌝ }
-    ensures { λ r. ⌜ Wrote (now (buf .entry)) at (bytes (headLines clock tracks system numbers programs)) (now (buf .exit)) r ⌝ }
+    requires { ⌜ at + length (bytes (headLines clock tracks system numbers year programs)) ≤ length (now buf) ⌝ }
+    ensures { λ r. ⌜ Wrote (now (buf .entry)) at (bytes (headLines clock tracks system numbers year programs)) (now (buf .exit)) r ⌝ }
 {
     let a = text::put_entry(buf, at, &keys::PAGE, &keys::RTE2);
     let b = text::put_figure(buf, a, &keys::CLOCK, clock);
-    let c = text::put_figure(buf, b, &keys::TRACKS, tracks as u64);
-    let d = text::put_figure(buf, c, &keys::SYSTEM, system as u64);
-    let e = text::put_figure(buf, d, &keys::NUMBERS, numbers as u64);
-    text::put_figure(buf, e, &keys::PROGRAMS, programs as u64)
+    let c = put_year_line(buf, b, year);
+    let d = text::put_figure(buf, c, &keys::TRACKS, tracks as u64);
+    let e = text::put_figure(buf, d, &keys::SYSTEM, system as u64);
+    let f = text::put_figure(buf, e, &keys::NUMBERS, numbers as u64);
+    text::put_figure(buf, f, &keys::PROGRAMS, programs as u64)
 }
 
 // Lines of a record, by their key: a name, a reason, a number that may be absent.

@@ -10,6 +10,7 @@ use mathlib.Core.Bool.{Bool, true, false, cond}
 use mathlib.Core.List.{List, [], _∷_, _++_, map, map-append}
 use lib.ListN.{getD, set, replicate, length-map, getD-replicate}
 use lib.Seq.{set-getD, getD-set-other}
+use Rattle.clock.specs.declared.Clock.{Clock}
 use Rattle.records.specs.declared.Numbers.{Numbers}
 use Rattle.records.specs.declared.Resource.{Resource}
 use Rattle.records.specs.Numbers.{free}
@@ -22,7 +23,7 @@ use Rattle.tracks.specs.Tracks as tracks
 use Rattle.tracks.specs.Inner as tracks-inner
 use Rattle.tracks.proofs.Fits.{fit}
 use Rattle.rules.specs.Book.{Book, withClock, freshBook}
-use Rattle.rules.specs.Rules.{sizes}
+use Rattle.rules.specs.Rules.{mayStart}
 use Rattle.rules.specs.Keeper.{lists, State}
 use Rattle.rules.specs.Engine.{madeBy}
 use Rattle.chains.specs.Links.{slots, layChain, layAll, linksOf}
@@ -149,61 +150,71 @@ fresh-bytes T S =
     map-append byte (replicate S system) (replicate (T - S) nobody)
     ∙ ap₂ _++_ (map-replicate byte S system) (map-replicate byte (T - S) nobody)
 
-abbrev freshTables : ℕ → ℕ → ℕ → Bool → Tables
-freshTables T S R b = cond b (freshly T S R) (freshly 1 0 0)
+abbrev freshTables : ℕ → ℕ → ℕ → ℕ → Bool → Tables
+freshTables T S R Y b = cond b (freshly T S R Y) (freshly 1 0 0 1975)
 
-abbrev freshState : ℕ → ℕ → ℕ → ℕ → Bool → State lists
-freshState clock T S R b = record { book = withClock clock (cond b (freshBook T S R) (freshBook 1 0 0)); kept = lists .none }
+abbrev freshState : ℕ → ℕ → ℕ → ℕ → ℕ → Bool → State lists
+freshState clock T S R Y b = record { book = withClock clock (cond b (freshBook T S R Y) (freshBook 1 0 0 1975)); kept = lists .none }
 
-module _ (clock T S R : ℕ) where
-  made-tables : made T S R .tables ≡ freshTables T S R (sizes T S R)
+module _ (clock T S R Y : ℕ) where
+  made-tables : made T S R Y .tables ≡ freshTables T S R Y (mayStart T S R Y)
   unfolding madeBy
-  made-tables = go (sizes T S R)
+  made-tables = go (mayStart T S R Y)
     where
-      go : (b : Bool) → (cond {A = Result} b (record { number = 0; values = 0 ∷ []; tables = freshly T S R })
-          (record { number = 3; values = 0 ∷ []; tables = freshly 1 0 0 })) .tables ≡ freshTables T S R b
+      go : (b : Bool) → (cond {A = Result} b (record { number = 0; values = 0 ∷ []; tables = freshly T S R Y })
+          (record { number = 3; values = 0 ∷ []; tables = freshly 1 0 0 1975 })) .tables ≡ freshTables T S R Y b
       go true = refl
       go false = refl
 
-  pub fresh-holds : Holds (made T S R .tables .ledger .tracks) (started clock T S R)
+  pub fresh-holds : Holds (made T S R Y .tables .ledger .tracks) (started clock T S R Y)
   fresh-holds = record {
-    table = ap (λ (t : Tables). t .ledger .tracks) made-tables ∙ go (sizes T S R);
-    long = started-sized clock T S R .holders;
+    table = ap (λ (t : Tables). t .ledger .tracks) made-tables ∙ go (mayStart T S R Y);
+    long = started-sized clock T S R Y .holders;
   }
     where
-      go : (b : Bool) → freshTables T S R b .ledger .tracks
-          ≡ tracks.tableOf (freshState clock T S R b .book .tracks) (freshState clock T S R b .book .system)
-          (map byte (freshState clock T S R b .book .holders))
+      go : (b : Bool) → freshTables T S R Y b .ledger .tracks
+          ≡ tracks.tableOf (freshState clock T S R Y b .book .tracks) (freshState clock T S R Y b .book .system)
+          (map byte (freshState clock T S R Y b .book .holders))
       go true = ap (tracks.tableOf T S) (sym (fresh-bytes T S))
       go false = ap (tracks.tableOf 1 0) (sym (fresh-bytes 1 0))
 
-  pub fresh-keeps : Keeps (made T S R .tables .ledger .numbers) (started clock T S R)
+  pub fresh-keeps : Keeps (made T S R Y .tables .ledger .numbers) (started clock T S R Y)
   fresh-keeps = record {
-    table = ap (λ (t : Tables). t .ledger .numbers) made-tables ∙ go (sizes T S R);
-    long = started-sized clock T S R .resources;
+    table = ap (λ (t : Tables). t .ledger .numbers) made-tables ∙ go (mayStart T S R Y);
+    long = started-sized clock T S R Y .resources;
   }
     where
-      go : (b : Bool) → freshTables T S R b .ledger .numbers
-          ≡ numbers.tableOf (freshState clock T S R b .book .numbers) (map narrowResource (freshState clock T S R b .book .resources))
+      go : (b : Bool) → freshTables T S R Y b .ledger .numbers
+          ≡ numbers.tableOf (freshState clock T S R Y b .book .numbers) (map narrowResource (freshState clock T S R Y b .book .resources))
       go true = ap (numbers.tableOf R) (sym (map-replicate narrowResource R free))
       go false = ap (numbers.tableOf 0) (sym (map-replicate narrowResource 0 free))
 
-  pub fresh-tracks-fit : tracks-inner.Fit (made T S R .tables .ledger .tracks)
-  fresh-tracks-fit =
-      holds-fit (made T S R .tables .ledger .tracks) (started clock T S R) fresh-holds (started-sized clock T S R .tracks)
+  -- the clock, at another time of the same year
+  pub fresh-clock : _≡_ {A = Clock} (record { ticks = clock; year = made T S R Y .tables .ledger .clock .year })
+      (record { ticks = started clock T S R Y .book .clock; year = started clock T S R Y .book .year })
+  fresh-clock = ap (λ (t : Tables). record { ticks = clock; year = t .ledger .clock .year }) made-tables ∙ go (mayStart T S R Y)
+    where
+      go : (b : Bool) → _≡_ {A = Clock} (record { ticks = clock; year = freshTables T S R Y b .ledger .clock .year })
+          (record { ticks = freshState clock T S R Y b .book .clock; year = freshState clock T S R Y b .book .year })
+      go true = refl
+      go false = refl
 
-  pub fresh-numbers-fit : numbers-inner.Fit (made T S R .tables .ledger .numbers)
+  pub fresh-tracks-fit : tracks-inner.Fit (made T S R Y .tables .ledger .tracks)
+  fresh-tracks-fit =
+      holds-fit (made T S R Y .tables .ledger .tracks) (started clock T S R Y) fresh-holds (started-sized clock T S R Y .tracks)
+
+  pub fresh-numbers-fit : numbers-inner.Fit (made T S R Y .tables .ledger .numbers)
   fresh-numbers-fit =
-      keeps-fit (made T S R .tables .ledger .numbers) (started clock T S R) fresh-keeps (started-sized clock T S R .numbers)
+      keeps-fit (made T S R Y .tables .ledger .numbers) (started clock T S R Y) fresh-keeps (started-sized clock T S R Y .numbers)
 
 -- ALL OF THEM
 pub assembled : (t : Tables) (a : State lists) → t .ledger .programs ≡ map narrowRecord (a .book .programs)
-    → t .ledger .clock .ticks ≡ a .book .clock → Holds (t .ledger .tracks) a → Keeps (t .ledger .numbers) a
+    → t .ledger .clock ≡ record { ticks = a .book .clock; year = a .book .year } → Holds (t .ledger .tracks) a → Keeps (t .ledger .numbers) a
     → t .links ≡ linksOf (map (map byte) (a .kept)) → t ≡ lay (narrow a)
 assembled t a P C H K L =
     let x = H .table in
     let y = K .table in
     λ i. record {
-      ledger = record { programs = P i; clock = record { ticks = C i }; tracks = x i; numbers = y i };
+      ledger = record { programs = P i; clock = C i; tracks = x i; numbers = y i };
       links = L i;
     }

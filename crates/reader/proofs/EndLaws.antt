@@ -17,8 +17,7 @@ use Rattle.shapes.specs.Inner.{narrowNumbered, numberIn, LineIs, NoLine, unende
 use Rattle.reader.specs.Walks.{ahead, EndRead}
 use Rattle.reader.proofs.ScanLaws.{pass}
 use Rattle.shapes.proofs.Marks.{some-part}
-use Rattle.reader.proofs.LineLaws.{scan-line, scan-stop, pass-key, pass-shape, there-into}
-use Rattle.reader.proofs.HeadLaws.{word-there}
+use Rattle.reader.proofs.LineLaws.{scan-line, scan-stop, pass-key, pass-shape, there-into, word-there}
 
 -- at the numbers, a line that is none, or not of its shape, can only be the last one
 at-numbers : (l : List ℕ) → behind (text numberKey ++ (61 ∷ [])) l ≡ none → behindLine numbering l ≡ afterOne (choice endForm ended ∷ []) l

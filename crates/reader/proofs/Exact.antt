@@ -16,7 +16,7 @@ use Rattle.tables.specs.Sound.{Sound, sound}
 use Rattle.tables.specs.Calls.{Result}
 use Rattle.tables.proofs.Agree.{sound-clauses}
 use Rattle.page.specs.Page.{page}
-use Rattle.reader.specs.Order.{heading, headForms, firstBad}
+use Rattle.reader.specs.Order.{pageAhead, firstBad}
 use Rattle.reader.specs.Said.{said}
 use Rattle.reader.specs.Reading.{wasRead, notRead, writes, judged, reading}
 use Rattle.reader.specs.Lines.{WrittenBy, Exactly}
@@ -50,7 +50,7 @@ judged-not s (suc n) t e = refl
 module _ (s : List ℕ) where
   read-is : reading s .number ≡ 0 → Read s (lay (said (parts 10 s))) (reading s)
   unfolding reading
-  read-is e = judged-read s (firstBad (heading headForms) 1 (parts 10 s)) (lay (said (parts 10 s))) e
+  read-is e = judged-read s (firstBad pageAhead 1 (parts 10 s)) (lay (said (parts 10 s))) e
 
   -- what is read is sound, and is written as these bytes
   pub accepted : reading s .number ≡ 0 → Sound (reading s .tables) × (page (plain (reading s .tables)) ≡ s)
@@ -65,9 +65,9 @@ module _ (s : List ℕ) where
   pub accepted-arrays : reading s .number ≡ 0 → Arrays (reading s .tables)
   accepted-arrays e = rw (ap (λ (x : Result). x .tables) (read-is e .tables)) (said-arrays (parts 10 s))
 
-  pub not-read : reading s .number ≢ 0 → reading s ≡ notRead (firstBad (heading headForms) 1 (parts 10 s))
+  pub not-read : reading s .number ≢ 0 → reading s ≡ notRead (firstBad pageAhead 1 (parts 10 s))
   unfolding reading
-  not-read n = judged-not s (firstBad (heading headForms) 1 (parts 10 s)) (lay (said (parts 10 s))) n
+  not-read n = judged-not s (firstBad pageAhead 1 (parts 10 s)) (lay (said (parts 10 s))) n
 
 pub written-read : (t : Tables) (s : List ℕ) → WrittenBy t s → reading s ≡ wasRead t
 written-read t s W = ap reading (sym (W .bytes)) ∙ read-written t (W .arrays) (W .lawful)

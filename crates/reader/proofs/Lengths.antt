@@ -19,15 +19,16 @@ use Rattle.tracks.specs.declared.held.Run.{Run}
 use Rattle.tracks.specs.Tracks.{nobody, system, filled}
 use Rattle.tracks.proofs.Runs.{filled-long}
 use Rattle.rules.specs.Book.{Book, put, withClock, withHolders, withResources, freshBook}
-use Rattle.rules.specs.Rules.{sizes}
+use Rattle.rules.specs.Rules.{mayStart}
+use Rattle.rules.proofs.shared.Starting.{starts-true}
 use Rattle.rules.specs.Keeper.{lists, State}
 use Rattle.chains.specs.Links.{layChain, layAll, linksOf}
 use Rattle.tables.specs.Tables.{lay, Arrays}
-use Rattle.page.specs.Page.{recordKeys, headKeys, chained, heldKey, numberKey, keyOfChain}
+use Rattle.page.specs.Page.{recordKeys, firstKeys, sizeKeys, chained, heldKey, numberKey, keyOfChain}
 use Rattle.page.specs.Page.{clockKey, tracksKey, systemKey, numbersKey, programsKey, idKey}
 use Rattle.shapes.specs.Shapes.{otherwise, listed, runIn, Numbered, numbered}
-use Rattle.reader.specs.Order.{valueBehind}
-use Rattle.reader.specs.Said.{figureOf, withChain, started, headIn, markedBy, recordIn, withRecord, withRun, withResource}
+use Rattle.reader.specs.Order.{yearForm, valueBehind}
+use Rattle.reader.specs.Said.{figureOf, withChain, started, beginsWith, yearSaid, markedBy, recordIn, withRecord, withRun, withResource}
 use Rattle.reader.specs.Said.{withHeld, withNumbered, withLine, restSaid, chainsSaid, recordsSaid, said}
 
 -- a book's lists are as long as what they list, and no longer than tables have them
@@ -39,8 +40,8 @@ pub record Sized (b : Book) : Type 0 where
   pub numbers : b .numbers ≤ 16
 
 -- fresh books, of sizes that are allowed or the smallest
-fresh-sized : (T S R : ℕ) → S ≤ T → T ≤ 256 → R ≤ 16 → Sized (freshBook T S R)
-fresh-sized T S R h k l = record {
+fresh-sized : (T S R Y : ℕ) → S ≤ T → T ≤ 256 → R ≤ 16 → Sized (freshBook T S R Y)
+fresh-sized T S R Y h k l = record {
   programs = length-replicate 32 unused;
   holders = length-append (replicate S system) (replicate (T - S) nobody)
       ∙ omega (arith, length-replicate S system, length-replicate (T - S) nobody);
@@ -49,20 +50,18 @@ fresh-sized T S R h k l = record {
   numbers = l;
 }
 
-pub started-sized : (clock T S R : ℕ) → Sized (started clock T S R .book)
-started-sized clock T S R = go (sizes T S R) refl
+pub started-sized : (clock T S R Y : ℕ) → Sized (started clock T S R Y .book)
+started-sized clock T S R Y = go (mayStart T S R Y) refl
   where
     timed : (b : Book) → Sized b → Sized (withClock clock b)
     timed b Z =
         record { programs = Z .programs; holders = Z .holders; tracks = Z .tracks; resources = Z .resources; numbers = Z .numbers }
 
-    go : (t : Bool) → sizes T S R ≡ t → Sized (withClock clock (cond t (freshBook T S R) (freshBook 1 0 0)))
+    go : (t : Bool) → mayStart T S R Y ≡ t → Sized (withClock clock (cond t (freshBook T S R Y) (freshBook 1 0 0 1975)))
     go true e =
-        let h = both (upTo 1 256 T && leb S T) (leb R 16) e in
-        let k = both (upTo 1 256 T) (leb S T) (h .0) in
-        timed (freshBook T S R)
-        (fresh-sized T S R (leb-true S T (k .1)) (upTo-true 1 256 T (k .0) .1) (leb-true R 16 (h .1)))
-    go false e = timed (freshBook 1 0 0) (fresh-sized 1 0 0 (omega arith) (omega arith) (omega arith))
+        let Z = starts-true T S R Y e in
+        timed (freshBook T S R Y) (fresh-sized T S R Y (Z .first) (Z .most) (Z .few))
+    go false e = timed (freshBook 1 0 0 1975) (fresh-sized 1 0 0 1975 (omega arith) (omega arith) (omega arith))
 
 -- each change keeps them
 record-sized : (p : ℕ) (r : Program) (a : State lists) → Sized (a .book) → Sized (withRecord p r a .book)
@@ -157,9 +156,13 @@ records-sized (suc n) ls a Z =
 pub said-sized : (ls : List (List ℕ)) → Sized (said ls .book)
 unfolding said
 said-sized ls =
-    let own : List (List ℕ) = take (length headKeys) ls in
-    records-sized (figureOf programsKey own) (drop (length headKeys) ls) (headIn own)
-    (started-sized (figureOf clockKey own) (figureOf tracksKey own) (figureOf systemKey own) (figureOf numbersKey own))
+    let first : List (List ℕ) = take (length firstKeys) ls in
+    let rest : List (List ℕ) = drop (length firstKeys) ls in
+    let behind : List (List ℕ) = drop (hit (beginsWith yearForm rest)) rest in
+    let own : List (List ℕ) = take (length sizeKeys) behind in
+    records-sized (figureOf programsKey own) (drop (length sizeKeys) behind)
+    (started (figureOf clockKey first) (figureOf tracksKey own) (figureOf systemKey own) (figureOf numbersKey own) (yearSaid rest))
+    (started-sized (figureOf clockKey first) (figureOf tracksKey own) (figureOf systemKey own) (figureOf numbersKey own) (yearSaid rest))
 
 -- links are as many as there are slots
 chain-long : (l : List ℕ) (s : ℕ) (c : List ℕ) → length (layChain l s c) ≡ length l

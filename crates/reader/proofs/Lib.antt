@@ -12,6 +12,7 @@ pub mod RoundTrip
 pub mod Lengths
 pub mod Exact
 pub mod HeadLaws
+pub mod PerhapsLaws
 pub mod MarkLaws
 pub mod RecordLaws
 pub mod Assembling

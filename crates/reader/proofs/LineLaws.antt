@@ -2,14 +2,15 @@
 -- Assumes nothing.
 use Prim.Native.Nat.{ℕ, suc}
 use mathlib.Core.Path.{_≡_, refl, sym, ap, _∙_}
-use mathlib.Core.Bool.{Bool, false}
+use mathlib.Core.Bool.{Bool, true, false, cond}
 use mathlib.Core.List.{List, [], _∷_, _++_}
 use mathlib.Core.Option.{Option, none, some}
 use lib.ListN.{drop}
+use Rattle.lists.specs.Lists.{alike}
 use Rattle.text.specs.Text.{behind, parts}
 use Rattle.shapes.specs.Shapes.{there, into}
 use Rattle.reader.specs.Order.{Place, Choice, valueBehind, mayCome, afterKind, afterOne, behindLine, behindAll, firstBad}
-use Rattle.shapes.specs.Inner.{LineIs, NoLine, unended, keyless, shapeless}
+use Rattle.shapes.specs.Inner.{LineIs, NoLine, unended, keyless, shapeless, wordIs}
 use Rattle.shapes.proofs.Marks.{some-part}
 use Rattle.reader.proofs.ScanLaws.{value-behind, pass}
 
@@ -87,3 +88,11 @@ module _ {A : Type 0} (shape : List ℕ → Option A) (s : List ℕ) (at : ℕ) 
       ap (firstBad p n) k
       ∙ scan-stop p (c .kind .key ++ (61 ∷ v)) (drop next s) n
       (ap (λ (x : List Choice). afterOne x (c .kind .key ++ (61 ∷ v))) may ∙ pass-shape c [] v (e v ∙ ap there f))
+
+-- whether a value is the word is what its shape says
+pub word-there : (w v : List ℕ) → alike v w ≡ there (wordIs w v)
+word-there w v = go (alike v w)
+  where
+    go : (b : Bool) → b ≡ there (cond b (some true) none)
+    go true = refl
+    go false = refl

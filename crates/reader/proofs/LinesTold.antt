@@ -18,7 +18,7 @@ use Rattle.tables.specs.Sound.{sound}
 use Rattle.tables.specs.Calls.{Result}
 use Rattle.tables.proofs.Agree.{sound-clauses}
 use Rattle.page.specs.Page.{page}
-use Rattle.reader.specs.Order.{Place, heading, recording, marking, chaining, holding, numbering, ended, headForms, behindLine}
+use Rattle.reader.specs.Order.{Place, opening, heading, recording, perhaps, chaining, holding, numbering, ended, pageAhead, behindLine}
 use Rattle.reader.specs.Order.{behindAll, firstBad}
 use Rattle.reader.specs.Said.{said}
 use Rattle.reader.specs.Reading.{wasRead, notRead, writes, judged, reading}
@@ -39,9 +39,10 @@ Short p l = p ≡ ended → l ≡ [] → ⊥
 all-not : (p : Place) (n : ℕ) (l : List ℕ) → Short p l → behindAll p n l ≡ n
 all-not ended n [] h = absurd (h refl refl)
 all-not ended n (c ∷ cs) h = refl
+all-not (opening fs) n l h = refl
 all-not (heading fs) n l h = refl
 all-not (recording fs k) n l h = refl
-all-not (marking q) n l h = refl
+all-not (perhaps f q) n l h = refl
 all-not (chaining fs) n l h = refl
 all-not holding n l h = refl
 all-not numbering n l h = refl
@@ -54,9 +55,10 @@ data Last (p : Place) (n : ℕ) (l : List ℕ) : Type 0 where
 last-is : (p : Place) (n : ℕ) (l : List ℕ) → Last p n l
 last-is ended n [] = at-end refl refl refl
 last-is ended n (c ∷ cs) = short (λ e f. nothing-not c cs f) refl
+last-is (opening fs) n l = short (λ e f. let z : _≡_ {A = ℕ} 0 1 = cc in omega arith) refl
 last-is (heading fs) n l = short (λ e f. let z : _≡_ {A = ℕ} 0 1 = cc in omega arith) refl
 last-is (recording fs k) n l = short (λ e f. let z : _≡_ {A = ℕ} 0 1 = cc in omega arith) refl
-last-is (marking q) n l = short (λ e f. let z : _≡_ {A = ℕ} 0 1 = cc in omega arith) refl
+last-is (perhaps f q) n l = short (λ e f. let z : _≡_ {A = ℕ} 0 1 = cc in omega arith) refl
 last-is (chaining fs) n l = short (λ e f. let z : _≡_ {A = ℕ} 0 1 = cc in omega arith) refl
 last-is holding n l = short (λ e f. let z : _≡_ {A = ℕ} 0 1 = cc in omega arith) refl
 last-is numbering n l = short (λ e f. let z : _≡_ {A = ℕ} 0 1 = cc in omega arith) refl
@@ -175,7 +177,7 @@ line-told s (suc n) k t e = ap valueIn e
 
 module _ (s : List ℕ) where
   abbrev start : Place
-  start = heading headForms
+  start = pageAhead
 
   some-lines : 1 ≤ length (parts 10 s)
   some-lines = let (l, ls, e) = some-part 10 s in rw e (omega arith)

@@ -134,6 +134,7 @@ module _ (a : State lists) (S : Sound a) where
         book = record {
           programs = p i;
           clock = b .clock;
+          year = b .year;
           tracks = b .tracks;
           system = b .system;
           numbers = b .numbers;

@@ -7,14 +7,14 @@ use mathlib.Core.Path.{_≡_, refl, ap, ap₂, _∙_}
 use mathlib.Core.Bool.{Bool, true, false, cond}
 use mathlib.Core.List.{List, [], _∷_}
 use lib.ListN.{length}
-use borrow.Author.Tests.{le-leb}
 use Rattle.lists.specs.Lists.{same}
-use Rattle.lists.proofs.Tests.{and, upTo-is, alike-refl}
+use Rattle.lists.proofs.Tests.{and, alike-refl}
 use Rattle.text.specs.Text.{text, behind, parts}
 use Rattle.records.specs.declared.Program.{Program}
 use Rattle.records.specs.Records.{all, recordAt}
 use Rattle.rules.specs.Book.{withClock, freshBook}
-use Rattle.rules.specs.Rules.{sizes}
+use Rattle.rules.specs.Rules.{mayStart}
+use Rattle.rules.proofs.shared.Starting.{starts-is}
 use Rattle.rules.specs.Keeper.{lists, State}
 use Rattle.rules.specs.Sound.{Sound}
 use Rattle.tables.specs.declared.Tables.{Tables}
@@ -26,7 +26,7 @@ use Rattle.tables.proofs.Plain.{sound-plain}
 use Rattle.page.specs.Page.{Line, line, endKey, lastWord, usedIn, recordLines, chainLines, heldLines, numberLines, lines, page}
 use Rattle.page.specs.Page as page
 use Rattle.page.proofs.Weights.{keep-length}
-use Rattle.reader.specs.Order.{valueBehind, heading, headForms, firstBad}
+use Rattle.reader.specs.Order.{valueBehind, pageAhead, firstBad}
 use Rattle.reader.specs.Said.{started, withLine, restSaid, recordsSaid, said}
 use Rattle.reader.specs.Reading.{wasRead, notRead, writes, judged, reading}
 use Rattle.reader.proofs.Text.{told, toldAll, told-join, Clean, clean-none, clean-more, clean-append, bytes-parts}
@@ -60,7 +60,7 @@ module _ (a : State lists) (S : Sound a) where
   unfolding lines
   lines-clean =
       clean-append
-      (head-clean (a .book .clock) (a .book .tracks) (a .book .system) (a .book .numbers) (length (usedIn (a .book .programs))))
+      (head-clean (a .book .clock) (a .book .tracks) (a .book .system) (a .book .numbers) (a .book .year) (length (usedIn (a .book .programs))))
       (clean-append (records-clean (a .book) (S .shape .programs) (S .names) (S .zeros) (S .whys) (S .limits) (S .dues))
       (clean-append (chains-clean (a .book) (a .kept) (S .chains))
       (clean-append (held-clean (a .book) (S .shape .holders) (S .limits) (S .system))
@@ -97,39 +97,46 @@ module _ (a : State lists) (S : Sound a) where
   numbers-short : Short (a .book .numbers)
   numbers-short = omega (arith, S .limits .few)
 
-  lines-good : Good (heading headForms) (toldAll (page.parts a) ([] ∷ []))
+  year-short : Short (a .book .year)
+  year-short = omega (arith, S .limits .latest)
+
+  lines-good : Good pageAhead (toldAll (page.parts a) ([] ∷ []))
   lines-good =
-      head-good (a .book .clock) (a .book .tracks) (a .book .system) (a .book .numbers) (length (usedIn (a .book .programs)))
-      clock-short tracks-short system-short numbers-short (used-short (a .book .programs)) behindHead
+      head-good (a .book .clock) (a .book .tracks) (a .book .system) (a .book .numbers) (a .book .year) (length (usedIn (a .book .programs)))
+      clock-short tracks-short system-short numbers-short year-short (used-short (a .book .programs)) behindHead
       (records-good (a .book) (S .shape .programs) (S .names) (S .zeros) (S .whys) (S .limits) (S .dues) behindRecords
       (chains-unmarked (a .kept) behindChains)
       (chains-good (a .book) (a .kept) (S .chains) behindChains
       (held-good (a .book) (S .shape .holders) (S .limits) (S .system) behindHeld
       (numbers-good (a .book) (S .shape .resources) (S .limits) (S .unlocked) lastLines end-held end-numbered))))
 
-  pub page-good : firstBad (heading headForms) 1 (parts 10 (page a)) ≡ 0
-  page-good = ap (firstBad (heading headForms) 1) page-lines ∙ lines-good .none 1
+  pub page-good : firstBad pageAhead 1 (parts 10 (page a)) ≡ 0
+  page-good = ap (firstBad pageAhead 1) page-lines ∙ lines-good .none 1
 
   -- fresh tables of those sizes
-  sizes-allowed : sizes (a .book .tracks) (a .book .system) (a .book .numbers) ≡ true
-  sizes-allowed =
-      and (and (upTo-is 1 256 (a .book .tracks) (S .limits .some) (S .limits .most))
-      (le-leb (a .book .system) (a .book .tracks) (S .limits .first)))
-      (le-leb (a .book .numbers) 16 (S .limits .few))
+  may-start : mayStart (a .book .tracks) (a .book .system) (a .book .numbers) (a .book .year) ≡ true
+  may-start = starts-is (a .book .tracks) (a .book .system) (a .book .numbers) (a .book .year) (record {
+    some = S .limits .some;
+    most = S .limits .most;
+    first = S .limits .first;
+    few = S .limits .few;
+    earliest = S .limits .earliest;
+    latest = S .limits .latest;
+  })
 
   abbrev fresh : State lists
   fresh = record {
-    book = withClock (a .book .clock) (freshBook (a .book .tracks) (a .book .system) (a .book .numbers));
+    book = withClock (a .book .clock) (freshBook (a .book .tracks) (a .book .system) (a .book .numbers) (a .book .year));
     kept = lists .none;
   }
 
-  started-fresh : started (a .book .clock) (a .book .tracks) (a .book .system) (a .book .numbers) ≡ fresh
+  started-fresh : started (a .book .clock) (a .book .tracks) (a .book .system) (a .book .numbers) (a .book .year) ≡ fresh
   started-fresh =
       ap (λ (t : Bool). record {
-        book = withClock (a .book .clock) (cond t (freshBook (a .book .tracks) (a .book .system) (a .book .numbers)) (freshBook 1 0 0));
+        book = withClock (a .book .clock) (cond t (freshBook (a .book .tracks) (a .book .system) (a .book .numbers) (a .book .year)) (freshBook 1 0 0 1975));
         kept = lists .none;
       })
-      sizes-allowed
+      may-start
 
   -- and what is put into them
   abbrev recordsIn : State lists
@@ -143,8 +150,8 @@ module _ (a : State lists) (S : Sound a) where
 
   lines-said : said (toldAll (page.parts a) ([] ∷ [])) ≡ a
   lines-said =
-      head-said (a .book .clock) (a .book .tracks) (a .book .system) (a .book .numbers) (length (usedIn (a .book .programs)))
-      clock-short tracks-short system-short numbers-short (used-short (a .book .programs)) behindHead
+      head-said (a .book .clock) (a .book .tracks) (a .book .system) (a .book .numbers) (a .book .year) (length (usedIn (a .book .programs)))
+      clock-short tracks-short system-short numbers-short year-short (used-short (a .book .programs)) behindHead
       ∙ ap (λ (x : State lists). recordsSaid (length (usedIn (a .book .programs))) x behindHead) started-fresh
       ∙ records-said (a .book) (S .shape .programs) (S .names) (S .zeros) (S .whys) (S .limits) (S .dues) fresh behindRecords
       (chains-unmarked (a .kept) behindChains)

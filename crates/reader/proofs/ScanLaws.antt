@@ -10,8 +10,8 @@ use Rattle.text.specs.Text.{text, behind}
 use Rattle.text.proofs.Words.{behind-append}
 use Rattle.page.specs.Page.{line, heldKey, numberKey, endKey, lastWord}
 use Rattle.shapes.specs.Shapes.{there, otherwise, figure, runIn, numbered}
-use Rattle.reader.specs.Order.{Form, heldForm, numberForm, endForm, Place, heading, recording, chaining, holding, numbering}
-use Rattle.reader.specs.Order.{ended, Choice, choice, chainsAhead, recordsAhead, recordAhead}
+use Rattle.reader.specs.Order.{Form, heldForm, numberForm, endForm, Place, opening, heading, recording, chaining, holding, numbering}
+use Rattle.reader.specs.Order.{ended, Choice, choice, yearAhead, chainsAhead, recordsAhead, recordAhead}
 use Rattle.reader.specs.Order.{valueBehind, afterKind, afterOne, behindLine, firstBad}
 use Rattle.reader.proofs.Text.{content, told}
 
@@ -42,8 +42,16 @@ pass f then cs v e =
     (value-behind (f .key) v)
     ∙ ap (λ (t : Bool). afterKind (then v) t (afterOne cs l)) e
 
--- lines of the head, the last of which says how many records come
+-- lines of the head: the first ones, and those behind the year, the last of which says how many records come
 module _ {f : Form} (v : List ℕ) {ls : List (List ℕ)} (e : f .shape v ≡ true) where
+  pub first-step : {g : Form} {fs : List Form} → Good (opening (g ∷ fs)) ls → Good (opening (f ∷ g ∷ fs)) ((f .key ++ (61 ∷ v)) ∷ ls)
+  unfolding behindLine
+  first-step {g} {fs} h = good-step (f .key ++ (61 ∷ v)) ls (pass f (λ w. opening (g ∷ fs)) [] v e) h
+
+  pub first-last : Good yearAhead ls → Good (opening (f ∷ [])) ((f .key ++ (61 ∷ v)) ∷ ls)
+  unfolding behindLine
+  first-last h = good-step (f .key ++ (61 ∷ v)) ls (pass f (λ w. yearAhead) [] v e) h
+
   pub head-step : {g : Form} {fs : List Form} → Good (heading (g ∷ fs)) ls → Good (heading (f ∷ g ∷ fs)) ((f .key ++ (61 ∷ v)) ∷ ls)
   unfolding behindLine
   head-step {g} {fs} h = good-step (f .key ++ (61 ∷ v)) ls (pass f (λ w. heading (g ∷ fs)) [] v e) h

@@ -13,7 +13,7 @@ use Rattle.records.specs.Records.{unused}
 use Rattle.tracks.specs.declared.Tracks.{Tracks}
 use Rattle.tracks.specs.Tracks as tracks
 use Rattle.rules.specs.Book.{Book, withClock, withHolders, withResources, freshBook}
-use Rattle.rules.specs.Rules.{sizes}
+use Rattle.rules.specs.Rules.{mayStart}
 use Rattle.rules.specs.Keeper.{lists, State}
 use Rattle.tables.specs.declared.Tables.{Tables}
 use Rattle.tables.specs.Tables.{lay}
@@ -24,7 +24,7 @@ use Rattle.reader.specs.declared.parts.Records.{Records}
 use Rattle.reader.specs.declared.parts.Chains.{Chains}
 use Rattle.reader.specs.declared.parts.Held.{Held}
 use Rattle.reader.specs.declared.parts.Numbered.{Numbered}
-use Rattle.reader.specs.Order.{heading, headForms, firstBad}
+use Rattle.reader.specs.Order.{pageAhead, firstBad}
 use Rattle.reader.specs.Said.{onBook, started, said}
 use Rattle.reader.specs.Reading.{notRead, judged, reading}
 use Rattle.shapes.specs.Inner.{byte}
@@ -32,13 +32,13 @@ use Rattle.reader.specs.Inner.{narrowRecord}
 use Rattle.reader.specs.Walks.{ahead, Onward, withPrograms, withChains, Holds, Keeps, narrow}
 use Rattle.reader.specs.Walks.{HeadIs, RecordsAre, RecordsRead, ChainsAre, ChainsRead, HeldRead, NumbersRead, EndRead}
 use Rattle.reader.proofs.Narrowing.{narrow-judged}
-use Rattle.reader.proofs.Assembling.{links-these, fresh-holds, fresh-keeps, assembled}
+use Rattle.reader.proofs.Assembling.{links-these, fresh-holds, fresh-keeps, fresh-clock, assembled}
 
 -- records of fresh tables are unused, and chains leave the book as it is
-started-programs : (clock T S R : ℕ) → started clock T S R .book .programs ≡ replicate mostPrograms unused
-started-programs clock T S R = go (sizes T S R)
+started-programs : (clock T S R Y : ℕ) → started clock T S R Y .book .programs ≡ replicate mostPrograms unused
+started-programs clock T S R Y = go (mayStart T S R Y)
   where
-    go : (b : Bool) → withClock clock (cond b (freshBook T S R) (freshBook 1 0 0)) .programs ≡ replicate mostPrograms unused
+    go : (b : Bool) → withClock clock (cond b (freshBook T S R Y) (freshBook 1 0 0 1975)) .programs ≡ replicate mostPrograms unused
     go true = refl
     go false = refl
 
@@ -68,7 +68,7 @@ nothing-left s at h e = e ∙ sym nothing ∙ sym (ap reading (drop-of-length-le
 
 module _ (s : List ℕ) (at : ℕ) where
   abbrev bad : ℕ
-  bad = firstBad (heading headForms) 1 (ahead s at)
+  bad = firstBad pageAhead 1 (ahead s at)
 
   -- a line is not well formed
   pub bad-page : (k : ℕ) → 1 ≤ k → bad ≡ k → {x : Result} → x ≡ notRead k → x ≡ reading (drop at s)
@@ -77,13 +77,13 @@ module _ (s : List ℕ) (at : ℕ) where
   bad-page (suc k) h e f = f ∙ sym (ap (λ (n : ℕ). judged (drop at s) n (lay (said (ahead s at)))) e)
 
   module _ (h : Head) (H : HeadIs s at h) where
-    pub records-next : Onward s (h .at) 7
-    records-next = record { within = H .within; some = omega arith; counted = omega (arith, H .beyond) }
+    pub records-next : Onward s (h .at) (h .line)
+    records-next = record { within = H .within; some = H .some; counted = omega (arith, H .beyond, H .few) }
 
-    pub bad-records : (r : Records) → RecordsRead s (h .at) 7 (h .programs) r → 1 ≤ r .bad → bad ≡ r .bad
+    pub bad-records : (r : Records) → RecordsRead s (h .at) (h .line) (h .programs) r → 1 ≤ r .bad → bad ≡ r .bad
     bad-records r R k = H .scan ∙ R .stops k
 
-    module _ (r : Records) (R : RecordsAre s (h .at) 7 (h .programs) r) where
+    module _ (r : Records) (R : RecordsAre s (h .at) (h .line) (h .programs) r) where
       pub bad-chains : (c : Chains) → ChainsRead s (r .at) (r .line) c → 1 ≤ c .bad → bad ≡ c .bad
       bad-chains c C k = H .scan ∙ R .scan ∙ C .stops k
 
@@ -94,7 +94,7 @@ module _ (s : List ℕ) (at : ℕ) where
             bad-end x E = H .scan ∙ R .scan ∙ C .scan ∙ D .scan ∙ N .scan ∙ E .scan
 
             abbrev a₀ : State lists
-            a₀ = started (h .clock) (h .tracks) (h .system) (h .numbers)
+            a₀ = started (h .clock) (h .tracks) (h .system) (h .numbers) (h .year)
 
             abbrev a₁ : State lists
             a₁ = withPrograms (R .told) a₀
@@ -102,19 +102,19 @@ module _ (s : List ℕ) (at : ℕ) where
             abbrev a₂ : State lists
             a₂ = withChains chained (C .told) a₁
 
-            module _ (tf : t ≡ made (h .tracks) (h .system) (h .numbers) .tables .ledger .tracks)
-                (uf : u ≡ made (h .tracks) (h .system) (h .numbers) .tables .ledger .numbers) where
+            module _ (tf : t ≡ made (h .tracks) (h .system) (h .numbers) (h .year) .tables .ledger .tracks)
+                (uf : u ≡ made (h .tracks) (h .system) (h .numbers) (h .year) .tables .ledger .numbers) where
               held₂ : Holds t a₂
               held₂ =
                   holds-as t a₂ a₁ (chains-book chained (C .told) a₁)
-                  (let k = subst (λ (x : Tracks). Holds x a₀) (sym tf) (fresh-holds (h .clock) (h .tracks) (h .system) (h .numbers)) in
+                  (let k = subst (λ (x : Tracks). Holds x a₀) (sym tf) (fresh-holds (h .clock) (h .tracks) (h .system) (h .numbers) (h .year)) in
                   record { table = k .table; long = k .long })
 
               kept₂ : Keeps u a₂
               kept₂ =
                   keeps-as u a₂ a₁ (chains-book chained (C .told) a₁)
                   (let k = subst (λ (x : records.Numbers). Keeps x a₀) (sym uf)
-                  (fresh-keeps (h .clock) (h .tracks) (h .system) (h .numbers)) in
+                  (fresh-keeps (h .clock) (h .tracks) (h .system) (h .numbers) (h .year)) in
                   record { table = k .table; long = k .long })
 
               abbrev a₃ : State lists
@@ -129,10 +129,10 @@ module _ (s : List ℕ) (at : ℕ) where
               said-is : EndRead s (n .at) (n .line) 0 → said (ahead s at) ≡ a₄
               said-is E =
                   H .says ∙ R .says (C .scan ∙ D .scan ∙ N .scan ∙ E .scan) a₀
-                  (started-programs (h .clock) (h .tracks) (h .system) (h .numbers)) ∙ C .says a₁
+                  (started-programs (h .clock) (h .tracks) (h .system) (h .numbers) (h .year)) ∙ C .says a₁
                   ∙ D .of a₂ held₂ .says ∙ N .of a₃ kept₃ .says ∙ E .says refl a₄
 
-              tables-are : (x : Tables) → x .ledger .programs ≡ r .programs → x .ledger .clock .ticks ≡ h .clock
+              tables-are : (x : Tables) → x .ledger .programs ≡ r .programs → x .ledger .clock ≡ record { ticks = h .clock; year = made (h .tracks) (h .system) (h .numbers) (h .year) .tables .ledger .clock .year }
                   → x .ledger .tracks ≡ d .tracks
                   → x .ledger .numbers ≡ n .numbers → x .links ≡ c .links → x ≡ lay (narrow a₄)
               tables-are x P K T U L =
@@ -140,13 +140,14 @@ module _ (s : List ℕ) (at : ℕ) where
                   let v = D .of a₂ held₂ .held in
                   let w = N .of a₃ kept₃ .held in
                   assembled x a₄ (P ∙ R .held ∙ sym (ap (λ (y : Book). map narrowRecord (y .programs)) b))
-                  (K ∙ sym (ap (λ (y : Book). y .clock) b))
+                  (K ∙ fresh-clock (h .clock) (h .tracks) (h .system) (h .numbers) (h .year)
+                  ∙ sym (ap (λ (y : Book). record { ticks = y .clock; year = y .year }) b))
                   (record { table = T ∙ v .table; long = v .long }) (record { table = U ∙ w .table; long = w .long })
                   (L ∙ C .held ∙ sym (links-these a₁ refl (C .told)))
 
               -- all lines are well formed
               pub whole-page : EndRead s (n .at) (n .line) 0 → (x : Tables) → x .ledger .programs ≡ r .programs
-                  → x .ledger .clock .ticks ≡ h .clock
+                  → x .ledger .clock ≡ record { ticks = h .clock; year = made (h .tracks) (h .system) (h .numbers) (h .year) .tables .ledger .clock .year }
                   → x .ledger .tracks ≡ d .tracks → x .ledger .numbers ≡ n .numbers → x .links ≡ c .links
                   → {y : Result} → y ≡ judged (drop at s) 0 x → y ≡ reading (drop at s)
               unfolding reading

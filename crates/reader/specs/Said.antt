@@ -1,4 +1,4 @@
--- What the lines of a page say, where all of them are well formed: fresh tables of those sizes, in which each line puts what
+-- What the lines of a page say, where all of them are well formed: fresh tables of that year and those sizes, in which each line puts what
 -- it says. A line that names no record, no tracks or no number of these tables puts nothing.
 -- Assumes nothing.
 use Prim.Native.Nat.{ℕ, zero, suc, _-_}
@@ -19,9 +19,9 @@ use Rattle.tracks.specs.declared.held.Run.{Run}
 use Rattle.tracks.specs.Tracks.{filled}
 use Rattle.limits.specs.Limits.{usualYear}
 use Rattle.rules.specs.Book.{Book, put, withClock, withHolders, withResources, freshBook}
-use Rattle.rules.specs.Rules.{sizes}
+use Rattle.rules.specs.Rules.{mayStart}
 use Rattle.rules.specs.Keeper.{lists, State}
-use Rattle.page.specs.Page.{clockKey, yearKey, tracksKey, systemKey, numbersKey, programsKey, idKey, nameKey, priorityKey, stateKey, whyKey, dueKey}
+use Rattle.page.specs.Page.{clockKey, tracksKey, systemKey, numbersKey, programsKey, idKey, nameKey, priorityKey, stateKey, whyKey, dueKey}
 use Rattle.page.specs.Page.{intervalKey, firstKeys, sizeKeys, recordKeys, heldKey, numberKey, chained, keyOfChain}
 use Rattle.shapes.specs.Shapes.{otherwise, figure, figureOrDash, reasonOf, listed, runIn, Numbered, numbered}
 use Rattle.reader.specs.Order.{Form, yearForm, markForm, valueBehind}
@@ -52,12 +52,13 @@ markedBy ls = beginsWith markForm ls
 
 -- the head: what FRESH yields for this year and these sizes, the smallest where they are not allowed, at that time
 abbrev pub started : ℕ → ℕ → ℕ → ℕ → ℕ → State lists
-started clock Y T S R =
-    record { book = withClock clock (cond (sizes T S R Y) (freshBook T S R Y) (freshBook 1 0 0 usualYear)); kept = lists .none }
+started clock T S R Y =
+    record { book = withClock clock (cond (mayStart T S R Y) (freshBook T S R Y) (freshBook 1 0 0 usualYear)); kept = lists .none }
 
--- the year, by the lines behind the first: the usual one where there is no line for it
+-- the year, by the lines behind the first two: the usual one where the first of them is none for it
 abbrev pub yearSaid : List (List ℕ) → ℕ
-yearSaid ls = cond (beginsWith yearForm ls) (figureOf yearKey ls) usualYear
+yearSaid [] = usualYear
+yearSaid (l ∷ ls) = elim (valueBehind (yearForm .key) l) [ some v ↦ otherwise usualYear (figure v) | none ↦ usualYear ]
 
 -- a record, by its lines, and whether a mark stands behind them
 abbrev pub recordIn : List (List ℕ) → Bool → Program
@@ -132,5 +133,5 @@ said ls =
     let behind : List (List ℕ) = drop (hit (beginsWith yearForm rest)) rest in
     let own : List (List ℕ) = take (length sizeKeys) behind in
     recordsSaid (figureOf programsKey own)
-    (started (figureOf clockKey first) (yearSaid rest) (figureOf tracksKey own) (figureOf systemKey own) (figureOf numbersKey own))
+    (started (figureOf clockKey first) (figureOf tracksKey own) (figureOf systemKey own) (figureOf numbersKey own) (yearSaid rest))
     (drop (length sizeKeys) behind)

@@ -50,7 +50,7 @@ pub record HeadIs (s : List ℕ) (at : ℕ) (r : Head) : Type 0 where
   pub some : 1 ≤ r .line
   pub scan : firstBad pageAhead 1 (ahead s at) ≡ firstBad (recordsAhead (r .programs)) (r .line) (ahead s (r .at))
   pub says : said (ahead s at)
-      ≡ recordsSaid (r .programs) (started (r .clock) (r .year) (r .tracks) (r .system) (r .numbers)) (ahead s (r .at))
+      ≡ recordsSaid (r .programs) (started (r .clock) (r .tracks) (r .system) (r .numbers) (r .year)) (ahead s (r .at))
 
 pub record HeadRead (s : List ℕ) (at : ℕ) (r : Head) : Type 0 where
   pub read : r .bad ≡ 0 → HeadIs s at r

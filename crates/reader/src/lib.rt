@@ -15,6 +15,7 @@ pub use holding::read;
 pub use holding::read_page;
 use ledger::Ledger;
 use limits::PAGE_ROOM;
+use limits::USUAL_YEAR;
 use rules::Answer;
 use tables::Outcome;
 use tables::Tables;
@@ -23,7 +24,7 @@ use tables::Tables;
 fn not_read(line: u64) -> Outcome
     ensures { λ r. ⌜ told r ≡ notRead line ⌝ }
 {
-    let fresh = Tables::fresh(1, 0, 0);
+    let fresh = Tables::fresh(1, 0, 0, USUAL_YEAR as u64);
     let smallest = fresh.tables;
     Outcome {
         answer: Answer::NotRead(line),
@@ -61,7 +62,7 @@ pub fn read_from(s: &[u8], at: usize) -> Outcome
     if head.bad != 0 {
         return not_read(head.bad);
     }
-    let records = parts::read_records(s, head.at, 7, head.programs);
+    let records = parts::read_records(s, head.at, head.line, head.programs);
     if records.bad != 0 {
         return not_read(records.bad);
     }
@@ -69,7 +70,7 @@ pub fn read_from(s: &[u8], at: usize) -> Outcome
     if chains.bad != 0 {
         return not_read(chains.bad);
     }
-    let fresh = Tables::fresh(head.tracks, head.system, head.numbers);
+    let fresh = Tables::fresh(head.tracks, head.system, head.numbers, head.year);
     let begun = fresh.tables;
     let blank = begun.ledger;
     let held = parts::read_held(s, chains.at, chains.line, blank.tracks);
@@ -84,7 +85,7 @@ pub fn read_from(s: &[u8], at: usize) -> Outcome
     let resources = numbers.numbers;
     let ledger = Ledger {
         programs: programs,
-        clock: Clock::from_ticks(head.clock),
+        clock: Clock::from_ticks(head.clock, blank.clock.year),
         tracks: tracks,
         numbers: resources,
     };

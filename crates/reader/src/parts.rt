@@ -9,9 +9,10 @@ ghost use Rattle.shapes.specs.Inner.{NoLine, numberIn};
 ghost use mathlib.Core.Path.{_≡_};
 ghost use Rattle.records.specs.Inner as records;
 ghost use Rattle.tracks.specs.Inner.{Fit};
-ghost use Rattle.reader.specs.Walks.{Onward, HeadRead, RecordRead, RecordsRead, ChainsRead, HeldRead, NumbersRead, EndRead};
+ghost use Rattle.reader.specs.Walks.{Onward, YearRead, HeadRead, RecordRead, RecordsRead, ChainsRead, HeldRead, NumbersRead, EndRead};
 use chains::SLOTS;
 use limits::MOST_PROGRAMS;
+use limits::USUAL_YEAR;
 use page::keys;
 use records::Numbers;
 use records::Program;
@@ -26,13 +27,22 @@ use shapes::values::Run;
 use text::Place;
 use tracks::Tracks;
 
+// The year's line, one or none: what it says, or the usual year, and the place behind it.
+pub(crate) struct Year {
+    pub(crate) lines: u64,
+    pub(crate) at: usize,
+    pub(crate) year: u64,
+}
+
 pub(crate) struct Head {
     pub(crate) bad: u64,
     pub(crate) at: usize,
+    pub(crate) line: u64,
     pub(crate) clock: u64,
     pub(crate) tracks: u64,
     pub(crate) system: u64,
     pub(crate) numbers: u64,
+    pub(crate) year: u64,
     pub(crate) programs: u64,
 }
 
@@ -78,11 +88,31 @@ fn no_head(bad: u64) -> Head
     Head {
         bad: bad,
         at: 0,
+        line: 0,
         clock: 0,
         tracks: 0,
         system: 0,
         numbers: 0,
+        year: 0,
         programs: 0,
+    }
+}
+
+fn read_year(s: &[u8], at: usize) -> Year
+    requires { ⌜ at ≤ length (now s) ⌝ }
+    ensures { λ r. ⌜ YearRead (now (s .entry)) at r ⌝ }
+{
+    let Figure::Is(year, next) = lines::figure_at(s, at, &keys::YEAR) else {
+        return Year {
+            lines: 0,
+            at: at,
+            year: USUAL_YEAR as u64,
+        };
+    };
+    Year {
+        lines: 1,
+        at: next,
+        year: year,
     }
 }
 
@@ -96,25 +126,28 @@ pub(crate) fn read_head(s: &[u8], at: usize) -> Head
     let Figure::Is(clock, b) = lines::figure_at(s, a, &keys::CLOCK) else {
         return no_head(2);
     };
-    let Figure::Is(tracks, c) = lines::figure_at(s, b, &keys::TRACKS) else {
-        return no_head(3);
+    let y = read_year(s, b);
+    let Figure::Is(tracks, c) = lines::figure_at(s, y.at, &keys::TRACKS) else {
+        return no_head(3 + y.lines);
     };
     let Figure::Is(system, d) = lines::figure_at(s, c, &keys::SYSTEM) else {
-        return no_head(4);
+        return no_head(4 + y.lines);
     };
     let Figure::Is(numbers, e) = lines::figure_at(s, d, &keys::NUMBERS) else {
-        return no_head(5);
+        return no_head(5 + y.lines);
     };
     let Figure::Is(programs, f) = lines::figure_at(s, e, &keys::PROGRAMS) else {
-        return no_head(6);
+        return no_head(6 + y.lines);
     };
     Head {
         bad: 0,
         at: f,
+        line: 7 + y.lines,
         clock: clock,
         tracks: tracks,
         system: system,
         numbers: numbers,
+        year: y.year,
         programs: programs,
     }
 }

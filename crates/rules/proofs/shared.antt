@@ -9,3 +9,4 @@ pub mod Ordering
 pub mod Settling
 pub mod OneAnswer
 pub mod ManyTicks
+pub mod Starting

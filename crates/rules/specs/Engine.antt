@@ -10,7 +10,7 @@ use Rattle.limits.specs.Limits.{mostTicks, usualYear}
 use Rattle.lists.specs.Lists.{sum, upTo}
 use Rattle.clock.specs.Clock.{ceiling}
 use Rattle.rules.specs.Requests.{Request, TICK}
-use Rattle.rules.specs.Rules.{sizes}
+use Rattle.rules.specs.Rules.{mayStart}
 
 -- the number, the values, and the tables (OUTLINE, "Answer numbers")
 pub record Reply (S : Type 0) : Type 0 where
@@ -40,7 +40,7 @@ front bytes buf = bytes ++ drop (length bytes) buf
 -- FRESH, which takes no tables, where `new` makes fresh ones: refused it yields the smallest
 unfoldable pub madeBy : {S : Type 0} → (ℕ → ℕ → ℕ → ℕ → S) → ℕ → ℕ → ℕ → ℕ → Reply S
 madeBy new T S R Y =
-    cond (sizes T S R Y) (record { number = 0; values = 0 ∷ []; tables = new T S R Y })
+    cond (mayStart T S R Y) (record { number = 0; values = 0 ∷ []; tables = new T S R Y })
     (record { number = 3; values = 0 ∷ []; tables = new 1 0 0 usualYear })
 
 -- TICK,n is n single ticks one after another, where `asked` says what a request comes to (OUTLINE, "Many ticks at once"): the tables

@@ -162,13 +162,17 @@ head (p ∷ ps) = p
 unfoldable pub asCaller : View → (ℕ → Plan) → Plan
 asCaller v f = need (ltb 0 (head (v .chain scheduled))) 2 0 (f (head (v .chain scheduled)))
 
--- T from 1 to 256, S from 0 to T, R from 0 to 16 (OUTLINE, "The tables"); the start year from 1970 to 2099 (OUTLINE, "Leap years")
-abbrev pub sizes : ℕ → ℕ → ℕ → ℕ → Bool
-sizes T S R Y = upTo 1 mostTracks T && leb S T && leb R mostNumbers && upTo firstYear lastYear Y
+-- T from 1 to 256, S from 0 to T, R from 0 to 16 (OUTLINE, "The tables")
+abbrev pub sizes : ℕ → ℕ → ℕ → Bool
+sizes T S R = upTo 1 mostTracks T && leb S T && leb R mostNumbers
+
+-- and the start year from 1970 to 2099 (OUTLINE, "Leap years")
+abbrev pub mayStart : ℕ → ℕ → ℕ → ℕ → Bool
+mayStart T S R Y = sizes T S R && upTo firstYear lastYear Y
 
 -- a request
 unfoldable pub plan : View → Request → Plan
-plan v (FRESH T S R Y) = need (sizes T S R Y) 3 0 (done (0 ∷ []) (renewed T S R Y ∷ []))
+plan v (FRESH T S R Y) = need (mayStart T S R Y) 3 0 (done (0 ∷ []) (renewed T S R Y ∷ []))
 plan v (LOAD nm n) =
     need (legal nm && leb n lastPriority) 3 0
     (need (eqb (find (v .book .programs) nm) 0) 6 0

@@ -53,7 +53,7 @@ pub enum Call {
 
 // Every request, but for the name in it.
 pub enum Request {
-    Fresh(u64, u64, u64),
+    Fresh(u64, u64, u64, u64),
     Load(u64),
     Operator(Order),
     Tick,

@@ -30,6 +30,7 @@ use Rattle.rules.specs.Keeper.{lists, view, step}
 use Rattle.rules.specs.Engine.{madeBy}
 use Rattle.rules.specs.Keeper as keeper
 use Rattle.chains.specs.declared.Listing.{Listing}
+use Rattle.rules.proofs.shared.Starting.{Starts, starts-is}
 use Rattle.decisions.specs.declared.Decision.{Decision}
 use Rattle.decisions.specs.declared.Effect.{Effect}
 use Rattle.decisions.specs.declared.Effect.the-variants.{Renew}
@@ -96,9 +97,12 @@ module _ (t : Tables) (nm : List ℕ) (a : Answer) (e : Effect) (u : Tables) (h 
   made-counted n w =
       λ i. record { number = sym w i .0; values = sym w i .1; tables = laid-says t u (eventsFor (view lists (plain t)) nm e) h S i }
 
-pub made-anew : (t : Tables) (nm : List ℕ) (a : Answer) (T S R : ℕ) → Sizes T S R → made T S R ≡ carried t nm a (Renew T S R)
+pub made-anew : (t : Tables) (nm : List ℕ) (a : Answer) (T S R Y : ℕ) → Sizes T S R Y → made T S R Y ≡ carried t nm a (Renew T S R Y)
 unfolding step madeBy
-made-anew t nm a T S R Z = rw (and (and (upTo-is 1 256 T (Z .least) (Z .most)) (le-leb S T (Z .part))) (le-leb R 16 (Z .few)), madeBy) refl
+made-anew t nm a T S R Y Z =
+    let W : Starts T S R Y =
+        record { some = Z .least; most = Z .most; first = Z .part; few = Z .few; earliest = Z .earliest; latest = Z .latest } in
+    rw (starts-is T S R Y W, madeBy) refl
 
 -- OF
 pub dismissal : (t : Tables) (p k n : ℕ) (u : Tables)

@@ -76,6 +76,7 @@ abbrev aside : State lists → Book
 aside a = record {
   programs = [];
   clock = a .book .clock;
+  year = a .book .year;
   tracks = a .book .tracks;
   system = a .book .system;
   numbers = a .book .numbers;

@@ -88,6 +88,6 @@ module _ (t : Tables) (A : Arrays t) (e : sound t ≡ true) where
               go false m = subst Q (sym (told _ (once m))) y
 
   -- whoever is woken goes to state 1, or to 6 where its mark stood, which is gone
-  pub over : (q : Request) → ((T B R : ℕ) → q ≢ FRESH T B R) → (p : ℕ) → Known p → (Party (view lists (plain t)) p q → ⊥)
+  pub over : (q : Request) → ((T B R Y : ℕ) → q ≢ FRESH T B R Y) → (p : ℕ) → Known p → (Party (view lists (plain t)) p q → ⊥)
       → 1 ≤ count p (woken (view lists (plain t)) (releaseOf (asks lists (plain t) q))) → Over t q p
   over q old p P apart h = ap (λ (a : State lists). at (a .book) p) (after-is t A e q) ∙ woken-over (plain t) S q p P old apart h

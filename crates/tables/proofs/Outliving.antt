@@ -115,7 +115,7 @@ module _ (a : State lists) (S : rules.Sound a) (p : ℕ) (P : Known p) (m : at (
   on-fate : (q : Request) → On (asks lists a q) → Became q
   on-fate q o = waits-on (o .stays-so .state) (o .stays-so .why) (o .stays-so .mark)
 
-  bystander : (q : Request) → ((T B R : ℕ) → q ≢ FRESH T B R) → (Party v p q → ⊥) → Became q
+  bystander : (q : Request) → ((T B R Y : ℕ) → q ≢ FRESH T B R Y) → (Party v p q → ⊥) → Became q
   bystander q old apart = go (at (after lists a q .book) p) (stirred a S q p P old apart)
     where
       go : (s : Program) → Stirred r s → Fate r s
@@ -156,7 +156,7 @@ module _ (a : State lists) (S : rules.Sound a) (p : ℕ) (P : Known p) (m : at (
   other _ u (party.timed nm x y z e) = u e
 
   by-call : (c : Call) → Unnamed c → Became (running c)
-  by-call c u = bystander (running c) (λ T B R e. let o : _≡_ {A = ℕ} 0 1 = cc in omega arith) (other c u)
+  by-call c u = bystander (running c) (λ T B R Y e. let o : _≡_ {A = ℕ} 0 1 = cc in omega arith) (other c u)
 
   called-on : (c : Call) → ((x : ℕ) → On (call v x c)) → Became (running c)
   unfolding plan
@@ -200,13 +200,13 @@ module _ (a : State lists) (S : rules.Sound a) (p : ℕ) (P : Known p) (m : at (
           on-fate (operator o nm)
           (by-need refusing _ _ _ _ refl (λ l. by-named refusing v nm _ (λ h. ordered-on o _ e (λ k i. n k i e))))
       go (no d) =
-          bystander (operator o nm) (λ T B R e. let i : _≡_ {A = ℕ} 0 1 = cc in omega arith) apart
+          bystander (operator o nm) (λ T B R Y e. let i : _≡_ {A = ℕ} 0 1 = cc in omega arith) apart
         where
           apart : Party v p (operator o nm) → ⊥
           apart (ordered q w e) = d e
 
   load-fate : (nm : List ℕ) (n : ℕ) → Became (LOAD nm n)
-  load-fate nm n = bystander (LOAD nm n) (λ T B R e. let i : _≡_ {A = ℕ} 0 1 = cc in omega arith) apart
+  load-fate nm n = bystander (LOAD nm n) (λ T B R Y e. let i : _≡_ {A = ℕ} 0 1 = cc in omega arith) apart
     where
       apart : Party v p (LOAD nm n) → ⊥
       apart (takes-name w k e) =
@@ -245,10 +245,10 @@ module _ (t : Tables) (A : Arrays t) (e : sound t ≡ true) (p : ℕ) (P : Known
           (moves-on (plain t .book .clock + 1))
       go false l = of-after TICK (late (plain t) S p P m (λ w. clash w l))
 
-  pub outlives : (q : Request) → ((T B R : ℕ) → q ≢ FRESH T B R)
+  pub outlives : (q : Request) → ((T B R Y : ℕ) → q ≢ FRESH T B R Y)
       → ((k : ℕ) (nm : List ℕ) → q ≡ operator (OF k) nm → find (plain t .book .programs) nm ≢ p)
       → Fate (at (plain t .book) p) (at (plain (asked t q .tables) .book) p)
-  outlives (FRESH T B R) old n = absurd (old T B R refl)
+  outlives (FRESH T B R Y) old n = absurd (old T B R Y refl)
   outlives (LOAD nm k) old n = of-after (LOAD nm k) (load-fate (plain t) S p P m nm k)
   outlives (operator o nm) old n =
       of-after (operator o nm) (operator-fate (plain t) S p P m o nm (λ k i. n k nm (ap (λ (x : Order). operator x nm) i)))

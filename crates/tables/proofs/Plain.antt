@@ -48,6 +48,7 @@ module _ (a : State lists) (S : rules.Sound a) where
       λ i. record {
         programs = a .book .programs;
         clock = a .book .clock;
+        year = a .book .year;
         tracks = a .book .tracks;
         system = a .book .system;
         numbers = a .book .numbers;

@@ -114,8 +114,8 @@ module _ (a : State lists) (S : rules.Sound a) (nm : List ℕ) (h : 1 ≤ find (
       let s = stirred-name (at (a .book) z) (at (after lists a q .book) z) (stirred a S q z (Z .known) other apart) in
       n (S .names .distinct z p (Z .known) (B .known) (sym (s .0) ∙ Z .used) (B .used) (sym (s .1) ∙ Z .name ∙ sym (B .name)))
     where
-      other : (T O R : ℕ) → q ≢ FRESH T O R
-      other T O R e = let o : _≡_ {A = ℕ} 0 1 = cc in omega arith
+      other : (T O R Y : ℕ) → q ≢ FRESH T O R Y
+      other T O R Y e = let o : _≡_ {A = ℕ} 0 1 = cc in omega arith
 
       apart : Party (view lists a) z q → ⊥
       apart (ordered o m e) = n (sym e)

@@ -55,8 +55,16 @@ accounts-same b c k e s p A = record {
     at-state z = ap (λ (f : ℕ → ℕ). f z) s
 
 module _ (t : Tables) (O : Orderly t) (now : ℕ) where
-  abbrev with : List Program → Clock → Tables
-  with ps k = record { ledger = record { programs = ps; clock = k; tracks = t .ledger .tracks; numbers = t .ledger .numbers }; links = t .links }
+  abbrev with : List Program → Tables
+  with ps = record {
+    ledger = record {
+      programs = ps;
+      clock = record { ticks = now; year = t .ledger .clock .year };
+      tracks = t .ledger .tracks;
+      numbers = t .ledger .numbers;
+    };
+    links = t .links;
+  }
 
   same-states : stateOf (plain t .book) ≡ stateOf (passed now (plain t) .book)
   same-states = λ i p.
@@ -66,8 +74,8 @@ module _ (t : Tables) (O : Orderly t) (now : ℕ) where
   same-order = λ i p.
       sym (ap (λ (r : Program). r .priority) (passed-at now (t .ledger .programs) (p - 1)) ∙ moved-priority now (at (plain t .book) p)) i
 
-  passed-says : (k : Clock) → k .ticks ≡ now → Says (with (map (moved now) (t .ledger .programs)) k) (passed now (plain t))
-  passed-says k e = record {
+  passed-says : Says (with (map (moved now) (t .ledger .programs))) (passed now (plain t))
+  passed-says = record {
     orderly = record {
       laid = O .laid;
       dormant = O .dormant;
@@ -76,26 +84,14 @@ module _ (t : Tables) (O : Orderly t) (now : ℕ) where
       tracks = O .tracks;
       numbers = O .numbers;
       notes = O .notes;
-      accounts = accounts-same (plain t .book) (plain (with (map (moved now) (t .ledger .programs)) k) .book) (read (t .links)) (O .notes)
+      accounts = accounts-same (plain t .book) (plain (with (map (moved now) (t .ledger .programs))) .book) (read (t .links)) (O .notes)
           same-states same-order (O .accounts);
     };
-    state = λ i. record {
-      book = record {
-        programs = map (moved now) (t .ledger .programs);
-        clock = e i;
-        tracks = t .ledger .tracks .count;
-        system = t .ledger .tracks .system;
-        numbers = t .ledger .numbers .count;
-        holders = holders (t .ledger .tracks);
-        resources = resources (t .ledger .numbers);
-      };
-      kept = read (t .links);
-    };
+    state = refl;
   }
 
-  was-passed : (ps : List Program) (k : Clock) → ps ≡ map (moved now) (t .ledger .programs) → k .ticks ≡ now
-      → Says (with ps k) (passed now (plain t))
-  was-passed ps k P e = subst (λ (qs : List Program). Says (with qs k) (passed now (plain t))) (sym P) (passed-says k e)
+  was-passed : (ps : List Program) → ps ≡ map (moved now) (t .ledger .programs) → Says (with ps) (passed now (plain t))
+  was-passed ps P = subst (λ (qs : List Program). Says (with qs) (passed now (plain t))) (sym P) passed-says
 
 -- one record after another: the first i of a ledger have their timers moved on
 pub record Passing (s : Tables) (now : ℕ) (l : Ledger) (i : ℕ) : Type 0 where
@@ -111,6 +107,11 @@ pub record Passing (s : Tables) (now : ℕ) (l : Ledger) (i : ℕ) : Type 0 wher
 module _ (s : Tables) (now : ℕ) where
   abbrev over : List Program → Ledger
   over ps = record { programs = ps; clock = s .ledger .clock; tracks = s .ledger .tracks; numbers = s .ledger .numbers }
+
+  -- the same at that time
+  abbrev clockedAt : Ledger → Ledger
+  clockedAt x =
+      record { programs = x .programs; clock = record { ticks = now; year = x .clock .year }; tracks = x .tracks; numbers = x .numbers }
 
   pub passing-start : Passing s now (s .ledger) 0
   passing-start = record { within = omega arith; is = refl }
@@ -139,15 +140,11 @@ module _ (s : Tables) (now : ℕ) where
     }
 
     -- all of them, and the clock
-    pub passing-done : Orderly s → 32 ≤ i → (k : Clock) → k .ticks ≡ now
-        → Says (record { ledger = record { programs = l .programs; clock = k; tracks = l .tracks; numbers = l .numbers }; links = s .links })
-        (passed now (plain s))
-    passing-done O h k e =
-        subst (λ (x : Ledger). Says (record {
-          ledger = record { programs = x .programs; clock = k; tracks = x .tracks; numbers = x .numbers };
-          links = s .links;
-        }) (passed now (plain s))) (sym (P .is))
-        (was-passed s O now (changed (moved now) i (s .ledger .programs)) k (changed-all (moved now) i (s .ledger .programs) (omega (arith, O .long, h))) e)
+    pub passing-done : Orderly s → 32 ≤ i → Says (record { ledger = clockedAt l; links = s .links }) (passed now (plain s))
+    passing-done O h =
+        subst (λ (x : Ledger). Says (record { ledger = clockedAt x; links = s .links }) (passed now (plain s))) (sym (P .is))
+        (was-passed s O now (changed (moved now) i (s .ledger .programs))
+        (changed-all (moved now) i (s .ledger .programs) (omega (arith, O .long, h))))
 
 -- THE PROGRAMS, ONE AFTER ANOTHER
 -- those from p on

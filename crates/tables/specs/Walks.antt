@@ -17,7 +17,7 @@ use Rattle.ledger.specs.Inner.{Columns}
 
 -- the tests of soundness that concern chains: of a book they see its records alone
 abbrev pub bookWith : List Program → Book
-bookWith ps = record { programs = ps; clock = 0; tracks = 0; system = 0; numbers = 0; holders = []; resources = [] }
+bookWith ps = record { programs = ps; clock = 0; year = 0; tracks = 0; system = 0; numbers = 0; holders = []; resources = [] }
 
 unfoldable pub testChained : List Program → List ℕ → Bool
 testChained ps l = testChains (bookWith ps) (read l) && testLinks l

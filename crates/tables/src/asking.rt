@@ -35,7 +35,7 @@ impl Tables {
                 answer: answer,
                 tables: self,
             },
-            Effect::Renew(t, s, r) => Tables::fresh(t as u64, s as u64, r as u64),
+            Effect::Renew(t, s, r, y) => Tables::fresh(t as u64, s as u64, r as u64, y as u64),
             Effect::Load(p, n) => Outcome {
                 answer: answer,
                 tables: self.loaded(p, name, n),

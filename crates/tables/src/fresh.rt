@@ -10,35 +10,36 @@ use chains::SLOTS;
 use clock::Clock;
 use ledger::Ledger;
 use limits::MOST_PROGRAMS;
+use limits::USUAL_YEAR;
 use records::Numbers;
 use rules::Answer;
 use tracks::Tracks;
 
 impl Tables {
-    // FRESH: the smallest tables where the sizes are not allowed.
-    pub fn fresh(tracks: u64, system: u64, numbers: u64) -> Outcome
-        ensures { λ r. ⌜ told r ≡ made tracks system numbers ⌝ }
+    // FRESH: the smallest tables where the sizes or the start year are not allowed.
+    pub fn fresh(tracks: u64, system: u64, numbers: u64, year: u64) -> Outcome
+        ensures { λ r. ⌜ told r ≡ made tracks system numbers year ⌝ }
     {
-        if decisions::is_sized(tracks, system, numbers) {
+        if decisions::may_start(tracks, system, numbers, year) {
             return Outcome {
                 answer: Answer::Done(0),
-                tables: Tables::empty(tracks as u16, system as u16, numbers as u8),
+                tables: Tables::empty(tracks as u16, system as u16, numbers as u8, year as u16),
             };
         }
         Outcome {
             answer: Answer::NotAllowed,
-            tables: Tables::empty(1, 0, 0),
+            tables: Tables::empty(1, 0, 0, USUAL_YEAR),
         }
     }
 
-    // Clock 0, no record used, every track from `system` up and every number free.
-    fn empty(tracks: u16, system: u16, numbers: u8) -> Tables
-        requires { ⌜ Sizes tracks system numbers ⌝ }
-        ensures { λ t. ⌜ t ≡ lay (fresh lists tracks system numbers) ⌝ }
+    // Clock 0 of that year, no record used, every track from `system` up and every number free.
+    fn empty(tracks: u16, system: u16, numbers: u8, year: u16) -> Tables
+        requires { ⌜ Sizes tracks system numbers year ⌝ }
+        ensures { λ t. ⌜ t ≡ lay (fresh lists tracks system numbers year) ⌝ }
     {
         let unused = records::unused_record();
         let programs = [unused; MOST_PROGRAMS];
-        let clock = Clock::from_ticks(0);
+        let clock = Clock::from_ticks(0, year);
         let holders = Tracks::fresh(tracks, system);
         let free = Numbers::fresh(numbers);
         let ledger = Ledger {

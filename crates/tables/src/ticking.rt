@@ -11,7 +11,6 @@ use super::Counted;
 use super::Outcome;
 use super::Tables;
 use super::asking;
-use clock::Clock;
 use limits::MOST_PROGRAMS;
 use limits::SCHEDULED;
 use records::Why;
@@ -32,7 +31,7 @@ impl Tables {
                 continue;
             }
         }
-        ledger.clock = Clock::from_ticks(now);
+        ledger.clock.ticks = now;
         let links = self.links;
         Tables { ledger, links }
     }

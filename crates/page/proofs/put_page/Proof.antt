@@ -24,7 +24,7 @@ From k l at =
 abbrev head : tie.Start → ℕ → List ℕ
 head s n =
     let g = s .args .tables .ledger in
-    bytes (headLines (g .clock .ticks) (g .tracks .count) (g .tracks .system) (g .numbers .count) n)
+    bytes (headLines (g .clock .ticks) (g .tracks .count) (g .tracks .system) (g .numbers .count) (g .clock .year) n)
 
 abbrev after-0 : (s : tie.Start) → From 0 (s .args .buf .now) 0
 after-0 s =

@@ -19,4 +19,4 @@ returns c =
     ap (λ (r : Result). record { number = 15; values = c .before .before .args .line ∷ []; tables = r .tables }) (c .before .fresh .ensures)
 
 pub not-read-spec : {M : Type 1} → statement M
-not-read-spec = tie.close (tie.spec fresh-requires returns)
+not-read-spec = tie.close (tie.spec (λ c. search needs) fresh-requires returns)

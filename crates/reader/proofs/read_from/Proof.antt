@@ -1,7 +1,7 @@
 -- `read_from` reads the parts of a page one after another, and judges what they say.
 -- Assumes nothing.
 use native.Mathlib.Omega.{arith}
-use mathlib.Core.Path.{_≡_, refl, sym, ap, subst}
+use mathlib.Core.Path.{_≡_, refl, sym, ap, _∙_, subst}
 use borrow.Author.Needs.{needs}
 use Rattle.tables.specs.Calls.{Result}
 use Rattle.records.specs.Inner as numbers
@@ -26,7 +26,8 @@ head : (e : tie.Else2) → HeadIs (start-2 e .args .s .now) (start-2 e .args .at
 head e = e .before .before .read-head .ensures .read (omega arith)
 
 records : (e : tie.Else3)
-    → RecordsAre (start-3 e .args .s .now) (e .before .before .before .before .before .read-head .result .at) 7
+    → RecordsAre (start-3 e .args .s .now) (e .before .before .before .before .before .read-head .result .at)
+    (e .before .before .before .before .before .read-head .result .line)
     (e .before .before .before .before .before .read-head .result .programs) (e .before .before .read-records .result)
 records e = e .before .before .read-records .ensures .read (omega arith)
 
@@ -107,7 +108,7 @@ read-held-requires : tie.Need-read-held-requires
 read-held-requires c κs = (
   chains (c .before .before .before) .onward,
   subst Fit (sym
-      (ap (λ (r : Result). r .tables .ledger .tracks) (c .before .before .fresh .ensures))) (fresh-tracks-fit 0 _ _ _),
+      (ap (λ (r : Result). r .tables .ledger .tracks) (c .before .before .fresh .ensures))) (fresh-tracks-fit 0 _ _ _ _),
 )
 
 -- src/lib.rt:78:9
@@ -115,7 +116,7 @@ read-numbers-requires : tie.Need-read-numbers-requires
 read-numbers-requires c κs = (
   c .read-held .ensures .onward,
   subst numbers.Fit (sym (ap (λ (r : Result). r .tables .ledger .numbers)
-      (c .before .before .before .fresh .ensures))) (fresh-numbers-fit 0 _ _ _),
+      (c .before .before .before .fresh .ensures))) (fresh-numbers-fit 0 _ _ _ _),
 )
 
 -- src/lib.rt:79:9
@@ -162,7 +163,7 @@ returns-6 c =
     (ap (λ (r : Result). r .tables .ledger .tracks) f) (ap (λ (r : Result). r .tables .ledger .numbers) f)
     (subst (EndRead (s .args .s .now) (n .read-numbers .result .at) (n .read-numbers .result .line))
     (let z : e .read-end .result ≡ 0 = omega (arith, l .if5 .left) in z) (e .read-end .ensures)) _ refl
-    (c .before .from-ticks .ensures) refl refl refl
+    (c .before .from-ticks .ensures ∙ ap (λ (r : Result). record { ticks = k .before .before .before .before .before .before .before .before .read-head .result .clock; year = r .tables .ledger .clock .year }) f) refl refl refl
     (c .judge .ensures)
 
 pub read-from-spec : {M : Type 1} → statement M

@@ -30,7 +30,7 @@ Quiet (on p d ∷ es) = Quiet es
 Quiet (clocked c ∷ es) = Quiet es
 Quiet (held h ∷ es) = ⊥
 Quiet (numbered r ∷ es) = Quiet es
-Quiet (renewed T S R ∷ es) = ⊥
+Quiet (renewed T S R Y ∷ es) = ⊥
 
 quiet-wake : (c : List ℕ) → Quiet (wake c)
 quiet-wake [] = tt
@@ -48,7 +48,7 @@ module _ (K : Keeper) where
   quiet-holders (clocked c ∷ es) u t = quiet-holders es u (step K (clocked c) t)
   quiet-holders (held h ∷ es) u t = absurd u
   quiet-holders (numbered r ∷ es) u t = quiet-holders es u (step K (numbered r) t)
-  quiet-holders (renewed T S R ∷ es) u t = absurd u
+  quiet-holders (renewed T S R Y ∷ es) u t = absurd u
 
   -- whatever happened before, the holders are those that were named last
   last-holders : (es : List Event) (h : List ℕ) (fs : List Event) → Quiet fs → (t : State K)

@@ -46,7 +46,22 @@ module _ (K : Keeper) (x : ℕ) (X : Known x) where
   play-frame (clocked c ∷ es) u t = play-frame es u (step K (clocked c) t)
   play-frame (held h ∷ es) u t = play-frame es u (step K (held h) t)
   play-frame (numbered r ∷ es) u t = play-frame es u (step K (numbered r) t)
-  play-frame (renewed T S R ∷ es) u t = absurd (u .0)
+  play-frame (renewed T S R Y ∷ es) u t = absurd (u .0)
+
+-- events that renew nothing leave the start year alone
+module _ (K : Keeper) where
+  play-year : (P : ℕ → Deed → Type 0) (es : List Event) → Upon P ⊥ es → (t : State K) → play K es t .book .year ≡ t .book .year
+  unfolding step
+  play-year P [] u t = refl
+  play-year P (on p d ∷ es) u t = play-year P es (u .1) (step K (on p d) t) ∙ go (known p)
+    where
+      go : (b : Bool) → cond b (act K p d t) t .book .year ≡ t .book .year
+      go true = ap (λ (v : State K). v .book .year) (act-put K p d t)
+      go false = refl
+  play-year P (clocked c ∷ es) u t = play-year P es u (step K (clocked c) t)
+  play-year P (held h ∷ es) u t = play-year P es u (step K (held h) t)
+  play-year P (numbered r ∷ es) u t = play-year P es u (step K (numbered r) t)
+  play-year P (renewed T S R Y ∷ es) u t = absurd (u .0)
 
 -- a list that has a first is not empty
 some-happen : (e : Event) (es : List Event) → (e ∷ es) ≢ []
@@ -60,11 +75,11 @@ module _ (K : Keeper) (t : State K) (q : Request) (x : ℕ) (X : Known x) where
   Whom p = Concerned (view K t) q p
 
   abbrev Renews : Type 0
-  Renews = (T : ℕ) × (S : ℕ) × (R : ℕ) × (q ≡ FRESH T S R)
+  Renews = (T : ℕ) × (S : ℕ) × (R : ℕ) × (Y : ℕ) × (q ≡ FRESH T S R Y)
 
   -- whom the events of the plan are about
   parts : Of (λ p d. Has p) Renews (view K t) (asks K t q)
-  parts = plan-of (λ p d. Has p) Renews (view K t) q (record { fresh = λ T S R e. (T, S, R, e); party = λ p l h d. h })
+  parts = plan-of (λ p d. Has p) Renews (view K t) q (record { fresh = λ T S R Y e. (T, S, R, Y, e); party = λ p l h d. h })
 
   -- THE FRAME
   pub frame : (Whom x → ⊥) → at (after K t q .book) x ≡ at (t .book) x
@@ -79,7 +94,7 @@ module _ (K : Keeper) (t : State K) (q : Request) (x : ℕ) (X : Known x) where
           play-frame K x X (e ∷ es)
           (upon-map (By (view K t) (λ p d. Has p) (releaseOf (asks K t q))) (λ p d. p ≢ x) Renews ⊥
           (λ p d h i. n (subst Whom i (concerned some p d h)))
-          (λ f. n (anew some (f .0) (f .1) (f .2) (f .3))) (e ∷ es) u) t
+          (λ f. n (anew some (f .0) (f .1) (f .2) (f .3) (f .4))) (e ∷ es) u) t
         where
           concerned : eventsOf (view K t) (asks K t q) ≢ [] → (p : ℕ) (d : Deed)
               → By (view K t) (λ p d. Has p) (releaseOf (asks K t q)) p d → Whom p
@@ -87,14 +102,23 @@ module _ (K : Keeper) (t : State K) (q : Request) (x : ℕ) (X : Known x) where
           concerned some p d (as-woken e w) = woken w
 
   -- what happens before the wakings leaves one that has nothing to do with the request
-  pub own-frame : ((T S R : ℕ) → q ≢ FRESH T S R) → (Has x → ⊥) → at (play K (ownOf (asks K t q)) t .book) x ≡ at (t .book) x
+  pub own-frame : ((T S R Y : ℕ) → q ≢ FRESH T S R Y) → (Has x → ⊥) → at (play K (ownOf (asks K t q)) t .book) x ≡ at (t .book) x
   own-frame old apart =
       play-frame K x X (ownOf (asks K t q))
-      (upon-map (λ p d. Has p) (λ p d. p ≢ x) Renews ⊥ (λ p d h e. apart (subst Has e h)) (λ f. old (f .0) (f .1) (f .2) (f .3))
+      (upon-map (λ p d. Has p) (λ p d. p ≢ x) Renews ⊥ (λ p d h e. apart (subst Has e h)) (λ f. old (f .0) (f .1) (f .2) (f .3) (f .4))
       (ownOf (asks K t q)) (parts .own)) t
 
+-- the start year is FRESH's alone: whatever else is asked leaves it, of any state
+pub year-kept : (K : Keeper) (t : State K) (q : Request) → ((T S R Y : ℕ) → q ≢ FRESH T S R Y) → after K t q .book .year ≡ t .book .year
+year-kept K t q old =
+    play-year K whom (eventsOf (view K t) (asks K t q))
+    (plan-of (λ p d. Unit {0}) ⊥ (view K t) q (record { fresh = old; party = λ p l h d. tt }) .events) t
+  where
+    whom : ℕ → Deed → Type 0
+    whom = By (view K t) (λ p d. Unit {0}) (releaseOf (asks K t q))
+
 -- Of sound states, in which nobody wakes twice: one that has nothing to do with the request is woken, or its record stays.
-module _ (a : State lists) (S : Sound a) (q : Request) (x : ℕ) (X : Known x) (old : (T B R : ℕ) → q ≢ FRESH T B R)
+module _ (a : State lists) (S : Sound a) (q : Request) (x : ℕ) (X : Known x) (old : (T B R Y : ℕ) → q ≢ FRESH T B R Y)
     (apart : Party (view lists a) x q → ⊥) where
   abbrev risers : List ℕ
   risers = plans.woken (view lists a) (releaseOf (asks lists a q))

@@ -48,7 +48,7 @@ module _ (v : View) (S : Seen v) where
   -- each event of a plan that is about a program is about one of 1 to 32
   pub plan-known : (q : Request) → Upon (λ p d. Known p) (Unit {0}) (eventsOf v (plan v q))
   plan-known q =
-      let about : About v q (λ p d. Known p) (Unit {0}) = record { fresh = λ T S R e. tt; party = λ x l y d. party-known q x l y } in
+      let about : About v q (λ p d. Known p) (Unit {0}) = record { fresh = λ T S R Y e. tt; party = λ x l y d. party-known q x l y } in
       upon-map (By v (λ p d. Known p) (releaseOf (plan v q))) (λ p d. Known p) (Unit {0}) (Unit {0})
       (deed-known (releaseOf (plan v q))) (λ f. f)
       (eventsOf v (plan v q)) (plan-of (λ p d. Known p) (Unit {0}) v q about .events)

@@ -222,8 +222,8 @@ module _ (p : ℕ) (P : Known p) where
     act-alike marked = amend-alike a e (withMark (at (a .book) p)) A refl (λ k. refl)
 
 -- fresh tables
-pub fresh-alike : (T S R : ℕ) → Alike (fresh lists T S R) (fresh entries T S R)
-fresh-alike T S R = record {
+pub fresh-alike : (T S R Y : ℕ) → Alike (fresh lists T S R Y) (fresh entries T S R Y)
+fresh-alike T S R Y = record {
   book = refl;
   noted = record {
     long = length-replicate 32 unused;
@@ -231,14 +231,14 @@ fresh-alike T S R = record {
     apart = λ y z Y Z h k e. absurd (h (dormant y Y));
   };
   seven = length-replicate {A = List ℕ} 7 [];
-  fits = λ s l h. subst (λ (c : List ℕ). Fits (freshBook T S R) (λ z. 0) s c) (sym (getD-replicate {A = List ℕ} 7 s [] [] h)) (record {
-    member = λ z Z. sym (same-ne (stateOf (freshBook T S R) z) s (λ e. omega (arith, sym e ∙ dormant z Z)));
+  fits = λ s l h. subst (λ (c : List ℕ). Fits (freshBook T S R Y) (λ z. 0) s c) (sym (getD-replicate {A = List ℕ} 7 s [] [] h)) (record {
+    member = λ z Z. sym (same-ne (stateOf (freshBook T S R Y) z) s (λ e. omega (arith, sym e ∙ dormant z Z)));
     within = λ z k. absurd (omega arith);
     ascends = tt;
   });
 }
   where
-    dormant : (z : ℕ) → Known z → stateOf (freshBook T S R) z ≡ 0
+    dormant : (z : ℕ) → Known z → stateOf (freshBook T S R Y) z ≡ 0
     dormant z Z = ap (λ (r : Program). r .state) (fresh-at z Z)
 
 pub step-alike : (v : Event) (a : State lists) (t : State entries) → Alike a t → Alike (step lists v a) (step entries v t)
@@ -256,7 +256,7 @@ step-alike v a t A =
     one (clocked c) e B = edit-alike a e (withClock c (a .book)) B (B .noted .long) (λ z Z. refl) (λ z Z n. refl)
     one (held h) e B = edit-alike a e (withHolders h (a .book)) B (B .noted .long) (λ z Z. refl) (λ z Z n. refl)
     one (numbered r) e B = edit-alike a e (withResources r (a .book)) B (B .noted .long) (λ z Z. refl) (λ z Z n. refl)
-    one (renewed T S R) e B = fresh-alike T S R
+    one (renewed T S R Y) e B = fresh-alike T S R Y
 
 pub play-alike : (es : List Event) (a : State lists) (t : State entries) → Alike a t → Alike (play lists es a) (play entries es t)
 play-alike [] a t A = A

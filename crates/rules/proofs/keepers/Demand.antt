@@ -70,5 +70,5 @@ pub accounted : (a : State lists) → Sound a → Accounts a (notes (a .book) (a
 accounted a S = chained-accounts a (S .chains)
 
 -- from fresh tables of any size on
-pub demand-fresh : (T S R : ℕ) (qs : List Request) → Replayed (fresh lists T S R) (fresh entries T S R) qs
-demand-fresh T S R = alike-replayed (fresh lists T S R) (fresh entries T S R) (fresh-alike T S R)
+pub demand-fresh : (T S R Y : ℕ) (qs : List Request) → Replayed (fresh lists T S R Y) (fresh entries T S R Y) qs
+demand-fresh T S R Y = alike-replayed (fresh lists T S R Y) (fresh entries T S R Y) (fresh-alike T S R Y)

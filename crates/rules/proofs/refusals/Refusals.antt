@@ -16,7 +16,7 @@ use Rattle.rules.proofs.Statements.{Answered, runs}
 
 plan-listed : (v : View) (q : Request) → Listed (plan v q)
 plan-listed v q =
-    plan-of (λ p d. Unit {0}) (Unit {0}) v q (record { fresh = λ T S R e. tt; party = λ x h y d. tt }) .number
+    plan-of (λ p d. Unit {0}) (Unit {0}) v q (record { fresh = λ T S R Y e. tt; party = λ x h y d. tt }) .number
 
 listed-highest : (x : Plan) → Listed x → numberOf x ≤ 11
 listed-highest (refused a v) h = upTo-true 2 11 a h .1

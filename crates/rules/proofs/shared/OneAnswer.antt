@@ -16,10 +16,11 @@ use Rattle.rules.specs.Answers.{number, values}
 abbrev doneWith : List ℕ → Answer
 doneWith [] = NotSound
 doneWith (v ∷ []) = Done v
-doneWith (d ∷ h ∷ []) = NotSound
-doneWith (d ∷ h ∷ m ∷ []) = NotSound
-doneWith (d ∷ h ∷ m ∷ s ∷ []) = NotSound
-doneWith (d ∷ h ∷ m ∷ s ∷ c ∷ vs) = Told (record { day = d; hour = h; minute = m; second = s; hundredth = c })
+doneWith (y ∷ d ∷ []) = NotSound
+doneWith (y ∷ d ∷ h ∷ []) = NotSound
+doneWith (y ∷ d ∷ h ∷ m ∷ []) = NotSound
+doneWith (y ∷ d ∷ h ∷ m ∷ s ∷ []) = NotSound
+doneWith (y ∷ d ∷ h ∷ m ∷ s ∷ c ∷ vs) = Told (record { year = y; day = d; hour = h; minute = m; second = s; hundredth = c })
 
 -- the case of a number and its values
 abbrev caseOf : ℕ → List ℕ → Answer

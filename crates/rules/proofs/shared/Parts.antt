@@ -36,7 +36,7 @@ Upon P F (on p d ∷ es) = P p d × Upon P F es
 Upon P F (clocked c ∷ es) = Upon P F es
 Upon P F (held h ∷ es) = Upon P F es
 Upon P F (numbered r ∷ es) = Upon P F es
-Upon P F (renewed T S R ∷ es) = F × Upon P F es
+Upon P F (renewed T S R Y ∷ es) = F × Upon P F es
 
 pub upon-map : (P Q : ℕ → Deed → Type 0) (F G : Type 0) → ((p : ℕ) (d : Deed) → P p d → Q p d) → (F → G) → (es : List Event) → Upon P F es
     → Upon Q G es
@@ -45,7 +45,7 @@ upon-map P Q F G f g (on p d ∷ es) u = (f p d (u .0), upon-map P Q F G f g es 
 upon-map P Q F G f g (clocked c ∷ es) u = upon-map P Q F G f g es u
 upon-map P Q F G f g (held h ∷ es) u = upon-map P Q F G f g es u
 upon-map P Q F G f g (numbered r ∷ es) u = upon-map P Q F G f g es u
-upon-map P Q F G f g (renewed T S R ∷ es) u = (g (u .0), upon-map P Q F G f g es (u .1))
+upon-map P Q F G f g (renewed T S R Y ∷ es) u = (g (u .0), upon-map P Q F G f g es (u .1))
 
 -- a deed of a program is of the kind P, or it is a waking by what was set free
 pub data By (v : View) (P : ℕ → Deed → Type 0) (R : Release) (p : ℕ) (d : Deed) : Type 0 where
@@ -83,7 +83,7 @@ pub record Of (P : ℕ → Deed → Type 0) (F : Type 0) (v : View) (x : Plan) :
 
 -- what is asked holds of those who have to do with the request
 pub record About (v : View) (q : Request) (P : ℕ → Deed → Type 0) (F : Type 0) : Type 0 where
-  pub fresh : (T S R : ℕ) → q ≡ FRESH T S R → F
+  pub fresh : (T S R Y : ℕ) → q ≡ FRESH T S R Y → F
   pub party : (x : ℕ) → 1 ≤ x → Party v x q → (d : Deed) → P x d
 
 -- those that a request wakes waited, and their reason is gone
@@ -98,7 +98,7 @@ upon-append P F (on p d ∷ es) fs u w = (u .0, upon-append P F es fs (u .1) w)
 upon-append P F (clocked c ∷ es) fs u w = upon-append P F es fs u w
 upon-append P F (held c ∷ es) fs u w = upon-append P F es fs u w
 upon-append P F (numbered c ∷ es) fs u w = upon-append P F es fs u w
-upon-append P F (renewed T S R ∷ es) fs u w = (u .0, upon-append P F es fs (u .1) w)
+upon-append P F (renewed T S R Y ∷ es) fs u w = (u .0, upon-append P F es fs (u .1) w)
 
 module _ (P : ℕ → Deed → Type 0) (F : Type 0) (v : View) where
   upon-wake : (R : Release) (c : List ℕ) → ((x : ℕ) → 1 ≤ count x c → Woken v R x) → Upon (By v P R) F (wake c)
@@ -195,7 +195,7 @@ module _ (P : ℕ → Deed → Type 0) (F : Type 0) (v : View) where
 
 pub plan-of : (P : ℕ → Deed → Type 0) (F : Type 0) (v : View) (q : Request) → About v q P F → Of P F v (plan v q)
 unfolding plan
-plan-of P F v (FRESH T S R) A = by-need (fails P F v) _ _ _ _ refl (λ t. of-done P F v _ _ (A .fresh T S R refl, tt))
+plan-of P F v (FRESH T S R Y) A = by-need (fails P F v) _ _ _ _ refl (λ t. of-done P F v _ _ (A .fresh T S R Y refl, tt))
 plan-of P F v (LOAD nm n) A =
     by-need (fails P F v) _ _ _ _ refl (λ t. by-need (fails P F v) _ _ _ _ refl (λ t. by-need (fails P F v) _ _ _ _ refl
     (λ e. of-done P F v _ _ (A .party _ (ltb-true 0 (lowestUnused (v .book .programs)) e) (takes-name nm n refl) _, tt))))

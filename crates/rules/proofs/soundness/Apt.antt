@@ -52,6 +52,7 @@ abbrev over : List Program → Book → Book
 over ps b = record {
   programs = ps;
   clock = b .clock;
+  year = b .year;
   tracks = b .tracks;
   system = b .system;
   numbers = b .numbers;

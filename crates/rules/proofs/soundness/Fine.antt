@@ -25,6 +25,7 @@ use Rattle.tracks.specs.Tracks.{nobody, system}
 use Rattle.rules.specs.Book.{Book, at, stateOf, whyOf, altered}
 use Rattle.rules.specs.Keeper.{lists, State}
 use Rattle.rules.specs.Sound.{suits, Sound}
+use Rattle.rules.proofs.shared.Starting.{Starts}
 use Rattle.rules.proofs.tests.Agree.{suited}
 use Rattle.rules.proofs.shared.Places.{known-true, known-is}
 use Rattle.rules.proofs.soundness.Chaining.{Ordered}
@@ -103,13 +104,6 @@ pub record Numbered (U : ℕ → Type 0) (R : ℕ) (xs : List Resource) : Type 0
   pub long : length xs ≡ R
   pub each : (r : ℕ) → 1 ≤ r → r ≤ R → Owned U (numberAt xs r)
 
--- the sizes
-pub record Sized (T S R : ℕ) : Type 0 where
-  pub some : 1 ≤ T
-  pub most : T ≤ 256
-  pub first : S ≤ T
-  pub few : R ≤ 16
-
 pub record Fine (e : Slack) (a : State lists) : Type 0 where
   pub order : Ordered (a .book .programs) (a .kept)
   pub right : (p : ℕ) → Known p → Right (e .low) (e .high) (a .book .tracks) (a .book .numbers) (at (a .book) p)
@@ -119,7 +113,7 @@ pub record Fine (e : Slack) (a : State lists) : Type 0 where
   pub once : (p q k : ℕ) → Known p → Known q → whyOf (a .book) p ≡ Son k → whyOf (a .book) q ≡ Son k → p ≡ q
   pub tracked : Tracked (Uses (e .user) (a .book .programs)) (a .book .tracks) (a .book .system) (a .book .holders)
   pub numbered : Numbered (Uses (e .user) (a .book .programs)) (a .book .numbers) (a .book .resources)
-  pub sized : Sized (a .book .tracks) (a .book .system) (a .book .numbers)
+  pub sized : Starts (a .book .tracks) (a .book .system) (a .book .numbers) (a .book .year)
   pub now : a .book .clock ≡ e .clock
   pub time : e .clock ≤ ceiling
 
@@ -222,7 +216,14 @@ sound-fine a S = record {
       most = S .limits .locker r (l, m);
     };
   };
-  sized = record { some = S .limits .some; most = S .limits .most; first = S .limits .first; few = S .limits .few };
+  sized = record {
+    some = S .limits .some;
+    most = S .limits .most;
+    first = S .limits .first;
+    few = S .limits .few;
+    earliest = S .limits .earliest;
+    latest = S .limits .latest;
+  };
   now = refl;
   time = S .limits .time;
 }
@@ -258,6 +259,8 @@ fine-sound c a F = record {
   limits = record {
     some = F .sized .some;
     most = F .sized .most;
+    earliest = F .sized .earliest;
+    latest = F .sized .latest;
     first = F .sized .first;
     few = F .sized .few;
     time = omega (arith, F .now, F .time);

@@ -18,25 +18,15 @@ use Rattle.records.specs.declared.Program.{Program}
 use Rattle.records.specs.Records.{unused}
 use Rattle.records.specs.Numbers.{free}
 use Rattle.tracks.specs.Tracks.{nobody, system}
-use Rattle.rules.specs.Rules.{sizes}
+use Rattle.rules.specs.Rules.{mayStart}
 use Rattle.rules.specs.Keeper.{lists, fresh}
 use Rattle.rules.specs.Sound.{Sound}
 use Rattle.rules.proofs.shared.Places.{fresh-at}
+use Rattle.rules.proofs.shared.Starting.{starts-true}
 use Rattle.rules.proofs.soundness.Chaining.{Chain, Ordered}
-use Rattle.rules.proofs.soundness.Fine.{exact, Right, Uses, Holds, Tracked, Owned, Sized, Fine, fine-sound}
+use Rattle.rules.proofs.soundness.Fine.{exact, Right, Uses, Holds, Tracked, Owned, Fine, fine-sound}
 use Rattle.rules.proofs.soundness.Making.{nothing-childless, right-unused}
 use Rattle.rules.proofs.soundness.Passing.{owned-free}
-
-sized : (T S R : ℕ) → sizes T S R ≡ true → Sized T S R
-sized T S R e =
-    let h = both (upTo 1 256 T && leb S T) (leb R 16) e in
-    let k = both (upTo 1 256 T) (leb S T) (h .0) in
-    record {
-      some = upTo-true 1 256 T (k .0) .0;
-      most = upTo-true 1 256 T (k .0) .1;
-      first = leb-true S T (k .1);
-      few = leb-true R 16 (h .1);
-    }
 
 fresh-chain : (s : ℕ) → 1 ≤ s → Chain (replicate 32 unused) s []
 fresh-chain s l = record {
@@ -79,23 +69,23 @@ fresh-tracks U T S l = record {
           most = omega arith;
         })
 
-pub fresh-fine : (T S R : ℕ) → sizes T S R ≡ true → Fine (exact 0) (fresh lists T S R)
-fresh-fine T S R e = record {
+pub fresh-fine : (T S R Y : ℕ) → mayStart T S R Y ≡ true → Fine (exact 0) (fresh lists T S R Y)
+fresh-fine T S R Y e = record {
   order = fresh-order;
   right = λ p P. subst (Right 0 (0 + farthest) T R) (sym (fresh-at p P)) (right-unused 0 (0 + farthest) T R);
   distinct = λ p q P Q u v w. clash u (ap (λ (r : Program). r .used) (fresh-at p P));
   sons = λ p k P w. absurd (nothing-childless k (ap (λ (r : Program). r .why) (sym (fresh-at p P)) ∙ w));
   once = λ p q k P Q v w. absurd (nothing-childless k (ap (λ (r : Program). r .why) (sym (fresh-at p P)) ∙ v));
-  tracked = fresh-tracks (Uses 0 (replicate 32 unused)) T S (sized T S R e .first);
+  tracked = fresh-tracks (Uses 0 (replicate 32 unused)) T S (starts-true T S R Y e .first);
   numbered = record {
     long = length-replicate R free;
     each = λ r l m. subst (Owned (Uses 0 (replicate 32 unused))) (sym (getD-replicate R (r - 1) free free (omega arith)))
         (owned-free (Uses 0 (replicate 32 unused)));
   };
-  sized = sized T S R e;
+  sized = starts-true T S R Y e;
   now = refl;
   time = omega arith;
 }
 
-pub sound-fresh : (T S R : ℕ) → sizes T S R ≡ true → Sound (fresh lists T S R)
-sound-fresh T S R e = fine-sound 0 (fresh lists T S R) (fresh-fine T S R e)
+pub sound-fresh : (T S R Y : ℕ) → mayStart T S R Y ≡ true → Sound (fresh lists T S R Y)
+sound-fresh T S R Y e = fine-sound 0 (fresh lists T S R Y) (fresh-fine T S R Y e)

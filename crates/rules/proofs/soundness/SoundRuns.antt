@@ -16,7 +16,7 @@ use Rattle.records.specs.Records.{Known, find, lowestUnused}
 use Rattle.tracks.specs.Tracks.{nobody, replaced}
 use Rattle.rules.specs.Requests.{Order, RU, SS, GO, PR, OF, Request, FRESH, LOAD, operator, TICK, running}
 use Rattle.rules.specs.Plans.{priced, loaded, marked, on, Release}
-use Rattle.rules.specs.Rules.{allowed, order, call, endsIn, ends, sizes, plan}
+use Rattle.rules.specs.Rules.{allowed, order, call, endsIn, ends, mayStart, plan}
 use Rattle.rules.specs.Keeper.{lists, State, step, view, after}
 use Rattle.rules.specs.Sound.{Sound}
 use Rattle.rules.proofs.shared.Finding.{find-none, unused-known, unused-is}
@@ -63,7 +63,7 @@ module _ (a : State lists) (S : Sound a) where
 
   keeps-plan : (q : Request) → Keeps a (plan (view lists a) q)
   unfolding plan step
-  keeps-plan (FRESH T B R) = by-need (refusing a S) (sizes T B R) 3 0 _ refl λ e. record { sound = sound-fresh T B R e }
+  keeps-plan (FRESH T B R Y) = by-need (refusing a S) (mayStart T B R Y) 3 0 _ refl λ e. record { sound = sound-fresh T B R Y e }
   keeps-plan (LOAD nm n) =
       by-need (refusing a S) (legal nm && leb n 32767) 3 0 _ refl λ d.
       by-need (refusing a S) (eqb (find (a .book .programs) nm) 0) 6 0 _ refl λ e.

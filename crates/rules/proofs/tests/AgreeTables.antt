@@ -150,14 +150,14 @@ unlocked-test b U =
 pub limits-clause : (b : Book) → testLimits b ≡ true → Limits b
 unfolding testLimits
 limits-clause b e =
-    let b6 = both (upTo 1 256 (b .tracks) && leb (b .system) (b .tracks) && leb (b .numbers) 16
-    && leb (b .clock) ceiling && programs b (λ p r. leb (r .priority) 32767) && tracks b (λ i h. leb h system))
-    (numbers b (λ x. leb (x .owner) globally && leb (x .lock) 32)) e in
-    let b5 = both (upTo 1 256 (b .tracks) && leb (b .system) (b .tracks) && leb (b .numbers) 16 && leb (b .clock) ceiling
-    && programs b (λ p r. leb (r .priority) 32767)) (tracks b (λ i h. leb h system)) (b6 .0) in
-    let b4 = both (upTo 1 256 (b .tracks) && leb (b .system) (b .tracks) && leb (b .numbers) 16 && leb (b .clock) ceiling)
-    (programs b (λ p r. leb (r .priority) 32767)) (b5 .0) in
-    let b3 = both (upTo 1 256 (b .tracks) && leb (b .system) (b .tracks) && leb (b .numbers) 16) (leb (b .clock) ceiling) (b4 .0) in
+    let sized = upTo 1 256 (b .tracks) && leb (b .system) (b .tracks) && leb (b .numbers) 16 in
+    let begun = sized && leb (b .clock) ceiling && upTo 1970 2099 (b .year) in
+    let placed = begun && programs b (λ p r. leb (r .priority) 32767) in
+    let b6 = both (placed && tracks b (λ i h. leb h system)) (numbers b (λ x. leb (x .owner) globally && leb (x .lock) 32)) e in
+    let b5 = both placed (tracks b (λ i h. leb h system)) (b6 .0) in
+    let b4 = both begun (programs b (λ p r. leb (r .priority) 32767)) (b5 .0) in
+    let by = both (sized && leb (b .clock) ceiling) (upTo 1970 2099 (b .year)) (b4 .0) in
+    let b3 = both sized (leb (b .clock) ceiling) (by .0) in
     let b2 = both (upTo 1 256 (b .tracks) && leb (b .system) (b .tracks)) (leb (b .numbers) 16) (b3 .0) in
     let b1 = both (upTo 1 256 (b .tracks)) (leb (b .system) (b .tracks)) (b2 .0) in
     record {
@@ -166,6 +166,8 @@ limits-clause b e =
       first = leb-true (b .system) (b .tracks) (b1 .1);
       few = leb-true (b .numbers) 16 (b2 .1);
       time = leb-true (b .clock) ceiling (b3 .1);
+      earliest = (upTo-true 1970 2099 (b .year) (by .1)) .0;
+      latest = (upTo-true 1970 2099 (b .year) (by .1)) .1;
       priority = λ p P. leb-true (prioOf b p) 32767 (program-in b (λ p r. leb (r .priority) 32767) (b4 .1) p P);
       holder = λ i h. leb-true (holderOf b i) system (track-in b (λ i h. leb h system) (b5 .1) i h);
       owner = λ r h. leb-true (numberAt (b .resources) r .owner) globally
@@ -179,11 +181,12 @@ limits-clause b e =
 pub limits-test : (b : Book) → Limits b → testLimits b ≡ true
 unfolding testLimits
 limits-test b L =
-    and (and (and (and (and (and
+    and (and (and (and (and (and (and
     (upTo-is 1 256 (b .tracks) (L .some) (L .most))
     (le-leb (b .system) (b .tracks) (L .first)))
     (le-leb (b .numbers) 16 (L .few)))
     (le-leb (b .clock) ceiling (L .time)))
+    (upTo-is 1970 2099 (b .year) (L .earliest) (L .latest)))
     (program-is b (λ p r. leb (r .priority) 32767) (λ p P. le-leb (prioOf b p) 32767 (L .priority p P))))
     (track-is b (λ i h. leb h system) (λ i h. le-leb (holderOf b i) system (L .holder i h))))
     (number-is b (λ x. leb (x .owner) globally && leb (x .lock) 32) (λ r h.

@@ -16,11 +16,11 @@ Fields w = let a = w .before .before .args in fieldsFrom (a .s .now) (a .at)
 
 -- behind the name
 abbrev Behind : tie.After-word-of → List ℕ → Form
-Behind w nm = counted (w .word-of .result .2) (request (w .before .before .args .last) nm)
+Behind w nm = counted (w .word-of .result .2) (w .word-of .result .5) (request (w .before .before .args .last) nm)
 
 -- by the word's row
 ends : (w : tie.After-word-of) {named : Bool} → w .word-of .result .1 ≡ named
-    → ended (w .before .before .args .last) (Fields w) ≡ taking named (w .word-of .result .2) (w .before .before .args .last) (Fields w)
+    → ended (w .before .before .args .last) (Fields w) ≡ taking named (w .word-of .result .2) (w .word-of .result .5) (w .before .before .args .last) (Fields w)
 ends w h = ended-as (w .before .before .args .last) (w .word-of .ensures) h (Fields w)
 
 returns : tie.Need-returns

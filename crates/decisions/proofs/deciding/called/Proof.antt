@@ -2,11 +2,12 @@
 use borrow.Author.Needs.{needs}
 use native.Mathlib.Omega.{arith}
 use Prim.Native.Nat.{ℕ}
-use mathlib.Core.Path.{_≡_, refl, sym, ap, _∙_, subst}
+use mathlib.Core.Path.{_≡_, refl, sym, ap, ap₂, _∙_, subst}
 use mathlib.Core.List.{List}
 use Rattle.clock.specs.Clock.{timeOf}
 use Rattle.rules.specs.declared.Answer.the-variants.{Told}
 use Rattle.rules.specs.declared.Call.{Call}
+use Rattle.rules.specs.Book.{Book}
 use Rattle.rules.specs.Plans.{View, need}
 use Rattle.rules.specs.Rules.{call}
 use Rattle.rules.specs.Coded.{theCall}
@@ -69,7 +70,7 @@ unfolding call
 returns-8 c =
     let k = c .before .before .before .before in
     λ v nm O. on k v nm (c .before .before .enum-told4 .given .1) (rests v nm (Told (c .before .time .result)) _ (c .stay .ensures) refl
-    (c .before .time .ensures ∙ ap timeOf (sym (book-in v _ O .clock))) refl)
+    (c .before .time .ensures ∙ ap₂ timeOf (sym (ap (λ (b : Book). b .year) O)) (sym (book-in v _ O .clock))) refl)
 
 returns-9 : tie.Need-returns-9
 unfolding call need asking going awaiting winding

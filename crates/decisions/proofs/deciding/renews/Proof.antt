@@ -9,25 +9,28 @@ use Rattle.decisions.proofs.Requested.{sizes-true, renewing, renewing-n
 use Rattle.decisions.proofs.deciding.renews.Statement.{statement}
 use Rattle.decisions.proofs.deciding.renews.Tie as tie
 
-sized : (c : tie.Then1) → let s = c .before .before in Sizes (s .args .tracks) (s .args .system) (s .args .numbers)
-sized c = sizes-true _ _ _ (sym (c .before .is-sized .ensures) ∙ c .if1 .taken)
-
-cast-t6 : tie.Need-cast-t6
-cast-t6 c = omega (arith, sized c .most)
+sized : (c : tie.Then1) → let s = c .before .before in Sizes (s .args .tracks) (s .args .system) (s .args .numbers) (s .args .year)
+sized c = sizes-true _ _ _ _ (sym (c .before .may-start .ensures) ∙ c .if1 .taken)
 
 cast-t7 : tie.Need-cast-t7
-cast-t7 c = omega (arith, sized c .most, sized c .part)
+cast-t7 c = omega (arith, sized c .most)
 
 cast-t8 : tie.Need-cast-t8
-cast-t8 c = omega (arith, sized c .few)
+cast-t8 c = omega (arith, sized c .most, sized c .part)
+
+cast-t9 : tie.Need-cast-t9
+cast-t9 c = omega (arith, sized c .few)
+
+cast-t10 : tie.Need-cast-t10
+cast-t10 c = omega (arith, sized c .latest)
 
 returns : tie.Need-returns
-returns c = λ v nm. like v nm (renewing v _ _ _ (sym (c .before .is-sized .ensures) ∙ c .if1 .taken))
+returns c = λ v nm. like v nm (renewing v _ _ _ _ (sym (c .before .may-start .ensures) ∙ c .if1 .taken))
     (record { number = refl; values = refl; events = refl; apt = sized c })
 
 returns-2 : tie.Need-returns-2
 returns-2 c = λ v nm. stays v nm NotAllowed 0 (c .stay .ensures) refl
-    (renewing-not v _ _ _ (sym (c .before .before .is-sized .ensures) ∙ c .before .if1 .left))
+    (renewing-not v _ _ _ _ (sym (c .before .before .may-start .ensures) ∙ c .before .if1 .left))
 
 pub renews-spec : {M : Type 1} → statement M
-renews-spec = tie.close (tie.spec (λ c κs. search needs) cast-t6 cast-t7 cast-t8 returns (λ c κs. search needs) returns-2)
+renews-spec = tie.close (tie.spec (λ c κs. search needs) cast-t7 cast-t8 cast-t9 cast-t10 returns (λ c κs. search needs) returns-2)

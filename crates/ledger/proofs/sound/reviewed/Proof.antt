@@ -27,7 +27,7 @@ returns c = let r = c .before .is-sized in refused _ _ _ (λ P. r .ensures .nay 
 
 -- the sizes
 sizes : (c : tie.Else1) → let l = c .before .before .args .l in
-    Sized (l .tracks .count) (l .tracks .system) (l .numbers .count) (l .clock .ticks)
+    Sized (l .tracks .count) (l .tracks .system) (l .numbers .count) (l .clock .ticks) (l .clock .year)
 sizes c = let r = c .before .is-sized in r .ensures .yes (not-false (r .result) (c .if1 .left))
 
 -- the records, and what stood before them

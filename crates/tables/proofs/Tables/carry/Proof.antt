@@ -130,7 +130,7 @@ returns-2 c =
     let x = c .before .before .effect .given .0 in
     let s = c .before .before .before .before in
     let q = c .before .before .effect .given .1 in
-    on s q (c .fresh .ensures ∙ made-anew (s .args .self) (s .args .name) (s .args .d .answer) (x .0) (x .1 .0) (x .1 .1 .0) (apt s q))
+    on s q (c .fresh .ensures ∙ made-anew (s .args .self) (s .args .name) (s .args .d .answer) (x .0) (x .1 .0) (x .1 .1 .0) (x .1 .1 .1 .0) (apt s q))
 
 returns-3 : tie.Need-returns-3
 returns-3 c =
@@ -221,7 +221,7 @@ pub carry-spec : {M : Type 1} → statement M
 carry-spec =
     tie.close
     (tie.spec (λ c. search needs) (λ c. search needs) (λ c. search needs) (λ c. search needs) (λ c. search needs)
-    (λ c κs. search needs) (λ c. search needs) loaded-requires (λ c. search needs) priced-requires (λ c. search needs)
+    (λ c. search needs) (λ c κs. search needs) (λ c. search needs) loaded-requires (λ c. search needs) priced-requires (λ c. search needs)
     timed-requires (λ c. search needs) marked-requires (λ c. search needs) becomes-requires (λ c. search needs) awaited-requires (λ c. search needs) ended-requires
     (λ c. search needs) ended-self-requires (λ c κs. search needs) (λ c. search needs) taken-requires (λ c. search needs)
     given-requires (λ c. search needs) (λ c κs. search needs) (λ c. search needs) with-number-requires (λ c. search needs)

@@ -11,7 +11,7 @@ returns c =
     let k = x .before in
     let u = k .before in
     let s = u .before in
-    fresh-laid (s .args .tracks) (s .args .system) (s .args .numbers) (u .unused-record .result) (k .from-ticks .result) (x .fresh .result)
+    fresh-laid (s .args .tracks) (s .args .system) (s .args .numbers) (s .args .year) (u .unused-record .result) (k .from-ticks .result) (x .fresh .result)
     (c .fresh2 .result)
     (u .unused-record .ensures) (k .from-ticks .ensures) (x .fresh .ensures) (c .fresh2 .ensures)
 

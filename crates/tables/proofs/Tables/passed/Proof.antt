@@ -39,15 +39,14 @@ loop-again-2 c =
 
 returns : tie.Need-returns Inv-loop μ-loop
 returns c =
-    let f = c .before in
-    let e = f .before in
+    let e = c .before .before in
     let l = e .before in
     let s = l .before .before in
-    passing-done (s .args .self) (s .args .now) (l .loop .inv) (s .pre .orderly) (e .loop-test .left) (f .from-ticks .result) (f .from-ticks .ensures)
+    passing-done (s .args .self) (s .args .now) (l .loop .inv) (s .pre .orderly) (e .loop-test .left)
 
 pub passed-spec : {M : Type 1} → statement M
 passed-spec =
     tie.close
     (tie.spec Inv-loop μ-loop (λ c. passing-start _ _) (λ c. search needs) (λ c. search needs) (λ c κs. search needs) moved-requires
     (λ c. search needs) (λ c. search needs) (λ c. omega arith) (λ c. omega arith) loop-again (λ c. omega arith) (λ c. omega arith) loop-again-2
-    (λ c κs. search needs) returns)
+    returns)
