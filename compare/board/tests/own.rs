@@ -22,7 +22,7 @@ fn places() {
     assert_eq!((AT_NUMBERS, AT_LINKS, AT_RECORDS), (269, 301, 341));
     assert_eq!((RECORD, MARK, TABLES, OLDER), (29, 28, 1_269, 1_237));
     assert_eq!(AT_RECORDS + 32 * RECORD, TABLES);
-    let (engine, _) = Engine::fresh(256, 1, 16);
+    let (engine, _) = Engine::fresh(256, 1, 16, 1975);
     let mut raw = Raw::of(&engine);
     raw.clock = 0x0102_0304_0506_0708;
     raw.tracks[255] = 33;

@@ -128,7 +128,7 @@ pub fn fixed() -> Vec<(&'static str, Vec<u8>)> {
         }
     }
     // All of one holder, in two parts.
-    let whole = Engine::fresh(6, 0, 0).0.page_bytes();
+    let whole = Engine::fresh(6, 0, 0, 1975).0.page_bytes();
     let whole = String::from_utf8_lossy(&whole).to_string();
     for first in 0..5 {
         let held = format!("held=0-{}:global\nheld={}-5:global\nend=", first, first + 1);

@@ -236,7 +236,7 @@ fn put_links(prng: &mut Prng, raw: &mut Raw) {
 /// The tables with the longest page: every number has as many digits as it can, every record waits
 /// for tracks and is marked, and no two neighbours of 256 tracks have one holder.
 pub fn largest() -> Raw {
-    let (engine, _) = Engine::fresh(256, 0, 16);
+    let (engine, _) = Engine::fresh(256, 0, 16, 1975);
     let mut raw = Raw::of(&engine);
     raw.clock = CEILING;
     let mut slot = usize::from(DISC);
