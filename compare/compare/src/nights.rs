@@ -80,9 +80,9 @@ pub fn calendar() -> Vec<u8> {
     lines.join("\n").into_bytes()
 }
 
-/// The time at the last tick and at the first one of years, and on both sides of day 366, or of the
-/// year's end where there is none: from each start year the first two years, and from the first and
-/// the last of them all years, up to the ceiling.
+/// The time before the last day of a year, at the first and the last tick of that day, and at the first
+/// tick of the next year, and around day 60 of each fourth year: from each start year the first two
+/// years, and from the first and the last of them all years, up to the ceiling.
 pub fn years() -> Vec<u8> {
     let mut lines = Vec::new();
     for start in EARLIEST_YEAR..=LATEST_YEAR {

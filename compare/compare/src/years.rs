@@ -110,8 +110,8 @@ const TELLING: [u64; 16] = [
     1970, 1971, 1972, 1975, 1975, 1976, 1976, 1999, 1999, 2000, 2000, 2096, 2098, 2099, 2099, 2099,
 ];
 
-/// Lines of an opening that ends years: FRESH with one of these years, somebody who may ask for the
-/// time, and the time around the end of one year, or of two, up to a line that is too many.
+/// An opening in which years end, FRESH and all: one of these years, somebody who may ask for the
+/// time, and the time around the end of one year, or of two.
 pub fn ends_of_years(prng: &mut Prng, profile: &Profile) -> Vec<String> {
     let start = prng.pick(&TELLING);
     let mut lines = vec![format!("FRESH,{},{},{},{}", profile.t, profile.s, profile.r, start)];
