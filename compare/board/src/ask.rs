@@ -1,14 +1,14 @@
 //! A console line for given tables: requests of every kind, so that each is now accepted and now
 //! refused, and lines that are none.
 
-use crate::ffi::ANSWER;
+use crate::ffi::{ANSWER, PAGE};
 use comparer::prng::Prng;
 use comparer::profile::{Profile, Topic};
-use comparer::{claims, spoil, wish};
+use comparer::{claims, spoil, wish, years};
 use engine::tables::shown_name;
 use engine::Engine;
 
-const REQUESTS: [Topic; 23] = [
+const REQUESTS: [Topic; 24] = [
     Topic::Load,
     Topic::Run,
     Topic::Suspend,
@@ -24,6 +24,7 @@ const REQUESTS: [Topic; 23] = [
     Topic::Pause,
     Topic::Son,
     Topic::Start,
+    Topic::Time,
     Topic::Time,
     Topic::Timer,
     Topic::Alloc,
@@ -86,6 +87,7 @@ fn good(prng: &mut Prng, profile: &Profile, engine: &Engine) -> String {
         Topic::Off if !names.is_empty() && prng.chance(1, 2) => {
             format!("OF,{},{}", prng.pick(&names), prng.pick(&[1, 8]))
         }
+        Topic::Fresh if prng.chance(1, 2) => years::refused(prng),
         _ => wish::line(prng, profile, engine, topic),
     }
 }
@@ -108,7 +110,7 @@ fn strange(prng: &mut Prng, good: &str) -> Vec<u8> {
 /// Lengths of a buffer lent to PAGE for a page of so many bytes: too short, exact, longer.
 pub fn buffer(prng: &mut Prng, page: usize) -> usize {
     let shorter = prng.below(page as u64) as usize;
-    prng.pick(&[0, shorter, page - 1, page, page, page + 1, page + 100, 8_192.max(page)])
+    prng.pick(&[0, shorter, page - 1, page, page, page + 1, page + 100, PAGE.max(page)])
 }
 
 /// Lengths of the bytes lent for an answer: mostly as many as it has, now and then too few or more.

@@ -43,7 +43,7 @@ pub fn engine_side(desk: &Desk, case: &Case) -> Outcome {
                 Mark::Copy => 1,
             };
             let Reply { number, values: [value, ..] } = reply_of(found.answer);
-            Reply { number, values: [value, mark, found.begin as u64, found.end as u64, 0] }
+            Reply { number, values: [value, mark, found.begin as u64, found.end as u64, 0, 0] }
         }
         Ask::List { .. } => reply_of(desk.list(&mut list)),
     };

@@ -2,21 +2,34 @@
 //! against the library's source. All the unsafe code there is stands in this file.
 
 /// The tables as bytes; `pack` says which byte is what.
-pub const TABLES: usize = 1_269;
+pub const TABLES: usize = 1_271;
 
-/// An answer as bytes: its number and five values.
-pub const ANSWER: usize = 48;
+/// The values of an answer: as many as the time has parts, since request (iv) six.
+pub const VALUES: usize = 6;
+
+/// An answer as bytes: its number and its values, eight bytes each.
+pub const ANSWER: usize = 8 * (1 + VALUES);
+
+/// Bytes in which every page has room.
+pub const PAGE: usize = 8_704;
 
 /// What a line was answered with; absent values are 0.
 #[derive(Clone, Copy, Debug, PartialEq, Eq)]
 pub struct Reply {
     pub number: u64,
-    pub values: [u64; 5],
+    pub values: [u64; VALUES],
 }
 
 impl Reply {
+    /// An answer with one value.
+    pub fn new(number: u64, value: u64) -> Reply {
+        let mut values = [0; VALUES];
+        values[0] = value;
+        Reply { number, values }
+    }
+
     pub fn of_bytes(bytes: &[u8; ANSWER]) -> Reply {
-        let mut words = [0; 6];
+        let mut words = [0; 1 + VALUES];
         for (word, part) in words.iter_mut().zip(bytes.chunks_exact(8)) {
             let mut eight = [0; 8];
             eight.copy_from_slice(part);

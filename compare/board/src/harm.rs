@@ -2,15 +2,20 @@
 //! another form, another length, noise. Some of it is still sound, and has to work.
 
 use crate::ffi::TABLES;
-use crate::pack::{narrow, older, Bytes, AT_RECORDS, MARK, OLDER, RECORD};
-use comparer::damage::{change_mark, damage};
+use crate::pack::{
+    narrow, without_marks, without_year, Bytes, AT_RECORDS, AT_YEAR, MARK, RECORD, WITHOUT_MARKS,
+    WITHOUT_YEAR,
+};
+use comparer::damage::{change_mark, change_year, damage};
 use comparer::prng::Prng;
 use engine::raw::{Raw, RawWhy, LINKS, SLOTS};
 use engine::tables::{CHAINS, FURTHEST, RECORDS};
 
 /// One byte, any of them, gets any value, often one that means something at its place.
 pub fn change_byte(prng: &mut Prng, bytes: &mut Bytes) {
-    let place = prng.below(TABLES as u64) as usize;
+    let any = prng.below(TABLES as u64) as usize;
+    // Now and then one of the year.
+    let place = if prng.chance(1, 25) { AT_YEAR + any % 2 } else { any };
     let old = bytes[place];
     let any = prng.below(256) as u8;
     let near = [0, 1, 2, 3, 4, 5, 6, 31, 32, 33, 34, 35, 127, 128, 255];
@@ -65,13 +70,26 @@ pub fn reform(prng: &mut Prng, bytes: &mut Bytes) {
 }
 
 /// Bytes of another length: some taken off the end, all of them, some more put behind, or the same
-/// tables in the form without marks.
+/// tables in one of the older forms, without the year, and without marks as well.
 pub fn resize(prng: &mut Prng, bytes: &Bytes) -> Vec<u8> {
-    if prng.chance(1, 4) {
-        return older(bytes);
+    match prng.below(6) {
+        0 => return without_year(bytes),
+        1 => return without_marks(bytes),
+        _ => {}
     }
     let fewer = prng.below(TABLES as u64) as usize;
-    let sizes = [0, 1, 12, fewer, OLDER, TABLES - 1, TABLES + 1, TABLES + RECORD, 2 * TABLES];
+    let sizes = [
+        0,
+        1,
+        14,
+        fewer,
+        WITHOUT_MARKS,
+        WITHOUT_YEAR,
+        TABLES - 1,
+        TABLES + 1,
+        TABLES + RECORD,
+        2 * TABLES,
+    ];
     let mut bytes = bytes.to_vec();
     bytes.resize(prng.pick(&sizes), prng.below(256) as u8);
     bytes
@@ -80,7 +98,7 @@ pub fn resize(prng: &mut Prng, bytes: &Bytes) -> Vec<u8> {
 /// One to three fields change places, or one takes the value of another.
 pub fn exchange(prng: &mut Prng, raw: &mut Raw) {
     for _ in 0..prng.between(1, 3) {
-        match prng.below(13) {
+        match prng.below(14) {
             0 => swap_links(prng, raw),
             1 => bend_link(prng, raw),
             2 | 3 => swap_neighbours(prng, raw),
@@ -91,6 +109,10 @@ pub fn exchange(prng: &mut Prng, raw: &mut Raw) {
             9 => swap_holders(prng, raw),
             10 => swap_limits(prng, raw),
             11 => change_mark(prng, raw),
+            12 => {
+                change_year(prng, raw);
+                narrow(raw);
+            }
             _ => {
                 damage(prng, raw);
                 narrow(raw);
@@ -220,11 +242,13 @@ fn swap_holders(prng: &mut Prng, raw: &mut Raw) {
     }
 }
 
-/// T, S, R and the clock: exchanged, one step off, or taken from elsewhere.
+/// T, S, R, the year and the clock: exchanged, one step off, or taken from elsewhere.
 fn swap_limits(prng: &mut Prng, raw: &mut Raw) {
     let record = place(prng, raw);
     let due = raw.records[record].due;
-    match prng.below(8) {
+    match prng.below(10) {
+        8 => std::mem::swap(&mut raw.year, &mut raw.t),
+        9 => raw.year = prng.pick(&[(raw.year + 1) % 65_536, raw.year.saturating_sub(1)]),
         0 => std::mem::swap(&mut raw.t, &mut raw.s),
         1 => raw.t = (raw.t + 1) % 65_536,
         2 => raw.t = raw.t.saturating_sub(1),

@@ -6,8 +6,8 @@
 
 use engine::sheet::print_line;
 use engine::tables::{
-    legal_name, CEILING, CHAINS, DISC, DORMANT, FURTHEST, GENERAL_WAIT, LOWEST_PRIORITY,
-    MOST_NUMBERS, MOST_TRACKS, RECORDS,
+    legal_name, CEILING, CHAINS, DISC, DORMANT, EARLIEST_YEAR, FURTHEST, GENERAL_WAIT, LATEST_YEAR,
+    LOWEST_PRIORITY, MOST_NUMBERS, MOST_TRACKS, RECORDS,
 };
 use engine::{Engine, Holder, Program, Why};
 
@@ -51,6 +51,7 @@ fn limits_hold(engine: &Engine) -> bool {
         && engine.system <= engine.t()
         && engine.r() <= MOST_NUMBERS
         && engine.clock <= CEILING
+        && (EARLIEST_YEAR..=LATEST_YEAR).contains(&engine.year)
 }
 
 fn names_fit(engine: &Engine) -> bool {

@@ -1,20 +1,22 @@
-//! The engine's raw tables as the 1,269 bytes that the library takes, and back. Numbers are
+//! The engine's raw tables as the 1,271 bytes that the library takes, and back. Numbers are
 //! little-endian:
 //!
 //! | place | bytes | what |
 //! |---|---|---|
 //! | 0 | 8 | clock |
-//! | 8 | 2 | T |
-//! | 10 | 2 | S |
-//! | 12 | 1 | R |
-//! | 13 | 256 | the holder of each track |
-//! | 269 | 16 x 2 | each resource number: owner, lock |
-//! | 301 | 40 | links |
-//! | 341 | 32 x 29 | records: used, name 5, priority 2, state, why kind, why number 2, due 8, interval 8, mark |
+//! | 8 | 2 | the start year |
+//! | 10 | 2 | T |
+//! | 12 | 2 | S |
+//! | 14 | 1 | R |
+//! | 15 | 256 | the holder of each track |
+//! | 271 | 16 x 2 | each resource number: owner, lock |
+//! | 303 | 40 | links |
+//! | 343 | 32 x 29 | records: used, name 5, priority 2, state, why kind, why number 2, due 8, interval 8, mark |
 //!
 //! A why has the kind 0 (nothing), 1 (tracks), 2 (son), 3 (lock) or 4 (number); only 1 to 3 have a
 //! number, a son and a lock one below 256. `used` is 0 or 1, and so is the mark of request (ii). The
-//! library answers 14 to other bytes, those of the form without marks among them.
+//! library answers 14 to other bytes, those of the two older forms among them, without the year and
+//! without marks as well.
 //! `unpack` reads any bytes, some the same as others, so that `in_form` is a test of its own;
 //! `unpack` of `pack` always is the tables.
 
@@ -25,15 +27,18 @@ use std::convert::TryFrom;
 
 pub type Bytes = [u8; TABLES];
 
-pub const AT_TRACKS: usize = 13;
+pub const AT_YEAR: usize = 8;
+pub const AT_TRACKS: usize = 15;
 pub const AT_NUMBERS: usize = AT_TRACKS + 256;
 pub const AT_LINKS: usize = AT_NUMBERS + 32;
 pub const AT_RECORDS: usize = AT_LINKS + SLOTS;
 pub const RECORD: usize = 29;
 /// In a record, its last byte.
 pub const MARK: usize = 28;
-/// How long the form without marks is: a record has a byte less there.
-pub const OLDER: usize = TABLES - RECORDS;
+/// How long the form without a year is, and that without marks as well: there a record has a byte
+/// less.
+pub const WITHOUT_YEAR: usize = TABLES - 2;
+pub const WITHOUT_MARKS: usize = WITHOUT_YEAR - RECORDS;
 
 /// The kinds of a why, as bytes.
 const NOTHING: u8 = 0;
@@ -48,6 +53,7 @@ pub fn pack(raw: &Raw) -> Bytes {
     let mut bytes = [0; TABLES];
     let mut rest: &mut [u8] = &mut bytes;
     put(&mut rest, &raw.clock.to_le_bytes());
+    put(&mut rest, &two(raw.year));
     put(&mut rest, &two(raw.t));
     put(&mut rest, &two(raw.s));
     put(&mut rest, &[one(raw.r)]);
@@ -126,6 +132,7 @@ pub fn unpack(bytes: &Bytes) -> Raw {
     let mut raw = Raw {
         records: [UNUSED; RECORDS],
         clock: number(&mut rest, 8),
+        year: number(&mut rest, 2),
         t: number(&mut rest, 2),
         s: number(&mut rest, 2),
         r: number(&mut rest, 1),
@@ -177,15 +184,22 @@ fn number(rest: &mut &[u8], size: usize) -> u64 {
     u64::from_le_bytes(eight)
 }
 
-/// The same tables in the form without marks.
-pub fn older(bytes: &Bytes) -> Vec<u8> {
-    let (front, records) = bytes.split_at(AT_RECORDS);
+/// The same tables in the form without a year.
+pub fn without_year(bytes: &Bytes) -> Vec<u8> {
+    [&bytes[..AT_YEAR], &bytes[AT_YEAR + 2..]].concat()
+}
+
+/// The same tables in the form without marks, which had no year either.
+pub fn without_marks(bytes: &Bytes) -> Vec<u8> {
+    let older = without_year(bytes);
+    let (front, records) = older.split_at(AT_RECORDS - 2);
     let records = records.chunks_exact(RECORD).flat_map(|record| &record[..MARK]);
     front.iter().chain(records).copied().collect()
 }
 
 /// Cuts every number to what its bytes hold, so that the tables can be packed.
 pub fn narrow(raw: &mut Raw) {
+    raw.year %= 65_536;
     raw.t %= 65_536;
     raw.s %= 65_536;
     raw.r %= 256;

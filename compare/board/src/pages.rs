@@ -1,7 +1,7 @@
 //! A page read back: what the library makes of it and what the engine does.
 
 use crate::ffi::{self, Reply, ANSWER, TABLES};
-use crate::pack::{pack, OLDER, RECORD};
+use crate::pack::{pack, RECORD, WITHOUT_MARKS, WITHOUT_YEAR};
 use crate::show;
 use crate::tables::{answered, margins_kept, reply_of, with_margins, within, FILL};
 use comparer::absurd::{every_byte, fixed};
@@ -33,7 +33,7 @@ pub fn engine_side(case: &Case) -> (Answer, Outcome) {
     let (raw, answer) = engine::read(&case.page);
     let mut tables = case.tables.clone();
     let reply = if case.answer.len() < ANSWER || case.tables.len() < TABLES {
-        Reply { number: TOO_SHORT, values: [TABLES as u64, 0, 0, 0, 0] }
+        Reply::new(TOO_SHORT, TABLES as u64)
     } else {
         tables[..TABLES].copy_from_slice(&pack(&raw));
         reply_of(answer)
@@ -137,7 +137,7 @@ pub fn agree(seed: u64, count: u64, total: &mut Count) -> Result<(), String> {
 fn lend(prng: &mut Prng, page: Vec<u8>) -> Case {
     let any = prng.below(TABLES as u64) as usize;
     let tables = match prng.below(24) {
-        0 => prng.pick(&[0, 1, any, OLDER, TABLES - 1, TABLES - 1]),
+        0 => prng.pick(&[0, 1, any, WITHOUT_MARKS, WITHOUT_YEAR, TABLES - 1, TABLES - 1]),
         1 | 2 => prng.pick(&[TABLES + 1, TABLES + RECORD, 2 * TABLES]),
         _ => TABLES,
     };
@@ -156,7 +156,9 @@ fn lend(prng: &mut Prng, page: Vec<u8>) -> Case {
 pub fn lengths(total: &mut Count) -> Result<(), String> {
     let example = comparer::absurd::EXAMPLE.as_bytes();
     for page in [example, &example[1..], b""] {
-        for size in [0, 1, 12, OLDER, TABLES - 1, TABLES, TABLES + 1, 2 * TABLES] {
+        for size in
+            [0, 1, 14, WITHOUT_MARKS, WITHOUT_YEAR, TABLES - 1, TABLES, TABLES + 1, 2 * TABLES]
+        {
             for answer_size in [0, 8, ANSWER - 1, ANSWER, ANSWER + 1, 2 * ANSWER] {
                 let (tables, answer) = (vec![FILL; size], vec![FILL; answer_size]);
                 let case = Case { page: page.to_vec(), tables, answer };

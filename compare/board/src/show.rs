@@ -11,8 +11,11 @@ use std::convert::TryFrom;
 /// A line for each field, in an order that does not depend on the values, so that two tables can be
 /// compared line by line. What is blank is left empty.
 fn fields(raw: &Raw) -> Vec<String> {
-    let mut list =
-        vec![format!("clock {}", raw.clock), format!("T {}, S {}, R {}", raw.t, raw.s, raw.r)];
+    let mut list = vec![
+        format!("clock {}", raw.clock),
+        format!("year {}", raw.year),
+        format!("T {}, S {}, R {}", raw.t, raw.s, raw.r),
+    ];
     for (place, record) in raw.records.iter().enumerate() {
         list.push(if *record == UNUSED { String::new() } else { record_line(place + 1, record) });
     }

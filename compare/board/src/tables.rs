@@ -3,15 +3,18 @@
 use crate::ask;
 use crate::ffi::{self, Reply, ANSWER, TABLES};
 use crate::harm;
-use crate::pack::{formed, in_form, pack, OLDER};
+use crate::pack::{formed, in_form, pack, WITHOUT_MARKS, WITHOUT_YEAR};
 use crate::show;
 use comparer::leaps;
 use comparer::make;
 use comparer::prng::Prng;
 use comparer::report::shown;
+use comparer::turns;
 use engine::raw::{Raw, RawRecord};
+use engine::tables::{EARLIEST_YEAR, LATEST_YEAR, USUAL_YEAR};
 use engine::{parse, Answer, Request, Value};
 use std::collections::BTreeMap;
+use std::convert::TryInto;
 
 /// Where tables come from.
 #[derive(Clone, Copy, Debug, PartialEq, Eq, PartialOrd, Ord)]
@@ -152,7 +155,7 @@ impl Cases {
 
 pub fn reply_of(answer: Answer) -> Reply {
     let values = match answer.value {
-        Value::Number(value) => [value, 0, 0, 0, 0],
+        Value::Number(value) => return Reply::new(answer.number, value),
         Value::Time(parts) => parts,
     };
     Reply { number: answer.number, values }
@@ -170,7 +173,7 @@ pub fn answered(reply: &Reply, lent: &[u8]) -> Vec<u8> {
 /// Nothing done but the answer told.
 fn refused(case: &Case, number: u64) -> Outcome {
     let (tables, page) = (case.tables.clone(), case.page.clone());
-    let answer = answered(&Reply { number, values: [0; 5] }, &case.answer);
+    let answer = answered(&Reply::new(number, 0), &case.answer);
     Outcome { number, tables, page, answer }
 }
 
@@ -246,6 +249,11 @@ pub struct Count {
     marks: [u64; 3],
     /// What `TICK,n` did, on tables that a script reaches, or nearly, and on those that none does.
     leaps: [leaps::Count; 2],
+    /// Start years and times, on the same.
+    turns: [turns::Count; 2],
+    /// Sound tables with another year than 1975, and tables with a year that FRESH does not take.
+    dated: u64,
+    misdated: u64,
     /// Answers with too little room, and with more than they need.
     short: u64,
     longer: u64,
@@ -262,6 +270,7 @@ impl Count {
         self.no_form += u64::from(!in_form(&case.tables));
         self.add_marks(case, sound, outcome);
         self.add_leaps(case, sound, outcome);
+        self.add_turns(case, sound, outcome);
         self.short += u64::from(case.answer.len() < ANSWER);
         self.longer += u64::from(case.answer.len() > ANSWER);
         if sound && case.answer.len() >= ANSWER {
@@ -307,6 +316,38 @@ impl Count {
         }
     }
 
+    fn add_turns(&mut self, case: &Case, sound: bool, outcome: &Outcome) {
+        let before = match formed(&case.tables) {
+            Some(before) => before,
+            None => return,
+        };
+        let allowed = (EARLIEST_YEAR..=LATEST_YEAR).contains(&before.year);
+        self.dated += u64::from(sound && before.year != USUAL_YEAR);
+        self.misdated += u64::from(!allowed);
+        let front: [u8; ANSWER] = match outcome.answer.get(..ANSWER) {
+            Some(front) if sound => front.try_into().unwrap_or([0; ANSWER]),
+            _ => return,
+        };
+        let Reply { number, values } = Reply::of_bytes(&front);
+        let value = match parse(&case.line) {
+            Some(Request::Exec11) if number == 0 => Value::Time(values),
+            _ => Value::Number(values[0]),
+        };
+        let made = usize::from(case.kind == Kind::Unreached);
+        let date = (before.year, before.clock);
+        self.turns[made].add(date, &case.line, Answer { number, value });
+    }
+
+    /// How often this came of start years and times.
+    pub fn turns(&self, row: &str) -> u64 {
+        self.turns.iter().map(|count| count.of(row)).sum()
+    }
+
+    /// Sound tables with another year than 1975, and tables with a year that FRESH does not take.
+    pub fn years(&self) -> (u64, u64) {
+        (self.dated, self.misdated)
+    }
+
     /// How often this came of `TICK,n`.
     pub fn leaps(&self, row: &str) -> u64 {
         self.leaps.iter().map(|count| count.of(row)).sum()
@@ -330,6 +371,8 @@ impl Count {
         text += &format!("{:28}{:>10}\n", "not in packed form", self.no_form);
         text += &format!("{:28}{:>10}{:>10}\n", "with a mark", "", self.marked);
         text += &format!("{:28}{:>10}\n", "a mark where none may stand", self.mismarked);
+        text += &format!("{:28}{:>10}{:>10}\n", "with a year but 1975", "", self.dated);
+        text += &format!("{:28}{:>10}\n", "a year that is out of range", self.misdated);
         text += &format!("{:28}{:>10}\n", "too few bytes for the answer", self.short);
         text += &format!("{:28}{:>10}\n", "more bytes than it needs", self.longer);
         text +=
@@ -341,8 +384,9 @@ impl Count {
         for (what, times) in ["set", "gone by an ending", "to chain 6"].iter().zip(self.marks) {
             text += &format!("{:28}{:>10}\n", what, times);
         }
-        text +=
-            &format!("\n{}", self.leaps[0].print(["others", "reached by none"], &self.leaps[1]));
+        let columns = ["others", "reached by none"];
+        text += &format!("\n{}", self.leaps[0].print(columns, &self.leaps[1]));
+        text += &format!("\n{}", self.turns[0].print(columns, &self.turns[1]));
         text += &format!("\n{:28}{:>10}\n", "answer", "times");
         for (number, times) in self.answers.iter().enumerate() {
             text += &format!("{:<28}{:>10}\n", number, times);
@@ -392,7 +436,7 @@ fn compare(mut cases: Cases, seed: u64, count: u64, total: &mut Count) -> Result
             return Err(title + &report(&case, sound, &expected, &got));
         }
         if let Some((tables, sum)) = single_ticks(&case, sound, expected.number) {
-            let reply = Reply { number: 0, values: [sum, 0, 0, 0, 0] };
+            let reply = Reply::new(0, sum);
             let answer = answered(&reply, &case.answer);
             if (&tables, &answer) != (&expected.tables, &expected.answer) {
                 let single = Outcome { tables, answer, ..expected.clone() };
@@ -449,7 +493,8 @@ fn report(
 /// Every pair of a length of tables and one of the answer, right and wrong.
 pub fn lengths() -> Result<(), String> {
     let tables = [pack(&make::unreached(&mut Prng::new(1))).to_vec(), vec![0; TABLES]].concat();
-    for size in [0, 1, 12, OLDER, TABLES - 1, TABLES, TABLES + 1, 2 * TABLES] {
+    for size in [0, 1, 14, WITHOUT_MARKS, WITHOUT_YEAR, TABLES - 1, TABLES, TABLES + 1, 2 * TABLES]
+    {
         for answer_size in [0, 8, ANSWER - 1, ANSWER, ANSWER + 1, 2 * ANSWER] {
             let case = Case {
                 kind: Kind::Resized,

@@ -77,7 +77,7 @@ fn engine_side(pieces: &[Vec<u8>], size: usize, answer_size: usize) -> Outcome {
         buffer = vec![FILL; size];
         12
     } else {
-        let values = [all as u64, put as u64, 0, 0, 0];
+        let values = [all as u64, put as u64, 0, 0, 0, 0];
         answer = answered(&Reply { number: 0, values }, &answer);
         0
     };

@@ -82,7 +82,8 @@ fn many_numbers(prng: &mut Prng, lines: &mut Lines) {
 
 fn wild_sizes(prng: &mut Prng, lines: &mut Lines) {
     let wild: [u64; 6] = [257, 65_536, 65_537, 1 << 32, (1 << 32) + 1, 9_999_999_999_999];
-    let key = prng.pick(&["clock", "tracks", "system", "numbers", "id", "state", "priority"]);
+    let keys = ["clock", "year", "tracks", "system", "numbers", "id", "state", "priority"];
+    let key = prng.pick(&keys);
     let places = having(lines, key);
     if !places.is_empty() {
         lines[prng.pick(&places)] = format!("{}={}", key, prng.pick(&wild));
@@ -90,7 +91,8 @@ fn wild_sizes(prng: &mut Prng, lines: &mut Lines) {
 }
 
 /// A page with every key and every kind of why in it.
-pub const EXAMPLE: &str = "page=rte2\nclock=7\ntracks=9\nsystem=1\nnumbers=3\nprograms=5\n\
+pub const EXAMPLE: &str =
+    "page=rte2\nclock=7\nyear=1996\ntracks=9\nsystem=1\nnumbers=3\nprograms=5\n\
     id=1\nname=A\npriority=10\nstate=1\nwhy=-\ndue=-\ninterval=-\n\
     id=2\nname=WHZAT\npriority=10\nstate=3\nwhy=son:1\ndue=8\ninterval=0\n\
     id=3\nname=C3\npriority=9\nstate=3\nwhy=lock:2\ndue=100\ninterval=17\nsuspend=1\n\
@@ -98,6 +100,38 @@ pub const EXAMPLE: &str = "page=rte2\nclock=7\ntracks=9\nsystem=1\nnumbers=3\npr
     id=32\nname=E\npriority=32767\nstate=3\nwhy=number\ndue=-\ninterval=-\n\
     chain1=1\nchain3=3,2,32\nchain5=17\nchain6=\n\
     held=1-3:17\nheld=4-4:global\nheld=7-8:17\nnumber=1:global:-\nnumber=3:2:32\nend=page\n";
+
+/// What stands in the place of the year: right ones, such as no sound tables write, and misshapen
+/// ones.
+const YEARS: [&str; 27] = [
+    "year=1970",
+    "year=1974",
+    "year=1976",
+    "year=2000",
+    "year=2099",
+    "year=1975",
+    "year=0",
+    "year=1",
+    "year=75",
+    "year=1969",
+    "year=2100",
+    "year=67512",
+    "year=4294969272",
+    "year=1000000001976",
+    "year=9999999999999",
+    "year=10000000001976",
+    "year=99999999999999",
+    "year=00000000001976",
+    "year=01976",
+    "year=",
+    "year=-",
+    "year=+1976",
+    "year=1976 ",
+    "year= 1976",
+    "year=1976=1976",
+    "Year=1976",
+    "year1976",
+];
 
 /// Pages of a fixed kind, each with what it is.
 pub fn fixed() -> Vec<(&'static str, Vec<u8>)> {
@@ -127,8 +161,17 @@ pub fn fixed() -> Vec<(&'static str, Vec<u8>)> {
             pages.push(("a line that a page has not, or not there", bytes_of(&more)));
         }
     }
+    for line in YEARS {
+        let mut other = lines.clone();
+        other[2] = line.to_string();
+        pages.push(("a line of the year", bytes_of(&other)));
+        other.insert(2, lines[2].clone());
+        pages.push(("two lines of the year", bytes_of(&other)));
+        other.swap(2, 3);
+        pages.push(("two lines of the year", bytes_of(&other)));
+    }
     // All of one holder, in two parts.
-    let whole = Engine::fresh(6, 0, 0).0.page_bytes();
+    let whole = Engine::fresh(6, 0, 0, 1975).0.page_bytes();
     let whole = String::from_utf8_lossy(&whole).to_string();
     for first in 0..5 {
         let held = format!("held=0-{}:global\nheld={}-5:global\nend=", first, first + 1);

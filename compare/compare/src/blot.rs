@@ -3,6 +3,7 @@
 
 use crate::prng::Prng;
 use crate::twist::{any_line, any_number, field, having, key, Lines};
+use crate::years::allowed;
 
 /// Bytes that mean something on a page, or nearly.
 const TELLING: &[u8] = b"0123456789=,:-\n\r /;@[`{AZaz\0\xff\x8a";
@@ -46,8 +47,8 @@ pub fn line(prng: &mut Prng, lines: &mut Lines) {
 }
 
 /// Lines that a page has not, those of later requests among them, or has at other places, each with
-/// the key before which it would stand.
-pub const STRANGE: [(&str, &str); 11] = [
+/// the key before which it would stand: a year stands there.
+pub const STRANGE: [(&str, &str); 14] = [
     ("", "end"),
     ("=", "clock"),
     ("suspend=1", "chain1"),
@@ -55,6 +56,9 @@ pub const STRANGE: [(&str, &str); 11] = [
     ("suspend=2", "chain1"),
     ("year=1975", "tracks"),
     ("year=1976", "tracks"),
+    ("year=2100", "tracks"),
+    ("year=", "tracks"),
+    ("year=02000", "tracks"),
     ("chain4=", "chain5"),
     ("chain2=", "chain3"),
     ("mail=1:0", "end"),
@@ -110,6 +114,60 @@ pub fn mark(prng: &mut Prng, lines: &mut Lines) {
             let at = from + prng.below((lines.len() - from) as u64 + 1) as usize;
             lines.insert(at.min(lines.len()), right);
         }
+    }
+}
+
+/// A line of the year that is none: misshapen, doubled, or at another place; now and then a right one
+/// at its place.
+pub fn year(prng: &mut Prng, lines: &mut Lines) {
+    let any = allowed(prng);
+    let right = format!("year={}", prng.pick(&[any, any, any, 1975]));
+    let behind = having(lines, "clock").first().map_or(0, |at| at + 1);
+    let there = lines.get(behind).map_or(false, |line| key(line) == "year");
+    let old = if there { Some(lines.remove(behind)) } else { None };
+    let right = old.unwrap_or(right);
+    match prng.below(8) {
+        0 | 1 => {
+            let fields = [
+                String::new(),
+                format!("0{}", any),
+                format!("0000000{}", any),
+                format!("{:0>13}", any),
+                format!("{:0>14}", any),
+                format!("{:0<13}", any),
+                format!("{:0<14}", any),
+                format!("1000000000{}", any),
+                format!("{} ", any),
+                format!(" {}", any),
+                format!("+{}", any),
+                format!("-{}", any),
+                format!("{}-", any),
+                format!("{}:{}", any, any),
+                format!("{}.1", any),
+                String::from("-"),
+                String::from("A"),
+                any.to_string()[..2].to_string(),
+            ];
+            lines.insert(behind, format!("year={}", prng.pick(&fields)));
+        }
+        2 | 3 => {
+            let keys = ["Year", "YEAR", "years", "yea", "year ", " year", "", "day"];
+            let doubled = [right.clone(), format!("year={}", any), String::from("year=1975")];
+            if prng.chance(1, 3) {
+                lines.insert(behind, format!("{}={}", prng.pick(&keys), any));
+            } else {
+                lines.insert(behind, right);
+                lines.insert(behind + prng.below(2) as usize, prng.pick(&doubled));
+            }
+        }
+        // Before the clock, or one to three lines behind its place.
+        4 => lines.insert(behind.saturating_sub(1), right),
+        5 => lines.insert((behind + prng.between(1, 3) as usize).min(lines.len()), right),
+        6 => {
+            let at = prng.below(lines.len() as u64 + 1) as usize;
+            lines.insert(at, right);
+        }
+        _ => lines.insert(behind, right),
     }
 }
 
@@ -212,6 +270,8 @@ pub fn misshapen(prng: &mut Prng, lines: &mut Lines) {
         "end" => &["pag", "pages", "Page", "", "page ", "rte2"],
         "name" => &["1ABC", "abc", "", "ABCDEF", "AB CD", "A-B", "A    ", "Ab", "A[", "9", "-"],
         "why" => &[
+            "",
+            "",
             "",
             "tracks",
             "tracks:",

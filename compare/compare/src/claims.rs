@@ -2,6 +2,7 @@
 //! numbers that are locked, timers due together.
 
 use crate::prng::Prng;
+use crate::years::DAY;
 use engine::tables::CEILING;
 use engine::ticks::MOST_TICKS;
 use engine::{Engine, Holder, Timer};
@@ -120,15 +121,15 @@ fn timers(engine: &Engine) -> Vec<Timer> {
     engine.programs.values().filter_map(|program| program.timer).collect()
 }
 
-/// How many ticks at once: mostly few, or up to a due or beside it; now and then many, none, or too
-/// many. Near the ceiling often as many as there is room for, or beside that.
+/// How many ticks at once: mostly few, or up to a due or beside it; now and then up to the end of the
+/// day, many, none, or too many. Near the ceiling often as many as there is room for, or beside that.
 pub fn ticks(prng: &mut Prng, engine: &Engine) -> u64 {
     let set = timers(engine);
     let room = CEILING - engine.clock;
     if room <= MOST_TICKS && prng.chance(1, 3) {
         return beside(prng, room);
     }
-    match prng.below(16) {
+    match prng.below(17) {
         0..=7 if !set.is_empty() => up_to_due(prng, engine, &set),
         8 => prng.between(1, 40),
         9 => prng.between(1, 1_000),
@@ -146,6 +147,10 @@ pub fn ticks(prng: &mut Prng, engine: &Engine) -> u64 {
             4_294_967_297,
             9_999_999_999,
         ]),
+        13 => {
+            let left = DAY - engine.clock % DAY;
+            beside(prng, left)
+        }
         _ => prng.between(1, 5),
     }
 }

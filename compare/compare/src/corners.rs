@@ -1,5 +1,5 @@
 //! Fixed inputs, run after the scripts: how input can begin and end, every byte, every length, very
-//! long lines, bounds, every way to wake, many ticks at once, and a long time.
+//! long lines, bounds, every way to wake, many ticks at once, the ends of years, and a long time.
 
 use crate::{forms, knots, nights};
 
@@ -22,12 +22,19 @@ pub fn named() -> Vec<(&'static str, Vec<u8>)> {
 }
 
 /// Those with many ticks at once.
-pub fn of_ticks() -> [(&'static str, Vec<u8>); 3] {
+pub fn of_ticks() -> [(&'static str, Vec<u8>); 4] {
     [
         ("many ticks, every moment", nights::every_moment()),
         ("many ticks, days and years", nights::calendar()),
         ("many ticks, up to the ceiling", nights::ceiling()),
+        ("years, up to the ceiling", nights::years()),
     ]
+}
+
+/// Those with start years and times, one after another.
+pub fn of_years() -> Vec<u8> {
+    let about = [forms::bounds(), nights::calendar(), nights::ceiling(), nights::years()];
+    about.join(&b'\n')
 }
 
 const FIELDS: &str = "fields of every length";
@@ -40,7 +47,7 @@ pub fn corners() -> Vec<Vec<u8>> {
     named().into_iter().filter(|(about, _)| short(about)).map(|(_, input)| input).collect()
 }
 
-const STARTS: [&str; 10] = [
+const STARTS: [&str; 14] = [
     "",
     "\n",
     "\n\n",
@@ -51,6 +58,10 @@ const STARTS: [&str; 10] = [
     "LOAD,A,1\nRU,A\nEXEC,15,1,0\nEXEC,4,1,0\nPAGE\nEXEC,11",
     "RN,ALLOC,L,0\nLOAD,L,0\nRU,L\nRN,ALLOC,L,0\nFRESH,257,0,0\nPAGE\n",
     "FRESH,4,1,1\nLOAD,WHZAT,10\nRU,WHZAT\nEXEC,4,2,0\nPAGE\n",
+    "FRESH,1,0,0,1976\nPAGE\nFRESH,1,0,0\nPAGE\n",
+    "FRESH,4,1,1,1975\nPAGE\nFRESH,4,1,1\nPAGE",
+    "FRESH,0,0,0,2000\nPAGE\nLOAD,A,1\nRU,A\nEXEC,11\nFRESH,1,0,0,1969\nPAGE",
+    "FRESH,2,0,0,2000\nLOAD,A,1\nFRESH,0,0,0\nFRESH,1,0,0,2100\nRU,A\nEXEC,11\nPAGE\n",
 ];
 
 /// Every byte as a line of its own, and as the second byte of a name.

@@ -28,13 +28,21 @@ pub fn damage(prng: &mut Prng, raw: &mut Raw) {
         11 => raw.links[prng.below(SLOTS as u64) as usize] = byte,
         12 => exchange_links(prng, raw),
         13 => change_mark(prng, raw),
-        _ => match prng.below(4) {
+        _ => match prng.below(6) {
             0 => raw.clock = prng.pick(&[value, 1_000_000_000_000, 1_000_000_000_001]),
             1 => raw.t = value,
             2 => raw.s = value,
-            _ => raw.r = value,
+            3 => raw.r = value,
+            _ => change_year(prng, raw),
         },
     }
+}
+
+/// Another start year, mostly none that FRESH takes.
+pub fn change_year(prng: &mut Prng, raw: &mut Raw) {
+    let wild = [0, 1, 75, 1969, 1969, 2100, 2100, 2415, 32_767, 65_535, 65_536 + 1975, u64::MAX];
+    let right = [1970, 1975, 1976, 2099];
+    raw.year = if prng.chance(1, 4) { prng.pick(&right) } else { prng.pick(&wild) };
 }
 
 /// The mark of a record that is not used, or of a program in some state, if there is one.

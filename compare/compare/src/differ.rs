@@ -42,7 +42,9 @@ pub fn shortest(other: &Other, failure: &Failure) -> Result<Vec<u8>, String> {
 /// Whether the first line is a FRESH that is accepted.
 pub fn begins_fresh(input: &[u8]) -> bool {
     match lines(input).first().map(|line| parse(line)) {
-        Some(Some(Request::Fresh(t, s, r))) => Engine::fresh(t, s, r).1.is_ok(),
+        Some(Some(request @ Request::Fresh(..))) => {
+            Engine::smallest().perform(request, &mut []).is_ok()
+        }
         _ => false,
     }
 }

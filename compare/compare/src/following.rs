@@ -9,7 +9,7 @@ use crate::report::{front, outputs_near};
 use crate::sheets::{Content, Run, Runs, Sheet};
 use crate::shrink::shrink;
 use crate::verdicts::Count;
-use engine::tables::{shown_name, FREE_NUMBER, RECORDS};
+use engine::tables::{shown_name, FREE_NUMBER, RECORDS, USUAL_YEAR};
 use engine::{Engine, File, Holder};
 use faults::{Follow, Given};
 use std::ffi::{OsStr, OsString};
@@ -215,10 +215,10 @@ fn tables_of(page: &[u8]) -> Option<Engine> {
     raw.engine().filter(|_| answer.number == 0)
 }
 
-/// Without as many programs on these pages, and without what is held and allocated there, as it can
-/// be and still differ.
+/// Without as many programs on these pages, without what is held and allocated there, and without a
+/// year, as it can be and still differ.
 fn less(program: &Program, mut run: Run, places: &[usize]) -> Result<Run, String> {
-    for what in 0..=RECORDS + 1 {
+    for what in 0..=RECORDS + 2 {
         let mut smaller = run.clone();
         for place in places {
             let page = page_of(&run, *place).map(|tables| without(tables, what));
@@ -233,10 +233,13 @@ fn less(program: &Program, mut run: Run, places: &[usize]) -> Result<Run, String
     Ok(run)
 }
 
-/// The page without what is held (0), without what is allocated (33), or without this program.
+/// The page without what is held (0), without what is allocated (33), without a year (34), or without
+/// this program.
 fn without(mut tables: Engine, what: usize) -> Vec<u8> {
     if what == 0 {
         tables.tracks[tables.system as usize..].fill(Holder::Free);
+    } else if what > RECORDS + 1 {
+        tables.year = USUAL_YEAR;
     } else if what > RECORDS {
         tables.numbers.fill(FREE_NUMBER);
     } else if let Some(program) = tables.programs.get(&what) {

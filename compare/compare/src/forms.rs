@@ -2,8 +2,9 @@
 //! length, and numbers at the bounds of their ranges.
 
 /// Every form of a well-formed line, each accepted after `SETUP`.
-pub const FORMS: [&str; 28] = [
+pub const FORMS: [&str; 29] = [
     "FRESH,12,2,3",
+    "FRESH,12,2,3,1976",
     "LOAD,NEW,10",
     "RU,C",
     "SS,AB",
@@ -178,7 +179,8 @@ pub fn every_field() -> Vec<u8> {
     input
 }
 
-/// The two forms with three numbers, at every length of every field; the longest line has 46 bytes.
+/// The forms with three numbers and more, at every length of every field; the longest line has 49
+/// bytes.
 fn lengths_together() -> Vec<u8> {
     let mut input = SETUP.as_bytes().to_vec();
     let digits = |length: usize| format!("{:1<1$}", 4, length);
@@ -192,12 +194,63 @@ fn lengths_together() -> Vec<u8> {
                 }
                 // Refused for its size or for its form: the tables stay.
                 put(&mut input, format!("FRESH,999{}", numbers).as_bytes());
+                for year in [1, 4, LONGEST_NUMBER, LONGEST_NUMBER + 1] {
+                    put(&mut input, format!("FRESH,{},{}", numbers, digits(year)).as_bytes());
+                }
             }
         }
     }
     put(&mut input, b"PAGE");
     input
 }
+
+/// Years, those that are others in fewer bits or with fewer digits among them.
+const YEARS: [u64; 27] = [
+    0,
+    1,
+    70,
+    75,
+    99,
+    1_900,
+    1_968,
+    1_969,
+    1_970,
+    1_971,
+    1_974,
+    1_975,
+    1_976,
+    1_977,
+    2_000,
+    2_096,
+    2_098,
+    2_099,
+    2_100,
+    2_101,
+    2_400,
+    9_999,
+    19_760,
+    65_536 + 1_976,
+    4_294_967_295,
+    4_294_967_296 + 1_976,
+    9_999_999_999,
+];
+
+/// Fourth fields that are no numbers, and lines with a fifth.
+const NO_YEARS: [&str; 13] = [
+    "",
+    ",",
+    ",,",
+    ",1976",
+    "1976,",
+    "1976,0",
+    "1976,1976",
+    "01976",
+    "0001976",
+    "+1976",
+    "-1",
+    "A",
+    "1976A",
+];
 
 const NUMBERS_OF_TICKS: [u64; 20] = [
     0,
@@ -231,6 +284,19 @@ pub fn bounds() -> Vec<u8> {
                 by_itself(&mut input, format!("FRESH,{},{},{}", t, s, r).as_bytes());
             }
         }
+    }
+    for year in YEARS {
+        // With sizes that are right, and with one that is not.
+        for sizes in ["12,2,3", "1,0,0", "256,256,16", "0,0,0", "257,0,0", "4,5,0", "4,0,17"] {
+            by_itself(&mut input, format!("FRESH,{},{}", sizes, year).as_bytes());
+        }
+        // On tables that have a year of their own.
+        put(&mut input, b"FRESH,12,2,3,2001");
+        put(&mut input, format!("FRESH,12,2,3,{}", year).as_bytes());
+        input.extend_from_slice(b"PAGE\nFRESH,12,2,3\nPAGE\n");
+    }
+    for field in NO_YEARS {
+        by_itself(&mut input, format!("FRESH,12,2,3,{}", field).as_bytes());
     }
     for priority in [0, 1, 32_766, 32_767, 32_768] {
         for line in ["LOAD,NEW", "PR,AB", "PR,C", "PR,D"] {

@@ -10,9 +10,11 @@
 //! | `spoil` | lines that are nearly right, and lines that are not |
 //! | `tangle` | an opening in which many wait for one program |
 //! | `rota` | an opening in which timers come due at several moments of one line |
+//! | `years` | start years, and an opening in which years end |
 //! | `script` | a whole script from a seed |
 //! | `marks` | who woke by what, marked or not, and how often |
 //! | `leaps` | what `TICK,n` did, and how often |
+//! | `turns` | start years and times, and how often |
 //! | `corners` | fixed inputs |
 //! | `forms` | fixed inputs made from the forms of a line |
 //! | `knots` | a fixed input with every way to wake, marked or not |
@@ -73,9 +75,11 @@ pub mod spoil;
 pub mod tally;
 pub mod tangle;
 pub mod texts;
+pub mod turns;
 pub mod twist;
 pub mod verdicts;
 pub mod wish;
+pub mod years;
 
 use std::ops::Range;
 

@@ -1,7 +1,7 @@
 //! The command line: see `USAGE`.
 
 use comparer::asks::Ask;
-use comparer::corners::of_ticks;
+use comparer::corners::{of_ticks, of_years};
 use comparer::differ::{self, shortest, Count, Failure};
 use comparer::filed::{self, Folder, Program, CI_FILED};
 use comparer::following::{self, CI_TRIPLES};
@@ -15,6 +15,7 @@ use comparer::report::report;
 use comparer::script::generate_within;
 use comparer::tally;
 use comparer::texts::Pair;
+use comparer::turns;
 use comparer::verdicts;
 use comparer::{CI_LINES, CI_SEEDS};
 use engine::ticks::MOST_TICKS;
@@ -164,12 +165,13 @@ fn run(options: Options) -> Result<u8, String> {
     match failure {
         None => {
             let marks = marks::Count::of_scripts(options.seeds, options.lines);
-            let fixed = of_ticks().map(|(_, input)| input).join(&b'\n');
-            let fixed = leaps::Count::of_input(&fixed);
-            let leaps = marks.leaps.print(["scripts", "fixed inputs"], &fixed);
+            let columns = ["scripts", "fixed inputs"];
+            let fixed = leaps::Count::of_input(&of_ticks().map(|(_, input)| input).join(&b'\n'));
+            let leaps = marks.leaps.print(columns, &fixed);
+            let turns = marks.turns.print(columns, &turns::Count::of_input(&of_years()));
             let Count { runs, scripts, lines } = count;
             let said = format!("{runs} runs, {scripts} scripts, {lines} lines: no difference\n");
-            print(format!("{}\n{}{}", marks.print(), leaps, said).as_bytes())
+            print(format!("{}\n{}\n{}\n{}", marks.print(), leaps, turns, said).as_bytes())
         }
         Some(failure) => show(&other, &failure, options.save),
     }

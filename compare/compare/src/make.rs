@@ -5,15 +5,17 @@
 
 use crate::prng::Prng;
 use crate::script::generate;
+use crate::years::{self, DAY};
 use engine::raw::{
     Raw, RawNumber, RawRecord, RawWhy, BLANK_NUMBER, GLOBAL, LINKS, SLOTS, SYSTEM, UNUSED,
 };
 use engine::sheet::{lines, print_line};
-use engine::tables::{CEILING, CHAINS, DISC, FURTHEST, GENERAL_WAIT, LOWEST_PRIORITY, RECORDS};
+use engine::tables::{
+    CEILING, CHAINS, DISC, FURTHEST, GENERAL_WAIT, LATEST_YEAR, LOWEST_PRIORITY, RECORDS,
+    USUAL_YEAR,
+};
 use engine::ticks::MOST_TICKS;
 use engine::Engine;
-
-const DAY: u64 = 8_640_000;
 
 /// The tables at some places of one script.
 pub fn reached(prng: &mut Prng, most: usize) -> Vec<Raw> {
@@ -33,9 +35,11 @@ pub fn reached(prng: &mut Prng, most: usize) -> Vec<Raw> {
 /// Tables of which only soundness is asked.
 pub fn unreached(prng: &mut Prng) -> Raw {
     let (t, s, r) = sizes(prng);
+    let year = if prng.chance(1, 3) { USUAL_YEAR } else { years::allowed(prng) };
     let mut raw = Raw {
         records: [UNUSED; RECORDS],
-        clock: clock(prng),
+        clock: clock(prng, year),
+        year,
         t,
         s,
         r,
@@ -63,16 +67,19 @@ fn sizes(prng: &mut Prng) -> (u64, u64, u64) {
 }
 
 /// Often the last tick of a day or of a year, or close below the ceiling.
-fn clock(prng: &mut Prng) -> u64 {
+fn clock(prng: &mut Prng, start_year: u64) -> u64 {
     let day = prng.between(1, CEILING / DAY) * DAY;
-    let year = prng.between(1, CEILING / DAY / 365) * DAY * 365;
+    let (_, year) = prng.pick(&years::turns(start_year));
+    // Day 366 begins there, if there is one.
+    let last_day = (year + 364 * DAY).min(CEILING - DAY - 1);
     let any = prng.below(CEILING + 1);
     let near = prng.below(5);
-    match prng.below(8) {
+    match prng.below(9) {
         0 => 0,
         1 => near,
         2 => day + 1 - near.min(2),
         3 => year + 1 - near.min(2),
+        8 => last_day + DAY * prng.below(2) + 1 - near.min(2),
         4 => CEILING,
         5 => CEILING - near,
         6 => {
@@ -234,9 +241,9 @@ fn put_links(prng: &mut Prng, raw: &mut Raw) {
 }
 
 /// The tables with the longest page: every number has as many digits as it can, every record waits
-/// for tracks and is marked, and no two neighbours of 256 tracks have one holder.
+/// for tracks and is marked, no two neighbours of 256 tracks have one holder, and the year is shown.
 pub fn largest() -> Raw {
-    let (engine, _) = Engine::fresh(256, 0, 16);
+    let (engine, _) = Engine::fresh(256, 0, 16, LATEST_YEAR);
     let mut raw = Raw::of(&engine);
     raw.clock = CEILING;
     let mut slot = usize::from(DISC);

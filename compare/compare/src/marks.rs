@@ -1,8 +1,10 @@
 //! How often what came up in scripts: who woke by what, with the mark of request (ii) and without
-//! it, and what was asked of those who wait and are marked; and what many ticks at once did.
+//! it, and what was asked of those who wait and are marked; what many ticks at once did; and start
+//! years and times.
 
 use crate::leaps;
 use crate::script::generate;
+use crate::turns;
 use engine::raw::Raw;
 use engine::sheet::lines;
 use engine::tables::{DISC, DORMANT, GENERAL_WAIT, SCHEDULED, SUSPENDED};
@@ -65,6 +67,7 @@ pub struct Count {
     /// Those in which somebody was marked.
     pub marked: u64,
     pub leaps: leaps::Count,
+    pub turns: turns::Count,
     causes: BTreeMap<&'static str, Woken>,
     rows: BTreeMap<&'static str, u64>,
 }
@@ -89,12 +92,18 @@ impl Count {
         let mut removed = BTreeSet::new();
         let mut marked = false;
         for line in lines(script) {
+            let date = (engine.year, engine.clock);
             let request = match parse(line) {
-                Some(Request::Page) | None => continue,
+                Some(Request::Page) | None => {
+                    // Of a page only that it is asked for is told, and of no line that it is none.
+                    self.turns.add(date, line, Answer::new(0, 0));
+                    continue;
+                }
                 Some(request) => request,
             };
             let before = engine.clone();
             let outcome = engine.perform(request, &mut []);
+            self.turns.add(date, line, Answer::of(outcome));
             self.add_asked(&before, request);
             if let Request::Ticks(n) = request {
                 let answer = Answer::of(outcome).number;

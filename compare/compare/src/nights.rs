@@ -1,5 +1,9 @@
 //! Fixed inputs for request (iii), many ticks at once: timers of two programs, in every order of
-//! their dues; programs in every state; days and years; and the way to the ceiling.
+//! their dues; programs in every state; days and years; and the way to the ceiling. And for request
+//! (iv): the ends of years from every start year.
+
+use crate::years::{pass, turns, DAY};
+use engine::tables::{CEILING, EARLIEST_YEAR, LATEST_YEAR};
 
 /// Multiple and offset of a timer, in its unit.
 type Set = (u64, u64);
@@ -60,7 +64,6 @@ pub fn every_moment() -> Vec<u8> {
 /// The time around the ends of hours, days and years.
 pub fn calendar() -> Vec<u8> {
     const HOUR: u64 = 360_000;
-    const DAY: u64 = 24 * HOUR;
     let mut lines = Vec::new();
     add(&mut lines, "LOAD,A,10 LOAD,B,10 LOAD,C,10 RU,A EXEC,12,B,4,24,24 EXEC,12,C,4,1,1");
     for _ in 1..=25 {
@@ -74,6 +77,41 @@ pub fn calendar() -> Vec<u8> {
         }
     }
     add(&mut lines, "PAGE");
+    lines.join("\n").into_bytes()
+}
+
+/// The time before the last day of a year, at the first and the last tick of that day, and at the first
+/// tick of the next year, and around day 60 of each fourth year: from each start year the first two
+/// years, and from the first and the last of them all years, up to the ceiling.
+pub fn years() -> Vec<u8> {
+    let mut lines = Vec::new();
+    for start in EARLIEST_YEAR..=LATEST_YEAR {
+        add(&mut lines, &format!("FRESH,1,0,0,{} LOAD,A,1 RU,A EXEC,11 PAGE", start));
+        let mut clock = 0;
+        let all = [EARLIEST_YEAR, LATEST_YEAR].contains(&start);
+        let turns = turns(start);
+        let turns = if all { &turns[..] } else { &turns[..2] };
+        for (year, turn) in turns {
+            for moment in [turn - DAY - 1, turn - DAY, turn - 1, *turn] {
+                pass(&mut lines, &mut clock, moment);
+                add(&mut lines, "EXEC,11");
+            }
+            // The leap day, and the day that is not one.
+            if year % 4 == 0 {
+                for moment in [turn + 59 * DAY - 1, turn + 59 * DAY, turn + 60 * DAY] {
+                    pass(&mut lines, &mut clock, moment.min(CEILING));
+                    add(&mut lines, "EXEC,11");
+                }
+            }
+            if year % 50 == 0 {
+                add(&mut lines, "PAGE");
+            }
+        }
+        if all {
+            pass(&mut lines, &mut clock, CEILING);
+        }
+        add(&mut lines, "EXEC,11 PAGE");
+    }
     lines.join("\n").into_bytes()
 }
 

@@ -11,7 +11,7 @@ pub fn fixed() -> Vec<Run> {
     let mut runs = counts_of_arguments();
     runs.extend([seven_or_one(), given_outranks(), gone_and_back(), all_refusals()]);
     runs.extend([nothing_changed(), more_and_fewer(), unread_requests(), strange_names()]);
-    runs.extend([marks(), many_ticks(), longest_page()]);
+    runs.extend([marks(), many_ticks(), years(), longest_page()]);
     runs.extend(no_pages());
     runs.extend([lines_shown(), long_files_of_requests(), many_lines()]);
     runs
@@ -244,6 +244,45 @@ fn many_ticks() -> Run {
         (b"TICK,1\nTICK,99999999\nPAGE", &ceiling),
     ];
     steps("many ticks at once", &first, &rest)
+}
+
+/// The last day of a leap year and of a century that is none; pages of another start year, and without
+/// one; and FRESH among the requests, with a year and without one.
+fn years() -> Run {
+    let text = |year: u64| {
+        let page = page(&format!("FRESH,4,1,1,{} LOAD,A,10 RU,A", year));
+        String::from_utf8_lossy(&page).to_string()
+    };
+    let at = |text: String, clock: u64| text.replace("clock=0", &format!("clock={}", clock));
+    let last = at(text(1976), 3_153_599_999).into_bytes();
+    let asked = b"EXEC,11\nTICK\nEXEC,11\nTICK,8639999\nEXEC,11\nTICK,1\nEXEC,11\nPAGE";
+    let after = next_page(&last, asked);
+    let moved = String::from_utf8_lossy(&after).replace("year=1976", "year=1977").into_bytes();
+    let without = String::from_utf8_lossy(&after).replace("year=1976\n", "").into_bytes();
+    // 2100 has no day 366.
+    let century = at(text(2099), (365 + 365) * 8_640_000 - 1).into_bytes();
+    let turned = next_page(&century, asked);
+    let ceiling = at(text(2099), 1_000_000_000_000).into_bytes();
+    let again = b"FRESH,4,1,1\nFRESH,4,1,1,1969\nFRESH,4,1,1,\nLOAD,A,10\nRU,A\nEXEC,11\nPAGE";
+    let usual = next_page(&last, again);
+    let with = b"FRESH,4,1,1,2000\nFRESH,4,1,1,2100\nLOAD,A,10\nRU,A\nEXEC,11\nPAGE";
+    let other = next_page(&last, with);
+    let rest: [(&[u8], &[u8]); 13] = [
+        (asked, &after),
+        (b"", &moved),
+        (b"", &after),
+        (b"", &without),
+        (b"EXEC,11", &after),
+        (b"", &century),
+        (asked, &turned),
+        (b"EXEC,11", &ceiling),
+        (b"EXEC,11\nTICK\nPAGE", &ceiling),
+        (again, &usual),
+        (with, &other),
+        (again, &other),
+        (with, &usual),
+    ];
+    steps("years", &last, &rest)
 }
 
 /// The longest page there is, asked for among requests.

@@ -25,6 +25,7 @@ pub enum Kind {
     Miscounted,
     Twice,
     Mark,
+    Year,
 }
 
 impl Kind {
@@ -45,17 +46,18 @@ impl Kind {
             Kind::Miscounted => "records miscounted",
             Kind::Twice => "two of these at once",
             Kind::Mark => "a mark misplaced or misshapen",
+            Kind::Year => "a year misplaced or misshapen",
         }
     }
 }
 
 /// Of a hundred pages, so many are of each kind.
-const KINDS: [(Kind, u64); 15] = [
-    (Kind::Reached, 10),
+const KINDS: [(Kind, u64); 16] = [
+    (Kind::Reached, 7),
     (Kind::Unreached, 15),
-    (Kind::Twisted, 28),
+    (Kind::Twisted, 27),
     (Kind::Absurd, 4),
-    (Kind::Byte, 6),
+    (Kind::Byte, 5),
     (Kind::Line, 5),
     (Kind::Digits, 5),
     (Kind::Cut, 3),
@@ -65,7 +67,8 @@ const KINDS: [(Kind, u64); 15] = [
     (Kind::Misshapen, 5),
     (Kind::Miscounted, 2),
     (Kind::Twice, 5),
-    (Kind::Mark, 7),
+    (Kind::Mark, 6),
+    (Kind::Year, 6),
 ];
 
 /// Each kind once for every seven of its hundred that are begun: 21 in all.
@@ -132,6 +135,7 @@ impl Pages {
                 Kind::Tail,
                 Kind::Cut,
                 Kind::Mark,
+                Kind::Year,
             ]);
             return changed(prng, kind, lines);
         }
@@ -163,6 +167,7 @@ pub fn changed(prng: &mut Prng, kind: Kind, mut page: Vec<u8>) -> Vec<u8> {
         Kind::Absurd => return with_lines(&page, |lines| absurd(prng, lines)),
         Kind::Line => return with_lines(&page, |lines| blot::line(prng, lines)),
         Kind::Mark => return with_lines(&page, |lines| blot::mark(prng, lines)),
+        Kind::Year => return with_lines(&page, |lines| blot::year(prng, lines)),
         Kind::Digits => return with_lines(&page, |lines| blot::digits(prng, lines)),
         Kind::Misspelt => return with_lines(&page, |lines| blot::misspelt(prng, lines)),
         Kind::Misshapen => return with_lines(&page, |lines| blot::misshapen(prng, lines)),

@@ -2,6 +2,7 @@
 //! says which of the awkward corners it keeps to.
 
 use crate::prng::Prng;
+use crate::years;
 
 /// The kinds of lines, in the order of the weights.
 #[derive(Clone, Copy, Debug, PartialEq, Eq)]
@@ -103,6 +104,8 @@ pub struct Profile {
     pub t: u64,
     pub s: u64,
     pub r: u64,
+    /// The start year, if FRESH is given one.
+    pub year: Option<u64>,
     /// Whether the free tracks should lie in many gaps.
     pub gaps: bool,
     pub names: Vec<String>,
@@ -116,6 +119,7 @@ impl Profile {
         let crowd = prng.chance(1, 8);
         let theme = &THEMES[prng.below(THEMES.len() as u64) as usize];
         let (t, s, r) = sizes(prng);
+        let year = Some(years::allowed(prng)).filter(|_| prng.chance(1, 2));
         let weight = |(topic, usual): &(Topic, u64)| {
             let times = if theme.loud.contains(topic) { 16 } else { 4 };
             let times = if theme.quiet.contains(topic) { 1 } else { times };
@@ -129,6 +133,7 @@ impl Profile {
             t,
             s,
             r,
+            year,
             gaps: theme.gaps,
             names: if crowd { crowd_names() } else { few_names(prng) },
             priorities: prng.pick(&PRIORITIES).to_vec(),

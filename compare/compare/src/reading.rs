@@ -100,6 +100,10 @@ pub struct Count {
     /// Of all these, the pages with a line suspend=1, and those with another line of that key.
     marked: [u64; 3],
     mismarked: [u64; 3],
+    /// The pages with a line of the year that FRESH takes, with year=1975, and with another one.
+    dated: [u64; 3],
+    usual: [u64; 3],
+    misdated: [u64; 3],
 }
 
 /// 0, 15 with a line, 15 with 0.
@@ -119,6 +123,15 @@ impl Count {
         let other = |line: &[u8]| line.starts_with(b"suspend=") && line != b"suspend=1";
         self.marked[class] += u64::from(lines().any(|line| line == b"suspend=1"));
         self.mismarked[class] += u64::from(lines().any(other));
+        let year = |line: &[u8]| {
+            let text = line.strip_prefix(b"year=").map(String::from_utf8_lossy);
+            text.map(|text| text.parse::<u64>().ok().filter(|year| year.to_string() == text))
+        };
+        let allowed = |year: Option<u64>| year.filter(|year| (1970..=2099).contains(year));
+        let has = |so: &dyn Fn(Option<u64>) -> bool| lines().filter_map(year).any(so);
+        self.dated[class] += u64::from(has(&|it| allowed(it).map_or(false, |it| it != 1975)));
+        self.usual[class] += u64::from(has(&|it| it == Some(1975)));
+        self.misdated[class] += u64::from(has(&|it| allowed(it).is_none()));
     }
 
     pub fn sums(&self) -> [u64; 3] {
@@ -145,7 +158,15 @@ impl Count {
         }
         text += &row("all", self.sums());
         text += &row("with suspend=1", self.marked);
-        text + &row("with another suspend", self.mismarked)
+        text += &row("with another suspend", self.mismarked);
+        text += &row("with a year that is shown", self.dated);
+        text += &row("with year=1975", self.usual);
+        text + &row("with another year line", self.misdated)
+    }
+
+    /// Of the pages with a line of the year: one that is shown, 1975, and any other.
+    pub fn dated(&self) -> [[u64; 3]; 3] {
+        [self.dated, self.usual, self.misdated]
     }
 
     /// Of the pages with a line suspend=1.

@@ -5,7 +5,7 @@ use crate::prng::Prng;
 use crate::profile::{Profile, Topic};
 use crate::rota::rota;
 use crate::tangle::tangle;
-use crate::{spoil, wish};
+use crate::{spoil, wish, years};
 use engine::sheet::print_line;
 use engine::ticks::MOST_TICKS;
 use engine::{parse, Engine, Request};
@@ -22,7 +22,7 @@ pub fn generate_within(seed: u64, lines: usize, most_ticks: u64) -> Vec<u8> {
     let profile = Profile::new(&mut prng);
     let mut engine = Engine::smallest();
     let mut script = Vec::new();
-    let opening = opening(&mut prng, &profile);
+    let opening = opening(&mut prng, &profile, most_ticks);
     for place in 0..lines {
         let line = if place < opening.len() {
             opening[place].clone().into_bytes()
@@ -66,11 +66,16 @@ fn fewer_ticks(line: Vec<u8>, most: u64) -> Vec<u8> {
     }
 }
 
-fn opening(prng: &mut Prng, profile: &Profile) -> Vec<String> {
-    let mut opening = vec![format!("FRESH,{},{},{}", profile.t, profile.s, profile.r)];
+fn opening(prng: &mut Prng, profile: &Profile, most_ticks: u64) -> Vec<String> {
+    // Only where a year is some lines.
+    if prng.chance(1, 12) && most_ticks == MOST_TICKS {
+        return years::ends_of_years(prng, profile);
+    }
+    let year = profile.year.map_or(String::new(), |year| format!(",{}", year));
+    let mut opening = vec![format!("FRESH,{},{},{}{}", profile.t, profile.s, profile.r, year)];
     if prng.chance(2, 5) {
         opening.extend(tangle(prng, profile));
-    } else if prng.chance(1, 5) {
+    } else if prng.chance(1, 4) {
         opening.extend(rota(prng, profile));
     }
     opening
@@ -88,7 +93,8 @@ fn next_line(prng: &mut Prng, profile: &Profile, engine: &Engine) -> Vec<u8> {
             }
         }
         // A script should mostly keep what it has built up.
-        Topic::Fresh if prng.chance(3, 4) => b"PAGE".to_vec(),
+        Topic::Fresh if prng.chance(1, 2) => b"PAGE".to_vec(),
+        Topic::Fresh if prng.chance(3, 5) => years::refused(prng).into_bytes(),
         _ => wish::line(prng, profile, engine, topic).into_bytes(),
     }
 }
@@ -108,10 +114,7 @@ fn useful_topic(prng: &mut Prng, profile: &Profile, engine: &Engine) -> Topic {
 fn good_line(prng: &mut Prng, profile: &Profile, engine: &Engine) -> String {
     let topic = useful_topic(prng, profile, engine);
     match topic {
-        Topic::Edge | Topic::Spoilt => {
-            let (t, s, r) = crate::profile::sizes(prng);
-            format!("FRESH,{},{},{}", t, s, r)
-        }
+        Topic::Edge | Topic::Spoilt => years::fresh(prng),
         _ => wish::line(prng, profile, engine, topic),
     }
 }

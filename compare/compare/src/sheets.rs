@@ -6,6 +6,7 @@ use crate::pages::{self, Pages};
 use crate::prng::Prng;
 use crate::script::going_on;
 use crate::slip::slip;
+use crate::years::{allowed, fresh, refused};
 use engine::sheet::print_line;
 use engine::{read, Engine};
 use faults::Given;
@@ -142,18 +143,18 @@ impl Runs {
     fn page(&mut self, meant: &Engine) -> (Content, Option<Engine>) {
         let prng = &mut self.prng;
         match prng.below(100) {
-            0..=32 => {
+            0..=33 => {
                 if let Some((page, engine)) = slip(prng, meant) {
                     return (Content::Text(page), Some(engine));
                 }
             }
-            33..=38 => {
+            34..=39 => {
                 let page = no_page(prng, meant.page_bytes());
                 let (raw, answer) = read(&page);
                 let given = raw.engine().filter(|_| answer.number == 0);
                 return (Content::Text(page), given);
             }
-            39..=40 => return (unreadable(prng), None),
+            40..=41 => return (unreadable(prng), None),
             _ => {}
         }
         (Content::Text(meant.page_bytes()), Some(meant.clone()))
@@ -167,7 +168,7 @@ impl Runs {
         let before = tables.clone();
         let mut lines = Vec::new();
         while lines.len() < count {
-            if prng.chance(1, 8) {
+            if prng.chance(1, 6) {
                 let line = odd_line(prng);
                 print_line(tables, &line);
                 lines.push(line);
@@ -203,7 +204,8 @@ impl Iterator for Runs {
 /// Many programs, many runs of tracks and many numbers, reached by a script.
 fn crowded(prng: &mut Prng) -> Engine {
     let mut engine = Engine::smallest();
-    let mut script = vec![String::from("FRESH,256,0,16")];
+    let year = if prng.chance(1, 2) { format!(",{}", allowed(prng)) } else { String::new() };
+    let mut script = vec![format!("FRESH,256,0,16{}", year)];
     let programs = prng.pick(&[20, 31, 32, 32, 32]);
     script.extend((1..=programs).map(|k| format!("LOAD,P{},{}", k, prng.pick(&[1, 10, 300]))));
     script.extend((1..=programs / 2).map(|k| format!("RU,P{}", k)));
@@ -243,7 +245,7 @@ fn no_page(prng: &mut Prng, mut page: Vec<u8>) -> Vec<u8> {
     }
 }
 
-const GONE_WRONG: [pages::Kind; 14] = [
+const GONE_WRONG: [pages::Kind; 15] = [
     pages::Kind::Twisted,
     pages::Kind::Twisted,
     pages::Kind::Twisted,
@@ -258,6 +260,7 @@ const GONE_WRONG: [pages::Kind; 14] = [
     pages::Kind::Misspelt,
     pages::Kind::Misshapen,
     pages::Kind::Miscounted,
+    pages::Kind::Year,
 ];
 
 fn unreadable(prng: &mut Prng) -> Content {
@@ -276,8 +279,10 @@ fn unreadable(prng: &mut Prng) -> Content {
 fn odd_line(prng: &mut Prng) -> Vec<u8> {
     let byte = prng.pick(&[0, 9, 13, 31, 32, 126, 127, 128, 160, 255]);
     let front: &[u8] = prng.pick(&[b"", b"TICK", b"PAGE", b"EXEC,11", b"LOAD,LONG,10", b"RU,A"]);
-    match prng.below(10) {
+    match prng.below(12) {
         0 | 1 => b"PAGE".to_vec(),
+        10 => refused(prng).into_bytes(),
+        11 => prng.pick(&[fresh, refused])(prng).into_bytes(),
         2 | 3 => b"EXEC,11".to_vec(),
         4 => Vec::new(),
         5 => [front, &[byte]].concat(),

@@ -1,9 +1,10 @@
 //! Pages in which one thing is another, and which are pages all the same: a figure mostly, or a
-//! program, a run of tracks or a number more or fewer.
+//! program, a run of tracks or a number more or fewer, or another start year.
 
 use crate::prng::Prng;
 use crate::twist::{bytes_of, lines_of, one_number};
-use engine::tables::{shown_name, FREE_NUMBER};
+use crate::years::allowed;
+use engine::tables::{shown_name, FREE_NUMBER, USUAL_YEAR};
 use engine::{read, Answer, Engine, Holder, Number, Timer};
 
 /// Most changes leave a page; rarely are so many needed.
@@ -33,7 +34,8 @@ fn figure(prng: &mut Prng, page: &[u8]) -> Vec<u8> {
 /// The page after a change of the tables. Whether they are sound then is not asked here.
 fn structure(prng: &mut Prng, engine: &Engine) -> Vec<u8> {
     let mut changed = engine.clone();
-    match prng.below(8) {
+    match prng.below(9) {
+        8 => changed.year = years(prng, engine.year),
         0 | 1 => programs(prng, &mut changed),
         2 | 3 => tracks(prng, &mut changed),
         4 => numbers(prng, &mut changed),
@@ -128,6 +130,12 @@ fn marks(prng: &mut Prng, engine: &mut Engine) {
             program.suspend = !program.suspend;
         }
     }
+}
+
+/// Another start year, often the usual one, which has no line, or the next.
+fn years(prng: &mut Prng, old: u64) -> u64 {
+    let any = allowed(prng);
+    prng.pick(&[USUAL_YEAR, old + 1, old - 1, any])
 }
 
 /// A timer is there, or gone.

@@ -2,6 +2,7 @@
 //! them, or other ones do.
 
 use crate::prng::Prng;
+use crate::years::allowed;
 use engine::tables::{CEILING, FURTHEST};
 use std::ops::Range;
 
@@ -51,7 +52,8 @@ fn told(lines: &[String], wanted: &str) -> u64 {
 /// One to three changes of one kind or of several.
 pub fn twist(prng: &mut Prng, lines: &mut Lines) {
     for _ in 0..prng.pick(&[1, 1, 1, 2, 3]) {
-        match prng.below(11) {
+        match prng.below(12) {
+            11 => year(prng, lines),
             0 | 1 => one_number(prng, lines),
             2 => exchange(prng, lines),
             3 => runs(prng, lines),
@@ -109,6 +111,11 @@ pub fn one_number(prng: &mut Prng, lines: &mut Lines) {
         255,
         256,
         257,
+        1_969,
+        1_970,
+        1_975,
+        2_099,
+        2_100,
         32_767,
         32_768,
         FURTHEST,
@@ -467,6 +474,41 @@ fn timers(prng: &mut Prng, lines: &mut Lines) {
             let due = prng.pick(&[0, clock, clock + 1, furthest, furthest + 1]);
             lines[at] = format!("due={}", due);
         }
+    }
+}
+
+/// A line of the year where it may stand, with a year that is one or none, or gone. The usual one is
+/// never written.
+fn year(prng: &mut Prng, lines: &mut Lines) {
+    let at = first(lines, "clock") + 1;
+    let there = lines.get(at).map_or(false, |line| key(line) == "year");
+    if there && prng.chance(1, 4) {
+        lines.remove(at);
+        return;
+    }
+    let any = allowed(prng);
+    let right = prng.chance(1, 3);
+    let wrong = prng.pick(&[
+        1975,
+        1975,
+        1975,
+        1969,
+        1969,
+        2100,
+        2100,
+        0,
+        75,
+        2415,
+        65_536 + any,
+        (1 << 32) + any,
+        1_000_000_000_000 + any,
+        9_999_999_999_999,
+    ]);
+    let new = format!("year={}", if right { any } else { wrong });
+    if there {
+        lines[at] = new;
+    } else {
+        lines.insert(at.min(lines.len()), new);
     }
 }
 

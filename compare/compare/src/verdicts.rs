@@ -22,7 +22,7 @@ const PARTING: &str = "nothing listed, where they part";
 
 /// What may come up; each of it has to. Those of triples come first, then those of files, of
 /// requests, and of differences.
-pub const ROWS: [&str; 37] = [
+pub const ROWS: [&str; 42] = [
     FOLLOWS,
     DOES_NOT,
     NO_NEXT,
@@ -56,10 +56,15 @@ pub const ROWS: [&str; 37] = [
     "request cut at 72 bytes",
     "PAGE",
     "a time",
+    "a time of another year",
+    "FRESH with a year, done",
+    "FRESH with a year, refused with 3",
     "line of both that differs",
     "line of the sheet alone",
     "line written alone",
     PARTING,
+    "a year that differs",
+    "a year on one of the two alone",
 ];
 
 /// What a line of the output is; none where it is a line of a page that is none.
@@ -164,6 +169,14 @@ impl Count {
 
     fn add_line(&mut self, row: &'static str, line: &str) {
         self.add_row(row);
+        let shown = line.split_once(": ").map_or("", |(_, shown)| shown);
+        let listed = shown.contains(" on the sheet, ");
+        if listed && (shown.starts_with("year=") || shown.contains(" on the sheet, year=")) {
+            let both = row == "line of both that differs";
+            self.add_row(
+                ["a year on one of the two alone", "a year that differs"][usize::from(both)],
+            );
+        }
         if row.starts_with("refused with ") {
             self.add_row(REFUSED);
         }
@@ -176,6 +189,17 @@ impl Count {
             }
             if answer.contains('.') {
                 self.add_row("a time");
+                if !answer.contains("=1975.") {
+                    self.add_row("a time of another year");
+                }
+            }
+            let fields = front.matches(',').count();
+            if front.contains(": FRESH,") && fields == 4 {
+                match row {
+                    "request, done" => self.add_row("FRESH with a year, done"),
+                    "refused with 3" => self.add_row("FRESH with a year, refused with 3"),
+                    _ => {}
+                }
             }
         }
     }

@@ -2,7 +2,8 @@
 
 use crate::claims::{self, Wanted};
 use crate::prng::Prng;
-use crate::profile::{sizes, Profile, Topic};
+use crate::profile::{Profile, Topic};
+use crate::years;
 use engine::tables::{shown_name, DISC, DORMANT, GENERAL_WAIT, SCHEDULED, SUSPENDED};
 use engine::{Engine, Holder, Program};
 
@@ -96,10 +97,7 @@ fn operator(prng: &mut Prng, profile: &Profile, engine: &Engine, topic: Topic) -
             let how = prng.pick(&[1, 8]);
             format!("OF,{},{}", marked_or(prng, profile, engine, states), how)
         }
-        Topic::Fresh => {
-            let (t, s, r) = sizes(prng);
-            format!("FRESH,{},{},{}", t, s, r)
-        }
+        Topic::Fresh => years::fresh(prng),
         Topic::Page => String::from("PAGE"),
         Topic::Ticks => format!("TICK,{}", claims::ticks(prng, engine)),
         _ => String::from("TICK"),

@@ -11,10 +11,13 @@ use engine::sheet;
 use engine::sheet::lines;
 use faults::{together, Fault, Shown, FAULTS, ON_TABLES};
 
-/// No script comes to the end of a year, or near the ceiling; some of the fixed inputs do.
-const BY_FIXED_INPUT: [(&str, &str); 13] = [
-    ("days-run-on", DAYS),
+/// No script has more than a few years, or comes near the ceiling; some of the fixed inputs do.
+const BY_FIXED_INPUT: [(&str, &str); 16] = [
     ("ticks-clock-in-32-bits", DAYS),
+    ("leap-2200-leap", TO_THE_CEILING),
+    ("leap-every-second-century", TO_THE_CEILING),
+    ("leap-2300-leap", YEARS),
+    ("leap-2400-common", YEARS),
     ("ceiling-passed", TO_THE_CEILING),
     ("ticks-ceiling-without-n", TO_THE_CEILING),
     ("ticks-ceiling-refused", TO_THE_CEILING),
@@ -31,6 +34,7 @@ const BY_FIXED_INPUT: [(&str, &str); 13] = [
 const MOMENTS: &str = "many ticks, every moment";
 const DAYS: &str = "many ticks, days and years";
 const TO_THE_CEILING: &str = "many ticks, up to the ceiling";
+const YEARS: &str = "years, up to the ceiling";
 
 fn first_failure(other: &Other) -> Option<Failure> {
     run(other, CI_SEEDS, CI_LINES, &mut Count::default()).expect("a mutant always runs")
@@ -38,7 +42,7 @@ fn first_failure(other: &Other) -> Option<Failure> {
 
 #[test]
 fn each_mutant_is_found_and_its_script_shrinks() {
-    assert!(FAULTS.iter().filter(|fault| fault.shown == Shown::OnConsole).count() >= 186);
+    assert!(FAULTS.iter().filter(|fault| fault.shown == Shown::OnConsole).count() >= 259);
     for fault in FAULTS {
         let elsewhere = ON_TABLES.contains(&fault.name) || fault.shown != Shown::OnConsole;
         if elsewhere || BY_FIXED_INPUT.iter().any(|(name, _)| *name == fault.name) {
@@ -56,7 +60,10 @@ fn shrinks(fault: &Fault, failure: &Failure) {
     let input = shortest(&other, failure).expect("a mutant always runs");
     assert_eq!(differs(&other, &input), Ok(true), "{}", fault.name);
     assert!(begins_fresh(&input), "{}", fault.name);
-    assert!(lines(&input).len() <= 25, "{}: {} lines", fault.name, lines(&input).len());
+    // Lines that are alike, one behind another, are shown once: a year is 31 such lines and more.
+    let mut shown = lines(&input);
+    shown.dedup();
+    assert!(shown.len() <= 25, "{}: {} lines", fault.name, shown.len());
     let text = report(&input, &other.print(&input).expect("a mutant always runs"));
     assert!(text.contains("  > "), "{}", text);
 }
@@ -112,6 +119,33 @@ fn fixed_inputs_find_their_mutants() {
         ("ticks-empty-number", TO_THE_CEILING),
         ("ticks-leading-zero", TO_THE_CEILING),
         ("ticks-of-eleven-digits", "fields of every length"),
+        ("days-run-on", DAYS),
+        ("leap-of-start-year", DAYS),
+        ("year-of-365-days", DAYS),
+        ("day-mod-365", DAYS),
+        ("last-day-of-four-years", DAYS),
+        ("leap-every-fourth", TO_THE_CEILING),
+        ("leap-2000-common", TO_THE_CEILING),
+        ("leap-2100-leap", TO_THE_CEILING),
+        ("last-day-of-four-centuries", YEARS),
+        ("start-year-moves-on", TO_THE_CEILING),
+        ("current-year-written", YEARS),
+        ("year-written-once-it-is-another", DAYS),
+        ("year-1975-written", "how input begins and ends"),
+        ("year-not-written", "how input begins and ends"),
+        ("fresh-keeps-year", "how input begins and ends"),
+        ("fresh-year-1969", "how input begins and ends"),
+        ("fresh-year-2100", "how input begins and ends"),
+        ("fresh-year-1970-refused", "numbers at their bounds"),
+        ("fresh-year-2099-refused", "numbers at their bounds"),
+        ("fresh-year-in-16-bits", "numbers at their bounds"),
+        ("fresh-year-in-32-bits", "numbers at their bounds"),
+        ("fresh-year-as-13", "how input begins and ends"),
+        ("fresh-empty-year", "numbers at their bounds"),
+        ("fresh-fifth-field", "numbers at their bounds"),
+        ("fresh-year-leading-zero", "numbers at their bounds"),
+        ("refused-fresh-takes-year", "how input begins and ends"),
+        ("of-49-bytes", "fields of every length"),
     ]
     .into_iter()
     .chain(BY_FIXED_INPUT)

@@ -70,7 +70,12 @@ fn every_answer_comes_up() {
     }
     assert!(count.sums().iter().all(|times| *times >= 1_500), "{}", count.print());
     assert!(count.marked().iter().all(|times| *times >= 500), "{}", count.print());
-    assert_eq!(count.print().lines().count(), 19, "{}", count.print());
+    assert!(count.dated()[0].iter().all(|times| *times >= 500), "{}", count.print());
+    let [_, usual, other] = count.dated();
+    assert!(usual[1] >= 30 && usual[2] >= 50, "{}", count.print());
+    assert!(other[1] >= 100 && other[2] >= 100, "{}", count.print());
+    assert_eq!([usual[0], other[0]], [0, 0], "{}", count.print());
+    assert_eq!(count.print().lines().count(), 23, "{}", count.print());
     // The kinds that are to stay well formed mostly are, and two tables in one page are met.
     let mut pages = Pages::new(SEED);
     let mut twisted = [0; 3];
@@ -112,7 +117,7 @@ fn each_wrong_reader_is_found() {
     // What all wrong ones that are built together have in common is right.
     assert!(first_difference(together_reads, trials()).is_none());
     let wrong: Vec<_> = FAULTS.iter().filter(|fault| fault.shown == Shown::OnPages).collect();
-    assert!(wrong.len() >= 89, "{}", wrong.len());
+    assert!(wrong.len() >= 115, "{}", wrong.len());
     for fault in wrong {
         // By pages of the seed alone.
         let found = first_difference(fault.read, trials().take(CI_PAGES));

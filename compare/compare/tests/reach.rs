@@ -78,7 +78,7 @@ fn awkward_states_are_reached() {
         let mut engine = Engine::smallest();
         let mut before = Raw::of(&engine);
         for line in lines(&generate(seed, CI_LINES)) {
-            let answer = engine.line(line, &mut [0; 8_192]);
+            let answer = engine.line(line, &mut [0; 8_704]);
             let after = Raw::of(&engine);
             let value = match answer.value {
                 engine::Value::Number(number) => number,

@@ -49,7 +49,7 @@ fn every_answer_of_every_line_is_reached() {
     for seed in CI_SEEDS {
         let mut engine = Engine::smallest();
         for line in lines(&generate(seed, CI_LINES)) {
-            let answer = engine.line(line, &mut [0; 8_192]);
+            let answer = engine.line(line, &mut [0; 8_704]);
             *seen.entry((kind(line), answer.number)).or_insert(0) += 1;
         }
     }
@@ -112,7 +112,7 @@ fn bounds_and_long_lines() {
             }
         }
     }
-    assert_eq!(longest, 46);
+    assert_eq!(longest, 49);
 }
 
 #[test]

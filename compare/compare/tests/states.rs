@@ -21,7 +21,7 @@ fn sound_after_every_line() {
         let mut engine = Engine::smallest();
         let mut raw = Raw::of(&engine);
         for line in lines(&script) {
-            let mut buffers = ([0; 8_192], [0; 8_192]);
+            let mut buffers = ([0; 8_704], [0; 8_704]);
             let answer = engine.line(line, &mut buffers.0);
             let next = Raw::of(&engine);
             assert!(next.sound(), "seed {}, {:?}", seed, String::from_utf8_lossy(line));
@@ -94,7 +94,7 @@ fn damaged_tables() {
         let script = generate(seed, CI_LINES);
         let mut engine = Engine::smallest();
         for line in lines(&script) {
-            engine.line(line, &mut [0; 8_192]);
+            engine.line(line, &mut [0; 8_704]);
             let mut raw = Raw::of(&engine);
             for _ in 0..prng.between(1, 3) {
                 damage(&mut prng, &mut raw);
@@ -148,6 +148,7 @@ fn carried(raw: &Raw) -> together::Raw {
     together::Raw {
         records: raw.records.map(record),
         clock: raw.clock,
+        year: raw.year,
         t: raw.t,
         s: raw.s,
         r: raw.r,
@@ -161,7 +162,7 @@ fn carried(raw: &Raw) -> together::Raw {
 /// records that are not used.
 #[test]
 fn wrong_soundness_is_found() {
-    let all = damaged(4_000);
+    let all = damaged(12_000);
     for state in [0, 1, 3, 5, 6] {
         let marked = |raw: &&Raw| {
             raw.records.iter().any(|record| record.used && record.suspend && record.state == state)
@@ -170,6 +171,10 @@ fn wrong_soundness_is_found() {
     }
     let unused = |raw: &&Raw| raw.records.iter().any(|record| !record.used && record.suspend);
     assert!(all.iter().filter(unused).count() >= 20, "marks in records that are not used");
+    for year in [0, 1969, 1970, 2099, 2100, 65_535] {
+        let met = all.iter().filter(|raw| raw.year == year).count();
+        assert!(met >= 5, "the year {}: {}", year, met);
+    }
     let right: Vec<bool> = all.iter().map(Raw::sound).collect();
     let sounds = || all.iter().map(|raw| carried(raw).sound());
     assert!(sounds().eq(right.iter().copied()), "what all of them have in common is right");
@@ -183,6 +188,11 @@ fn wrong_soundness_is_found() {
         "mark-sound-in-state-6",
         "mark-unsound-in-state-3",
         "mark-unsound-in-state-5",
+        "year-sound-any",
+        "year-sound-1969",
+        "year-sound-2100",
+        "year-unsound-1970",
+        "year-unsound-2099",
     ] {
         let fault = Fault::by_name(name).expect("a fault");
         assert!(!fault.run(|| sounds().eq(right.iter().copied())), "missed: {}", name);

@@ -170,7 +170,7 @@ fn as_many_single_lines() {
             let n = match parse(line) {
                 Some(Request::Ticks(n)) if n > 0 && n <= 40 => n,
                 _ => {
-                    assert_eq!(one.line(line, &mut [0; 8_192]), other.line(line, &mut [0; 8_192]));
+                    assert_eq!(one.line(line, &mut [0; 8_704]), other.line(line, &mut [0; 8_704]));
                     continue;
                 }
             };
@@ -188,7 +188,8 @@ fn as_many_single_lines() {
     assert!(replaced > 300, "{}", replaced);
 }
 
-/// As many lines with a number as without one, and each row comes up.
+/// As many lines with a number as without one, but for those by which years pass, and each row comes
+/// up.
 #[test]
 fn leaps_come_up() {
     let count = marks::Count::of_scripts(CI_SEEDS, CI_LINES).leaps;
@@ -205,8 +206,13 @@ fn leaps_come_up() {
     let mut kinds: BTreeMap<bool, u64> = BTreeMap::new();
     for seed in CI_SEEDS {
         for line in lines(&generate(seed, CI_LINES)) {
-            if let Some(request @ (Request::Tick | Request::Ticks(_))) = parse(line) {
-                *kinds.entry(request == Request::Tick).or_insert(0) += 1;
+            match parse(line) {
+                // By which a year passes.
+                Some(Request::Ticks(MOST_TICKS)) => {}
+                Some(request @ (Request::Tick | Request::Ticks(_))) => {
+                    *kinds.entry(request == Request::Tick).or_insert(0) += 1;
+                }
+                _ => {}
             }
         }
     }
@@ -217,7 +223,7 @@ fn leaps_come_up() {
 /// The fixed inputs come to where they are meant to come.
 #[test]
 fn the_way_to_the_ceiling() {
-    let [_, (_, days), (_, ceiling)] = of_ticks();
+    let [_, (_, days), (_, ceiling), _] = of_ticks();
     let printed = String::from_utf8(sheet(&ceiling)).expect("sheet prints text");
     let clocks: Vec<&str> =
         printed.lines().filter_map(|line| line.strip_prefix("clock=")).collect();
@@ -228,7 +234,16 @@ fn the_way_to_the_ceiling() {
     let beyond = |line: &str| line.strip_prefix("due=").and_then(|due| due.parse::<u64>().ok());
     assert!(printed.lines().filter_map(beyond).filter(|due| *due > CEILING).count() > 20);
     let printed = String::from_utf8(sheet(&days)).expect("sheet prints text");
-    for time in ["1.23.59.59.99", "2.0.0.0.0", "365.23.59.59.99", "1.0.0.0.0", "9.23.59.59.99"] {
+    for time in [
+        "1975.1.23.59.59.99",
+        "1975.2.0.0.0.0",
+        "1975.365.23.59.59.99",
+        "1976.1.0.0.0.0",
+        "1976.366.0.0.0.0",
+        "1976.366.23.59.59.99",
+        "1977.1.0.0.0.0",
+        "1977.8.23.59.59.99",
+    ] {
         let line = format!("answer=0,value={}", time);
         assert!(printed.lines().any(|printed| printed == line), "{}", time);
     }

@@ -1,11 +1,11 @@
 //! The outline, "Answer numbers": each call answers with a number and a value.
 
-/// One number for every call but EXEC 11, whose value is the five parts of the time.
+/// One number for every call but EXEC 11, whose value is the six parts of the time.
 #[derive(Clone, Copy, Debug, PartialEq, Eq)]
 pub enum Value {
     Number(u64),
-    /// day, hour, minute, second, hundredth
-    Time([u64; 5]),
+    /// year, day, hour, minute, second, hundredth
+    Time([u64; 6]),
 }
 
 #[derive(Clone, Copy, Debug, PartialEq, Eq)]

@@ -3,6 +3,7 @@
 //! parameters (3).
 
 use crate::answer::{allow, done, waits, Answer, Outcome, Value};
+use crate::calendar::date;
 use crate::tables::{
     legal_name, Engine, Name, Timer, Why, DORMANT, GENERAL_WAIT, SCHEDULED, SUSPENDED,
 };
@@ -50,18 +51,18 @@ impl Engine {
         Ok(target)
     }
 
-    /// EXEC 11: day, hour, minute, second, hundredth.
+    /// EXEC 11: year, day, hour, minute, second, hundredth.
     pub fn exec11(&self) -> Outcome {
         self.caller()?;
         Ok(Answer { number: 0, value: Value::Time(self.time()) })
     }
 
-    /// "Day is clock div 8,640,000, mod 365, plus 1."
-    fn time(&self) -> [u64; 5] {
-        let day = self.clock / TICKS_OF_A_DAY % 365 + 1;
+    /// "Clock 0 is the start of day 1 of that year", the start year: request (iv).
+    fn time(&self) -> [u64; 6] {
+        let (year, day) = date(self.year, self.clock / TICKS_OF_A_DAY);
         let hundredths = self.clock % TICKS_OF_A_DAY;
         let seconds = hundredths / 100;
-        [day, seconds / 3600, seconds / 60 % 60, seconds % 60, hundredths % 100]
+        [year, day, seconds / 3600, seconds / 60 % 60, seconds % 60, hundredths % 100]
     }
 
     /// EXEC 12: sets or replaces the timer of any program, in any state. Value due.

@@ -15,7 +15,7 @@ pub const MOST_OF_A_PAGE: usize = 65_536;
 /// The most bytes of a line that are shown.
 pub const MOST_SHOWN: usize = 72;
 /// No page is longer.
-const LONGEST_PAGE: usize = 8_192;
+const LONGEST_PAGE: usize = 8_704;
 
 /// The errors of opening and reading that have a name here.
 const NO_SUCH_FILE: i32 = 2;

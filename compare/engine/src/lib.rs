@@ -14,12 +14,14 @@
 //! | `page`, `line`, `sheet` | The page and the console line |
 //! | `operator`, `waking` | SS of a program that waits, and its waking: request (ii) |
 //! | `ticks` | many ticks at once: request (iii) |
+//! | `calendar` | years by the Gregorian rule: request (iv) |
 //! | `read` | a page read back: request (i) |
 //! | `desk` | a line found, and lines that differ, in two texts: request (xii) |
 //! | `follow` | whether the next sheet can follow: the program `follow` |
 //! | `raw`, `sound` | the tables as a caller could hand them in, and when they are sound |
 
 pub mod answer;
+pub mod calendar;
 pub mod desk;
 pub mod exec;
 pub mod follow;

@@ -2,12 +2,12 @@
 
 use crate::answer::{self, refused, Answer, Outcome};
 use crate::numbers::Kind;
-use crate::tables::{legal_front, Engine, Name};
+use crate::tables::{legal_front, Engine, Name, USUAL_YEAR};
 
 /// What a line asks for. Numbers are as written; whether they are in range is for the call to say.
 #[derive(Clone, Copy, Debug, PartialEq, Eq)]
 pub enum Request {
-    Fresh(u64, u64, u64),
+    Fresh(u64, u64, u64, Option<u64>),
     Load(Name, u64),
     Ru(Name),
     Ss(Name),
@@ -47,7 +47,10 @@ pub fn parse(line: &[u8]) -> Option<Request> {
 
 fn request(fields: &[&[u8]]) -> Option<Request> {
     let request = match fields {
-        [b"FRESH", t, s, r] => Request::Fresh(number(t)?, number(s)?, number(r)?),
+        [b"FRESH", t, s, r] => Request::Fresh(number(t)?, number(s)?, number(r)?, None),
+        [b"FRESH", t, s, r, year] => {
+            Request::Fresh(number(t)?, number(s)?, number(r)?, Some(number(year)?))
+        }
         [b"LOAD", n, priority] => Request::Load(name(n)?, number(priority)?),
         [b"RU", n] => Request::Ru(name(n)?),
         [b"SS", n] => Request::Ss(name(n)?),
@@ -122,7 +125,7 @@ impl Engine {
 
     pub fn perform(&mut self, request: Request, buffer: &mut [u8]) -> Outcome {
         match request {
-            Request::Fresh(t, s, r) => self.fresh_line(t, s, r),
+            Request::Fresh(t, s, r, year) => self.fresh_line(t, s, r, year),
             Request::Load(name, priority) => self.load(name, priority),
             Request::Ru(name) => self.ru(name),
             Request::Ss(name) => self.ss(name),
@@ -152,9 +155,10 @@ impl Engine {
         }
     }
 
-    /// "FRESH,T,S,R (where refused, the tables given to the line stay)"
-    fn fresh_line(&mut self, t: u64, s: u64, r: u64) -> Outcome {
-        let (tables, outcome) = Engine::fresh(t, s, r);
+    /// "FRESH,T,S,R (where refused, the tables given to the line stay)", and the start year, "without
+    /// it the year is 1975".
+    fn fresh_line(&mut self, t: u64, s: u64, r: u64, year: Option<u64>) -> Outcome {
+        let (tables, outcome) = Engine::fresh(t, s, r, year.unwrap_or(USUAL_YEAR));
         if outcome.is_ok() {
             *self = tables;
         }

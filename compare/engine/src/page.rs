@@ -1,7 +1,7 @@
 //! The outline, "The page and the console line": the page.
 
 use crate::answer::{self, done, Answer, Outcome};
-use crate::tables::{shown_name, Engine, Holder, Program, Timer, Why, CHAINS};
+use crate::tables::{shown_name, Engine, Holder, Program, Timer, Why, CHAINS, USUAL_YEAR};
 
 impl Engine {
     /// PAGE: written at the front of the lent buffer, the rest untouched; value its length. A
@@ -19,6 +19,9 @@ impl Engine {
     pub fn page_bytes(&self) -> Vec<u8> {
         let mut page = String::from("page=rte2\n");
         line(&mut page, "clock", self.clock);
+        if self.year != USUAL_YEAR {
+            line(&mut page, "year", self.year);
+        }
         line(&mut page, "tracks", self.t());
         line(&mut page, "system", self.system);
         line(&mut page, "numbers", self.r());

@@ -63,6 +63,7 @@ pub struct Raw {
     /// Program p is at place p - 1.
     pub records: [RawRecord; RECORDS],
     pub clock: u64,
+    pub year: u64,
     pub t: u64,
     pub s: u64,
     pub r: u64,
@@ -77,6 +78,7 @@ impl Raw {
         let mut raw = Raw {
             records: [UNUSED; RECORDS],
             clock: engine.clock,
+            year: engine.year,
             t: engine.t(),
             s: engine.system,
             r: engine.r(),
@@ -113,7 +115,7 @@ impl Raw {
         if !self.sound() {
             return None;
         }
-        let (mut engine, _) = Engine::fresh(self.t, self.s, self.r);
+        let (mut engine, _) = Engine::fresh(self.t, self.s, self.r, self.year);
         engine.clock = self.clock;
         for (place, record) in self.records.iter().enumerate() {
             if record.used {

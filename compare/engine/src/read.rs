@@ -5,7 +5,7 @@
 use crate::answer::{self, Answer};
 use crate::line::name;
 use crate::raw::{Raw, RawNumber, RawRecord, RawWhy, GLOBAL, LINKS, SYSTEM};
-use crate::tables::{Engine, RECORDS};
+use crate::tables::{Engine, RECORDS, USUAL_YEAR};
 
 /// "numbers of at most 13 digits"
 pub const MOST_DIGITS: usize = 13;
@@ -44,6 +44,10 @@ impl<'a> Reader<'a> {
     fn page(&mut self, draft: &mut Draft) -> Option<()> {
         self.line(b"page", |field| word(field, b"rte2"))?;
         draft.raw.clock = self.line(b"clock", number)?;
+        // Request (iv): the line is there unless the year is the usual one.
+        if let Some(year) = self.line(b"year", number) {
+            draft.put_year(year);
+        }
         draft.raw.t = self.line(b"tracks", number)?;
         draft.raw.s = self.line(b"system", number)?;
         draft.raw.r = self.line(b"numbers", number)?;
@@ -208,6 +212,12 @@ impl Draft {
     fn require(&mut self, condition: bool) -> bool {
         self.fits &= condition;
         condition
+    }
+
+    /// The usual year is not written.
+    fn put_year(&mut self, year: u64) {
+        self.require(year != USUAL_YEAR);
+        self.raw.year = year;
     }
 
     fn put_record(&mut self, shown: Shown) {

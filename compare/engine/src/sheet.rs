@@ -35,7 +35,7 @@ pub fn print_line(engine: &mut Engine, line: &[u8]) -> Vec<u8> {
     print_answer(Answer::of(outcome)).into_bytes()
 }
 
-/// Time is printed as `day.hour.minute.second.hundredth`.
+/// Time is printed as `year.day.hour.minute.second.hundredth`.
 pub fn print_answer(answer: Answer) -> String {
     let value = match answer.value {
         Value::Number(number) => number.to_string(),

@@ -1,11 +1,11 @@
 //! The outline, "Tables are sound exactly when": one function for each part of that sentence, and one
-//! for what request (ii) adds to it. Every one of them ends and answers for any values whatever, in
-//! whichever order they are asked.
+//! for what request (ii) adds to it; the start year of request (iv) is among the limits. Every one of
+//! them ends and answers for any values whatever, in whichever order they are asked.
 
 use crate::raw::{Raw, RawNumber, RawRecord, RawWhy, BLANK_NUMBER, GLOBAL, LINKS, SYSTEM, UNUSED};
 use crate::tables::{
-    legal_name, CEILING, CHAINS, DISC, FURTHEST, GENERAL_WAIT, LOWEST_PRIORITY, MOST_NUMBERS,
-    MOST_TRACKS, RECORDS,
+    legal_name, CEILING, CHAINS, DISC, EARLIEST_YEAR, FURTHEST, GENERAL_WAIT, LATEST_YEAR,
+    LOWEST_PRIORITY, MOST_NUMBERS, MOST_TRACKS, RECORDS,
 };
 
 impl Raw {
@@ -42,6 +42,7 @@ impl Raw {
             && self.s <= self.t
             && self.r <= MOST_NUMBERS
             && self.clock <= CEILING
+            && (EARLIEST_YEAR..=LATEST_YEAR).contains(&self.year)
             && self.used().all(|record| record.priority <= LOWEST_PRIORITY && states(record.state))
     }
 

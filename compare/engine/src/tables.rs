@@ -9,6 +9,10 @@ pub const MOST_NUMBERS: u64 = 16;
 pub const LOWEST_PRIORITY: u64 = 32_767;
 /// Where the clock stops.
 pub const CEILING: u64 = 1_000_000_000_000;
+/// The start year of request (iv): the first and the last that FRESH takes, and that without one.
+pub const EARLIEST_YEAR: u64 = 1970;
+pub const LATEST_YEAR: u64 = 2099;
+pub const USUAL_YEAR: u64 = 1975;
 /// 4,095 times the longest unit: no due lies further ahead, and no interval is longer.
 pub const FURTHEST: u64 = 1_474_200_000;
 
@@ -75,6 +79,8 @@ pub const FREE_NUMBER: Number = Number { owner: Holder::Free, lock: None };
 #[derive(Clone, Debug, PartialEq, Eq)]
 pub struct Engine {
     pub clock: u64,
+    /// The start year: clock 0 is the start of its day 1.
+    pub year: u64,
     /// The used records, by program number 1 to 32. An unused one is not in the map.
     pub programs: BTreeMap<usize, Program>,
     /// S; T is the length of `tracks`.
@@ -87,24 +93,26 @@ pub struct Engine {
 }
 
 impl Engine {
-    /// T=1, S=0, R=0.
+    /// T=1, S=0, R=0, and the usual year.
     pub fn smallest() -> Engine {
-        Engine::empty(1, 0, 0)
+        Engine::empty(1, 0, 0, USUAL_YEAR)
     }
 
     /// FRESH. Refused, it yields the smallest tables.
-    pub fn fresh(t: u64, s: u64, r: u64) -> (Engine, Outcome) {
-        if (1..=MOST_TRACKS).contains(&t) && s <= t && r <= MOST_NUMBERS {
-            (Engine::empty(t, s, r), done(0))
+    pub fn fresh(t: u64, s: u64, r: u64, year: u64) -> (Engine, Outcome) {
+        let sizes = (1..=MOST_TRACKS).contains(&t) && s <= t && r <= MOST_NUMBERS;
+        if sizes && (EARLIEST_YEAR..=LATEST_YEAR).contains(&year) {
+            (Engine::empty(t, s, r, year), done(0))
         } else {
             (Engine::smallest(), refused(answer::NOT_ALLOWED))
         }
     }
 
-    fn empty(t: u64, s: u64, r: u64) -> Engine {
+    fn empty(t: u64, s: u64, r: u64, year: u64) -> Engine {
         let holder = |track| if track < s { Holder::System } else { Holder::Free };
         Engine {
             clock: 0,
+            year,
             programs: BTreeMap::new(),
             system: s,
             tracks: (0..t).map(holder).collect(),

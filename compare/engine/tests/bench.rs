@@ -75,7 +75,7 @@ fn case_7() {
 
 /// Tables with one scheduled program, at any clock.
 fn at_clock(clock: u64) -> Engine {
-    let (engine, _) = Engine::fresh(4, 1, 1);
+    let (engine, _) = Engine::fresh(4, 1, 1, 1975);
     let mut raw = Raw::of(&engine);
     raw.records[0] = RawRecord { used: true, name: *b"A    ", state: 1, ..UNUSED };
     raw.links[1] = 1;
@@ -83,21 +83,22 @@ fn at_clock(clock: u64) -> Engine {
     raw.engine().expect("sound tables")
 }
 
-fn time(engine: &Engine) -> [u64; 5] {
+fn time(engine: &Engine) -> [u64; 6] {
     match engine.exec11() {
         Ok(Answer { number: 0, value: Value::Time(parts) }) => parts,
         other => panic!("no time: {:?}", other),
     }
 }
 
+/// As request (iv) has it: the year comes first, and without a fourth field of FRESH it is 1975.
 #[test]
 fn case_8() {
     let mut engine = at_clock(8_639_999);
-    assert_eq!(time(&engine), [1, 23, 59, 59, 99]);
+    assert_eq!(time(&engine), [1975, 1, 23, 59, 59, 99]);
     assert_eq!(engine.tick(), Ok(Answer::new(0, 0)));
-    assert_eq!(time(&engine), [2, 0, 0, 0, 0]);
-    assert_eq!(time(&at_clock(365 * 8_640_000 - 1)), [365, 23, 59, 59, 99]);
-    assert_eq!(time(&at_clock(365 * 8_640_000)), [1, 0, 0, 0, 0]);
+    assert_eq!(time(&engine), [1975, 2, 0, 0, 0, 0]);
+    assert_eq!(time(&at_clock(365 * 8_640_000 - 1)), [1975, 365, 23, 59, 59, 99]);
+    assert_eq!(time(&at_clock(365 * 8_640_000)), [1976, 1, 0, 0, 0, 0]);
 }
 
 #[test]

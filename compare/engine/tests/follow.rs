@@ -234,7 +234,7 @@ fn values() {
     assert_eq!(
         keyed(&first, "PAGE\nEXEC,11\nEXEC,4,4,0\nPAGE\nFRESH,1,0,0\nPAGE"),
         "1: PAGE -> answer=0,value=154\n\
-         2: EXEC,11 -> answer=0,value=1.0.0.0.0\n\
+         2: EXEC,11 -> answer=0,value=1975.1.0.0.0.0\n\
          3: EXEC,4,4,0 -> answer=1,value=5\n\
          4: PAGE -> answer=0,value=161\n\
          5: FRESH,1,0,0 -> answer=0,value=0\n\
@@ -280,7 +280,7 @@ fn many_ticks() {
          2: TICK,100000000 -> answer=0,value=1\n\
          3: TICK,0 -> answer=3,value=0 (refused: a number or parameter is not allowed)\n\
          4: TICK, -> answer=13,value=0 (refused: the line is not understood)\n\
-         5: EXEC,11 -> answer=0,value=12.13.46.43.99\n"
+         5: EXEC,11 -> answer=0,value=1975.12.13.46.43.99\n"
     );
     let near = page("").replace("clock=0", "clock=999999999998");
     assert_eq!(

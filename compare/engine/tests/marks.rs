@@ -242,7 +242,7 @@ fn the_order_in_chain_6() {
 /// Tables put by hand: two that are each other's sons, a waiter for a lock that is its own.
 #[test]
 fn what_no_run_reaches() {
-    let (engine, _) = Engine::fresh(4, 0, 1);
+    let (engine, _) = Engine::fresh(4, 0, 1, 1975);
     let mut raw = Raw::of(&engine);
     let record = |name: &[u8; 5], why| RawRecord {
         used: true,

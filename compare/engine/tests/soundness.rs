@@ -11,7 +11,7 @@ fn record(name: &[u8; 5], priority: u64, state: u64, why: RawWhy) -> RawRecord {
 /// Programs 1 to 9: A waits for son B, B, C and D are scheduled, E waits for tracks, F for a lock,
 /// G for any number, H is suspended, I is dormant with a timer. T=8, S=2, R=3.
 fn sound_tables() -> Raw {
-    let (engine, _) = Engine::fresh(8, 2, 3);
+    let (engine, _) = Engine::fresh(8, 2, 3, 1975);
     let mut raw = Raw::of(&engine);
     raw.clock = 100;
     raw.records[0] = record(b"A    ", 10, 3, RawWhy::Son(2));
@@ -269,7 +269,7 @@ fn numbers() {
 fn limits_reached() {
     for (t, s, r) in [(1, 0, 0), (1, 1, 0), (4, 4, 1), (256, 0, 16), (256, 255, 0), (256, 256, 16)]
     {
-        let (engine, _) = Engine::fresh(t, s, r);
+        let (engine, _) = Engine::fresh(t, s, r, 1975);
         assert!(Raw::of(&engine).sound(), "FRESH,{},{},{}", t, s, r);
     }
     // No track at all, and nothing else wrong.
@@ -280,7 +280,7 @@ fn limits_reached() {
 
 /// Two programs: p, and another that is scheduled.
 fn beside(p: usize, state: u64, why: RawWhy) -> Raw {
-    let (engine, _) = Engine::fresh(4, 0, 1);
+    let (engine, _) = Engine::fresh(4, 0, 1, 1975);
     let mut raw = Raw::of(&engine);
     let other = p % 32 + 1;
     raw.records[other - 1] = record(b"A    ", 10, 1, RawWhy::Nothing);

@@ -75,7 +75,7 @@ fn an_idle_night() {
     let script = format!("{} EXEC,12,A,4,9,13 TICK,4320000", THREE);
     assert_eq!((last(&script), page(&script, "clock")), ("0,0".into(), vec!["4320000".into()]));
     assert_eq!(dues(&script), ["4680000", "-", "-"]);
-    assert_eq!(last(&format!("{} EXEC,11", script)), "0,1.12.0.0.0");
+    assert_eq!(last(&format!("{} EXEC,11", script)), "0,1975.1.12.0.0.0");
     assert_eq!(answers("TICK,100000000 TICK,1 TICK PAGE")[..11], *"0,0 0,0 0,0");
     assert_eq!(page("TICK,100000000 TICK,1 TICK", "clock"), ["100000002"]);
 }
@@ -129,7 +129,7 @@ fn numbers_and_forms() {
 
 /// A is dormant, B runs; A is due and B is due.
 fn at_clock(clock: u64, a: (u64, u64), b: (u64, u64)) -> Raw {
-    let (engine, _) = Engine::fresh(1, 0, 0);
+    let (engine, _) = Engine::fresh(1, 0, 0, 1975);
     let mut raw = Raw::of(&engine);
     raw.clock = clock;
     for (place, (state, (due, interval))) in [(0, a), (1, b)].into_iter().enumerate() {
@@ -221,7 +221,7 @@ fn one_by_one_and_due_by_due() {
 
 /// Three equals, of which each is in one of five states, at clock 100; dues are told from there.
 fn three(states: usize, timers: [(u64, u64); 3]) -> Raw {
-    let (engine, _) = Engine::fresh(1, 0, 0);
+    let (engine, _) = Engine::fresh(1, 0, 0, 1975);
     let mut raw = Raw::of(&engine);
     raw.clock = 100;
     let mut ends = [0, 1, 0, 3, 0, 5, 6];

@@ -180,7 +180,7 @@ fn numbers_are_not_cut_to_32_bits() {
 
 #[test]
 fn wide_parameters_are_refused() {
-    let (mut engine, _) = Engine::fresh(4, 0, 2);
+    let (mut engine, _) = Engine::fresh(4, 0, 2, 1975);
     let (a, most) = (*b"A    ", u64::MAX);
     assert_eq!(engine.load(a, most), Err(Answer::new(3, 0)));
     assert_eq!(engine.load(a, 32_767), Ok(Answer::new(0, 1)));
@@ -215,8 +215,9 @@ fn wide_parameters_are_refused() {
         assert_eq!(answer, Err(Answer::new(3, 0)));
     }
     assert_eq!(engine, before);
-    assert_eq!(Engine::fresh(most, 0, 0).1, Err(Answer::new(3, 0)));
-    assert_eq!(Engine::fresh(5, 6, 0).0, Engine::smallest());
+    assert_eq!(Engine::fresh(most, 0, 0, 1975).1, Err(Answer::new(3, 0)));
+    assert_eq!(Engine::fresh(5, 6, 0, 1975).0, Engine::smallest());
+    assert_eq!(Engine::fresh(1, 0, 0, most).1, Err(Answer::new(3, 0)));
 }
 
 #[test]
@@ -224,7 +225,7 @@ fn no_caller_and_exec_7() {
     assert_eq!(answers("EXEC,11 EXEC,5,ALL RN,LOCK,99,7 EXEC,4,0,9"), "2,0 2,0 2,0 2,0");
     assert_eq!(last("EXEC,8"), "13,0");
     assert_eq!(last("LOAD,A,10 RU,A EXEC,7"), "0,0");
-    assert_eq!(last("LOAD,A,10 RU,A EXEC,11"), "0,1.0.0.0.0");
+    assert_eq!(last("LOAD,A,10 RU,A EXEC,11"), "0,1975.1.0.0.0.0");
 }
 
 #[test]

@@ -5,7 +5,7 @@ use engine::{Answer, Engine};
 
 /// One program runs (1, priority 5), one is dormant (4), two are in chain 3 (2, 3).
 fn tables(why2: RawWhy, why3: RawWhy) -> Raw {
-    let (engine, _) = Engine::fresh(4, 0, 2);
+    let (engine, _) = Engine::fresh(4, 0, 2, 1975);
     let mut raw = Raw::of(&engine);
     let record = |name: &[u8; 5], priority, state, why| RawRecord {
         used: true,
@@ -107,11 +107,12 @@ fn page_through_a_line_needs_its_buffer() {
     assert!(exact.starts_with(b"page=rte2\n") && exact.ends_with(b"end=page\n"));
 }
 
-/// The longest page there is: 8,186 bytes, below 8,192. Each of 32 programs waits for tracks and is
-/// marked; without the marks, 10 bytes each, it is 7,866.
+/// The longest page there is: 8,196 bytes, below 8,704. Each of 32 programs waits for tracks and is
+/// marked, and the year is not 1975; without that line, of 10 bytes, it is 8,186, and without the
+/// marks as well, 10 bytes each, 7,866.
 #[test]
 fn the_longest_page() {
-    let (engine, _) = Engine::fresh(256, 0, 16);
+    let (engine, _) = Engine::fresh(256, 0, 16, 2099);
     let mut raw = Raw::of(&engine);
     raw.clock = 1_000_000_000_000;
     for place in 0..32 {
@@ -138,6 +139,68 @@ fn the_longest_page() {
     }
     let page = raw.engine().expect("sound tables").page_bytes();
     println!("the longest page has {} bytes", page.len());
-    assert_eq!(page.len(), 8_186);
-    assert_eq!(page.len() - 32 * b"suspend=1\n".len(), 7_866);
+    assert_eq!(page.len(), 8_196);
+    assert_eq!(page.len() - b"year=2099\n".len(), 8_186);
+    assert_eq!(page.len() - b"year=2099\n".len() - 32 * b"suspend=1\n".len(), 7_866);
+    assert_eq!(counted(), page.len());
+}
+
+fn digits(number: u64) -> usize {
+    number.to_string().len()
+}
+
+/// The longest that each part of a page can be, whatever the others are, summed up; only the lines
+/// of tracks are counted together with T and S, over all of these.
+fn counted() -> usize {
+    let line = |key: &str, longest: usize| key.len() + 1 + longest + 1;
+    let ceiling = digits(1_000_000_000_000);
+    let due = digits(1_000_000_000_000 + 1_474_200_000);
+    let head = line("page", 4) + line("clock", ceiling) + line("year", 4) + line("numbers", 2);
+    // Why and mark of each state: none in 0, 1 and 6.
+    let whys = ["-", "son:32", "lock:16", "number", "tracks:256"];
+    let why =
+        |why: &&str| line("why", why.len()) + if **why == *"-" { 0 } else { line("suspend", 1) };
+    let why = whys.iter().map(why).max().unwrap_or(0);
+    let timer = line("due", due) + line("interval", digits(1_474_200_000));
+    let rest = line("name", 5) + line("priority", 5) + line("state", 1) + why + timer;
+    let records: usize = (1..=32).map(|id| line("id", digits(id)) + rest).sum();
+    // All in one chain have the most commas.
+    let members: usize = (1..=32).map(digits).sum();
+    let chains = 4 * line("chain1", 0) + members + 31;
+    let numbers: usize = (1..=16).map(|r| line("number", digits(r) + ":global:32".len())).sum();
+    head + line("programs", 2) + records + chains + tracks() + numbers + line("end", 4)
+}
+
+/// The lines of T, of S and of the runs, over all T and S: from the last track down, the longest
+/// that the lines from a track on can be, if the track before it is global, a program's, or neither.
+fn tracks() -> usize {
+    let mut longest = 0;
+    for t in 1..=256_usize {
+        // From track t on there is no line.
+        let mut from = vec![[0; 3]; t + 1];
+        for first in (0..t).rev() {
+            let mut best = from[first + 1][2];
+            let mut of = [best; 3];
+            for (who, shown) in [(0, "global"), (1, "32")] {
+                // No run of one holder stands behind another; programs are many.
+                let run = |last: usize| {
+                    let fields = digits(first as u64) + digits(last as u64) + shown.len() + 2;
+                    "held=".len() + fields + 1 + from[last + 1][who]
+                };
+                let most = (first..t).map(run).max().unwrap_or(0);
+                best = best.max(most);
+                for (before, of) in of.iter_mut().enumerate() {
+                    if before != who || who == 1 {
+                        *of = (*of).max(most);
+                    }
+                }
+            }
+            from[first] = of;
+        }
+        for s in 0..=t {
+            let sizes = format!("tracks={}\nsystem={}\n", t, s);
+            longest = longest.max(sizes.len() + from[s][2]);
+        }
+    }
+    longest
 }

@@ -4,7 +4,7 @@
 
 use board::clock::{race, Contestant};
 use board::looks::{self, What};
-use board::pack::{formed, pack};
+use board::pack::{formed, pack, AT_LINKS};
 use board::tables::{reply_of, Case, Cases, Kind};
 use board::{ffi, load, natural, words};
 use comparer::texts::Pair;
@@ -214,7 +214,7 @@ fn given() -> Vec<Case> {
     let kinds = [Kind::Reached, Kind::Unreached];
     let mut list: Vec<Case> = (0..2_000).map(|k| cases.case(kinds[k % 2])).collect();
     for case in &mut list {
-        case.page = vec![0; 8_192];
+        case.page = vec![0; ffi::PAGE];
     }
     list
 }
@@ -264,7 +264,7 @@ fn call<'a>(
     cases: &'a [Case],
     call: fn(&Case, &mut [u8], &mut [u8]) -> u64,
 ) -> Box<dyn Contestant + 'a> {
-    Box::new(Call { cases, tables: cases[0].tables.clone(), page: vec![0; 8_192], call })
+    Box::new(Call { cases, tables: cases[0].tables.clone(), page: vec![0; ffi::PAGE], call })
 }
 
 fn sounds(cases: &[Case]) -> Vec<Box<dyn Contestant + '_>> {
@@ -294,7 +294,7 @@ fn asks(cases: &[Case]) -> Vec<Box<dyn Contestant + '_>> {
 
 /// A few numbers of what a line leaves: to see that both did the same is the task of `agree`.
 fn sum(reply: ffi::Reply, tables: &[u8]) -> u64 {
-    reply.number + reply.values[0] + u64::from(tables[0]) + u64::from(tables[302])
+    reply.number + reply.values[0] + u64::from(tables[0]) + u64::from(tables[AT_LINKS + 1])
 }
 
 /// How often a page is read in one piece of work.

@@ -8,7 +8,7 @@ type Call = fn(&mut Engine) -> Outcome;
 
 /// A runs (1), B and C wait for the lock of number 1 (2, 3), D is suspended (4), all equals.
 fn tables() -> Raw {
-    let (engine, _) = Engine::fresh(4, 0, 2);
+    let (engine, _) = Engine::fresh(4, 0, 2, 1975);
     let mut raw = Raw::of(&engine);
     let states = [(1, RawWhy::Nothing), (3, RawWhy::Lock(1)), (3, RawWhy::Lock(1))];
     for (place, (state, why)) in states.into_iter().chain([(6, RawWhy::Nothing)]).enumerate() {
