@@ -4,7 +4,7 @@ use mathlib.Core.Path.{_≡_, refl}
 use Rattle.lists.specs.Lists.{same}
 use Rattle.text.specs.Text.{digits, decimal, numberOf, parts, entry}
 use Rattle.text.specs.Lines.{linesOf}
-use Rattle.clock.specs.Clock.{timeOf}
+use Rattle.clock.specs.Clock.{leap, daysIn, dated, timeOf}
 use Rattle.records.specs.Names.{nameOf}
 use Rattle.records.specs.Records.{all, find, lowestUnused}
 use Rattle.rules.specs.Plans.{woken, need, either, found}
@@ -27,7 +27,7 @@ use Rattle.bench.specs.Cases.{bench}
 
 pub computed : toldAnew bench ≡ bench
 unfolding
-    same digits decimal numberOf parts entry timeOf nameOf all find lowestUnused need either found named inside waits woken frees clears
+    same digits decimal numberOf parts entry leap daysIn dated timeOf nameOf all find lowestUnused need either found named inside waits woken frees clears
     endsIn order dueAt takes gives allocated call asCaller plan act step testNames testZeros testChains testWhys testMarks testSystem testUsers
     testUnlocked testLimits testDues walk read testLinks linksOf testBlank sound served asked afterTicks sumOfTicks tickedBy madeBy bytes usedIn recordLines chainLines
     heldLine heldLines numberLine numberLines lines page writtenIn pagedIn execs numbers forms lineOf keyedIn answerLine linesOf printed

@@ -4,7 +4,7 @@ use mathlib.Core.Path.{_≡_, refl}
 use Rattle.lists.specs.Lists.{same}
 use Rattle.text.specs.Text.{digits, decimal, numberOf, parts, behind, entry}
 use Rattle.text.specs.Lines.{linesOf}
-use Rattle.clock.specs.Clock.{timeOf}
+use Rattle.clock.specs.Clock.{leap, daysIn, dated, timeOf}
 use Rattle.records.specs.Names.{nameOf}
 use Rattle.records.specs.Records.{all, find, lowestUnused}
 use Rattle.rules.specs.Plans.{woken, need, either, found}
@@ -36,7 +36,7 @@ use Rattle.bench.specs.Follows.{walkAll, walks, partAll, partings}
 
 pub walks-computed : walkAll walks ≡ walks
 unfolding
-    same digits decimal numberOf parts behind entry linesOf timeOf nameOf all find lowestUnused need either found named inside waits woken
+    same digits decimal numberOf parts behind entry linesOf leap daysIn dated timeOf nameOf all find lowestUnused need either found named inside waits woken
     frees clears endsIn order dueAt takes gives allocated call asCaller plan act step testNames testZeros testChains testWhys testMarks testSystem
     testUsers testUnlocked testLimits testDues walk read testLinks linksOf testBlank sound served asked madeBy bytes usedIn recordLines
     chainLines heldLine heldLines numberLine numberLines lines page writtenIn pagedIn valueBehind behindLine firstBad valueOf withLine

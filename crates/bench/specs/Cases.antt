@@ -30,12 +30,15 @@ waits s v = key s 1 (v ∷ [])
 abbrev told : String → ℕ → Step
 told s a = key s a (0 ∷ [])
 
--- program A, of priority 10, is the running one, at a clock
-abbrev aRunning : ℕ → State lists
-aRunning c = record {
-  book = put 1 (inState 1 Nothing (newcomer (text "A    ") 10)) (withClock c (freshBook 4 1 1));
+-- program A, of priority 10, is the running one, at a clock that started in a year, or in the usual one
+abbrev runningFrom : ℕ → ℕ → State lists
+runningFrom y c = record {
+  book = put 1 (inState 1 Nothing (newcomer (text "A    ") 10)) (withClock c (freshBook 4 1 1 y));
   kept = [] ∷ (1 ∷ []) ∷ [] ∷ [] ∷ [] ∷ [] ∷ [] ∷ [];
 }
+
+abbrev aRunning : ℕ → State lists
+aRunning c = runningFrom 1975 c
 
 -- the same with a link that leads from A to A
 abbrev circular : Tables
@@ -76,7 +79,9 @@ bench7 = case (ok "FRESH,4,1,1" 0 ∷ ok "LOAD,A,10" 1 ∷ ok "RU,A" 0 ∷ told 
 abbrev bench8 : Case
 bench8 = record {
   start = lay (aRunning 8_639_999);
-  steps = key "EXEC,11" 0 (1 ∷ 23 ∷ 59 ∷ 59 ∷ 99 ∷ []) ∷ ok "TICK" 0 ∷ clock 8_640_000 ∷ key "EXEC,11" 0 (2 ∷ 0 ∷ 0 ∷ 0 ∷ 0 ∷ []) ∷ [];
+  steps =
+      key "EXEC,11" 0 (1975 ∷ 1 ∷ 23 ∷ 59 ∷ 59 ∷ 99 ∷ []) ∷ ok "TICK" 0 ∷ clock 8_640_000 ∷ key "EXEC,11" 0 (1975 ∷ 2 ∷ 0 ∷ 0 ∷ 0 ∷ 0 ∷ [])
+      ∷ [];
 }
 
 abbrev bench9 : Case
@@ -288,6 +293,49 @@ tooMany = record {
       ∷ ok "TICK,1" 0 ∷ clock 1_000_000_000_000 ∷ told "TICK,1" 11 ∷ told "TICK,0" 3 ∷ told "TICK" 11 ∷ [];
 }
 
+-- the time from a start year at a clock, and a tick later
+abbrev turn : ℕ → ℕ → List ℕ → List ℕ → Case
+turn y c now then =
+    record { start = lay (runningFrom y c); steps = key "EXEC,11" 0 now ∷ ok "TICK" 0 ∷ clock (c + 1) ∷ key "EXEC,11" 0 then ∷ [] }
+
+-- the last hundredth of a day, and midnight
+abbrev last : ℕ → ℕ → List ℕ
+last y d = y ∷ d ∷ 23 ∷ 59 ∷ 59 ∷ 99 ∷ []
+
+abbrev midnight : ℕ → ℕ → List ℕ
+midnight y d = y ∷ d ∷ 0 ∷ 0 ∷ 0 ∷ 0 ∷ []
+
+-- the turns of days and years: 1976, 2000 and 2400 have a day 366, and 1975 and 2100 have none; the last time of all
+abbrev turns : List Case
+turns =
+    turn 1976 3_153_599_999 (last 1976 365) (midnight 1976 366)
+    ∷ turn 1976 3_162_239_999 (last 1976 366) (midnight 1977 1)
+    ∷ turn 1975 3_153_599_999 (last 1975 365) (midnight 1976 1)
+    ∷ turn 1999 3_153_599_999 (last 1999 365) (midnight 2000 1)
+    ∷ turn 1999 6_307_199_999 (last 2000 365) (midnight 2000 366)
+    ∷ turn 1999 6_315_839_999 (last 2000 366) (midnight 2001 1)
+    ∷ turn 2099 3_153_599_999 (last 2099 365) (midnight 2100 1)
+    ∷ turn 2099 6_307_199_999 (last 2100 365) (midnight 2101 1)
+    ∷ turn 2099 953_009_279_999 (last 2400 365) (midnight 2400 366)
+    ∷ turn 2099 953_017_919_999 (last 2400 366) (midnight 2401 1)
+    ∷ turn 2099 999_999_999_999 (2415 ∷ 325 ∷ 17 ∷ 46 ∷ 39 ∷ 99 ∷ []) (2415 ∷ 325 ∷ 17 ∷ 46 ∷ 40 ∷ 0 ∷ [])
+    ∷ []
+
+-- a start year: its bounds, what is no number or one too many, and 65,536 years too many
+abbrev years : Case
+years = case (
+    told "FRESH,4,1,1,0" 3 ∷ told "FRESH,4,1,1,1969" 3 ∷ told "FRESH,4,1,1,2100" 3 ∷ told "FRESH,4,1,1,67511" 3 ∷ told "FRESH,4,1,1,9999999999" 3
+    ∷ told "FRESH,4,1,1," 13 ∷ told "FRESH,4,1,1,A" 13 ∷ told "FRESH,4,1,1,01976" 13 ∷ told "FRESH,4,1,1,1976,1" 13 ∷ told "FRESH,4,1,1,19760000000" 13
+    ∷ told "FRESH,4,5,1,1976" 3 ∷ ok "FRESH,4,1,1,1970" 0 ∷ ok "LOAD,A,10" 1 ∷ ok "RU,A" 0 ∷ key "EXEC,11" 0 (midnight 1970 1)
+    ∷ told "FRESH,4,1,1,2100" 3 ∷ key "EXEC,11" 0 (midnight 1970 1) ∷ ok "FRESH,4,1,1,2099" 0 ∷ ok "LOAD,A,10" 1 ∷ ok "RU,A" 0
+    ∷ key "EXEC,11" 0 (midnight 2099 1) ∷ ok "FRESH,4,1,1" 0 ∷ ok "LOAD,A,10" 1 ∷ ok "RU,A" 0 ∷ key "EXEC,11" 0 (midnight 1975 1) ∷ [])
+
+-- on the page it stands behind the clock, unless it is 1975
+abbrev datedPage : Case
+datedPage = case (
+    ok "FRESH,1,0,0,2001" 0 ∷ written 108 0 (108 ∷ []) (text "page=rte2\nclock=0\nyear=2001\ntracks=1\nsystem=0\nnumbers=0\nprograms=0\nchain1=\nchain3=\nchain5=\nchain6=\nend=page\n")
+    ∷ ok "FRESH,1,0,0,1975" 0 ∷ written 98 0 (98 ∷ []) (text "page=rte2\nclock=0\ntracks=1\nsystem=0\nnumbers=0\nprograms=0\nchain1=\nchain3=\nchain5=\nchain6=\nend=page\n") ∷ [])
+
 -- a refused FRESH keeps the tables; an accepted one begins anew
 abbrev refusedFresh : Case
 refusedFresh = case (
@@ -314,7 +362,7 @@ sheets =
     }
     ∷ record { typed = ""; prints = [] }
     ∷ record { typed = "\n"; prints = text "answer=13,value=0\n" }
-    ∷ record { typed = "LOAD,A,0\nRU,A\nEXEC,11"; prints = text "answer=0,value=1\nanswer=0,value=0\nanswer=0,value=1.0.0.0.0\n" }
+    ∷ record { typed = "LOAD,A,0\nRU,A\nEXEC,11"; prints = text "answer=0,value=1\nanswer=0,value=0\nanswer=0,value=1975.1.0.0.0.0\n" }
     ∷ record {
       typed = "AAAAAAAAAAAAAAAAAAAAAAAAAAAAAAAAAAAAAAAAAAAAAAAAAAAAAAAAAAAAAAAAAAAAAAAAAAAAAAAAAAAAAAAAAAAA\nLOAD,A,0\r\n";
       prints = text "answer=13,value=0\nanswer=13,value=0\n";
@@ -327,6 +375,7 @@ bench = record {
       bench1 ∷ bench2 ∷ bench3 ∷ bench4 ∷ bench5 ∷ bench6 ∷ bench7 ∷ bench8 ∷ bench9 ∷ bench10 ∷ behindEquals ∷ gap ∷ movedOn
       ∷ removedSon ∷ allWake ∷ oneWalk ∷ discFirst ∷ notItself ∷ lockGoes ∷ lockerEnds ∷ onlyCleared ∷ kept ∷ pricedAnew ∷ byNumber
       ∷ largeNumbers ∷ notSound ∷ needsCaller ∷ wrongState ∷ heldTracks ∷ heldSon ∷ heldNumber ∷ heldLock ∷ heldClear
-      ∷ heldFree ∷ markStays ∷ markGoes ∷ movedFar ∷ byNumberAtOnce ∷ byDue ∷ startedOnce ∷ tooMany ∷ refusedFresh ∷ notTheCaller ∷ fatherNext ∷ [];
+      ∷ heldFree ∷ markStays ∷ markGoes ∷ movedFar ∷ byNumberAtOnce ∷ byDue ∷ startedOnce ∷ tooMany ∷ refusedFresh ∷ notTheCaller ∷ fatherNext
+      ∷ years ∷ datedPage ∷ turns;
   sheets = sheets;
 }

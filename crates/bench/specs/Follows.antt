@@ -104,7 +104,7 @@ walks =
     ∷ walk ("page=rte2" ∷ "clok=0" ∷ []) (leg ("EXEC,7" ∷ []) rests ∷ [])
     ("first: answer=15,value=2" ∷ "clok=0" ∷ "requests: not keyed in, without a first page" ∷ "next: answer=0,value=0" ∷ [])
     ∷ walk runs (leg ("EXEC,11" ∷ []) (sheet "state=6" "due=-" "chain1=1" "chain6=") ∷ leg ("EXEC,7" ∷ []) [] ∷ [])
-    ("first: answer=0,value=0" ∷ "1: EXEC,11 -> answer=0,value=1.0.0.0.0" ∷ "next: answer=15,value=0"
+    ("first: answer=0,value=0" ∷ "1: EXEC,11 -> answer=0,value=1975.1.0.0.0.0" ∷ "next: answer=15,value=0"
     ∷ "requests: not keyed in, without a first page" ∷ "next: answer=15,value=1" ∷ [])
     -- a request of 73 bytes, and one with another byte
     ∷ walk runs (leg ("RU,LOG4567890123456789012345678901234567890123456789012345678901234567890" ∷ "EXEC,7\t" ∷ []) [] ∷ [])

@@ -40,6 +40,12 @@ waiter state why ls one five =
 abbrev waits : List String → List String
 waits ls = waiter "state=5" "why=tracks:1" ls "chain1=" "chain5=1"
 
+-- the smallest tables, with some lines behind the clock and behind the tracks
+abbrev dated : List String → List String → List String
+dated ys zs =
+    ("page=rte2" ∷ "clock=0" ∷ ys) ++ ("tracks=1" ∷ zs)
+    ++ ("system=0" ∷ "numbers=0" ∷ "programs=0" ∷ "chain1=" ∷ "chain3=" ∷ "chain5=" ∷ "chain6=" ∷ "end=page" ∷ [])
+
 abbrev of : List String → List ℕ → ℕ → ℕ → Paged
 of ls more n v = record { lines = ls; behind = more; number = n; values = v ∷ [] }
 
@@ -68,4 +74,20 @@ pages =
     ∷ of ("page=rte2" ∷ "clock=0" ∷ "tracks=1" ∷ "system=1" ∷ "numbers=0" ∷ "programs=0" ∷ []) (text "suspend=1") 15 7
     ∷ of ("page=rte2" ∷ "clock=0" ∷ "tracks=1" ∷ "system=1" ∷ "numbers=0" ∷ "programs=0" ∷ "suspend=1" ∷ []) [] 15 7
     ∷ of (waiter "state=1" "why=-" ("due=-" ∷ "interval=-" ∷ "suspend=1" ∷ []) "chain1=1" "chain5=") [] 15 0
+    -- a year: none, another than the usual one, the usual one, out of range, of 13 digits and of 14; twice, before the clock, behind the tracks,
+    -- without its byte 10, and with nothing behind it
+    ∷ of (dated [] []) [] 0 0
+    ∷ of (dated ("year=1976" ∷ []) []) [] 0 0
+    ∷ of (dated ("year=1975" ∷ []) []) [] 15 0
+    ∷ of (dated ("year=1969" ∷ []) []) [] 15 0
+    ∷ of (dated ("year=67511" ∷ []) []) [] 15 0
+    ∷ of (dated ("year=1234567890123" ∷ []) []) [] 15 0
+    ∷ of (dated ("year=12345678901234" ∷ []) []) [] 15 3
+    ∷ of (dated ("year=01976" ∷ []) []) [] 15 3
+    ∷ of (dated ("year=" ∷ []) []) [] 15 3
+    ∷ of (dated ("year=1976" ∷ "year=1976" ∷ []) []) [] 15 4
+    ∷ of (dated [] ("year=1976" ∷ [])) [] 15 4
+    ∷ of ("page=rte2" ∷ "year=1976" ∷ "clock=0" ∷ []) [] 15 2
+    ∷ of ("page=rte2" ∷ "clock=0" ∷ []) (text "year=1976") 15 3
+    ∷ of ("page=rte2" ∷ "clock=0" ∷ "year=1976" ∷ []) [] 15 4
     ∷ []

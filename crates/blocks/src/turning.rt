@@ -7,7 +7,7 @@ use rules::Answer;
 use tables::Outcome;
 use tables::Tables;
 
-// Prints for line after line, from place `at` on, while 8,192 bytes are left of the lent buffer. The tables are handed on from
+// Prints for line after line, from place `at` on, while 8,704 bytes are left of the lent buffer. The tables are handed on from
 // outcome to outcome where they stand.
 pub fn print_block(tables: Tables, block: &[u8], at: usize, out: &mut [u8]) -> Turn
     ensures { λ r. ⌜ record { tables = r .tables; place = r .place; used = r .used; buffer = now (out .exit) }

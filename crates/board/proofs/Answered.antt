@@ -1,4 +1,4 @@
--- Laws of an answer as bytes: five numbers of eight bytes each, which five an answer's values are, and the room for them.
+-- Laws of an answer as bytes: six numbers of eight bytes each, which six an answer's values are, and the room for them.
 -- Assumes nothing.
 use Prim.Native.Nat.{ℕ, _*_, _<_, _≤_}
 use native.Mathlib.Omega.{arith}
@@ -22,12 +22,12 @@ use Rattle.rules.proofs.Answer.{the-type}
 use Rattle.packing.specs.Packed.{inBytes}
 use Rattle.board.specs.Board.{figures, figuresLength, answering}
 
--- the five numbers of an answer
-abbrev pub five : Answer → List ℕ
-five a = take 5 (values a ++ replicate {A = ℕ} 5 0)
+-- the six numbers of an answer
+abbrev pub six : Answer → List ℕ
+six a = take 6 (values a ++ replicate {A = ℕ} 6 0)
 
 -- the places among all of the answers that hold nothing, and of those that are no time: the first have the value 0, the
--- others one value, and four 0 behind it
+-- others one value, and five 0 behind it
 abbrev bare : List ℕ
 bare = 3 ∷ 4 ∷ 5 ∷ 7 ∷ 8 ∷ 9 ∷ 10 ∷ 11 ∷ 12 ∷ 14 ∷ 15 ∷ 17 ∷ []
 
@@ -36,7 +36,7 @@ timeless = 0 ∷ 2 ∷ 3 ∷ 4 ∷ 5 ∷ 6 ∷ 7 ∷ 8 ∷ 9 ∷ 10 ∷ 11 ∷ 1
 
 said : (a : Answer)
     → (OneOf bare (tagOf the-type a) → 0 ≡ getD (values a) 0 0)
-    × (OneOf timeless (tagOf the-type a) → five a ≡ getD (values a) 0 0 ∷ 0 ∷ 0 ∷ 0 ∷ 0 ∷ [])
+    × (OneOf timeless (tagOf the-type a) → six a ≡ getD (values a) 0 0 ∷ 0 ∷ 0 ∷ 0 ∷ 0 ∷ 0 ∷ [])
 said (Done v) = (λ h. absurd (miss bare 0 tt h), λ h. refl)
 said (Told t) = (λ h. absurd (miss bare 1 tt h), λ h. absurd (miss timeless 1 tt h))
 said (Waits s) = (λ h. absurd (miss bare 2 tt h), λ h. refl)
@@ -59,19 +59,20 @@ said InNeither = (λ h. refl, λ h. refl)
 pub first-none : (a : Answer) → OneOf bare (tagOf the-type a) → 0 ≡ getD (values a) 0 0
 first-none a = (said a) .0
 
-pub five-one : (a : Answer) → OneOf timeless (tagOf the-type a) → five a ≡ getD (values a) 0 0 ∷ 0 ∷ 0 ∷ 0 ∷ 0 ∷ []
-five-one a = (said a) .1
+pub six-one : (a : Answer) → OneOf timeless (tagOf the-type a) → six a ≡ getD (values a) 0 0 ∷ 0 ∷ 0 ∷ 0 ∷ 0 ∷ 0 ∷ []
+six-one a = (said a) .1
 
--- five writes, and those behind that of the answer's number
-pub five-wrote : {l₀ l₁ l₂ l₃ l₄ l₅ : List ℕ} {at₀ at₁ at₂ at₃ at₄ at₅ : ℕ} (a b c d e : ℕ) → Wrote l₀ at₀ (inBytes 8 a) l₁ at₁
-    → Wrote l₁ at₁ (inBytes 8 b) l₂ at₂
-    → Wrote l₂ at₂ (inBytes 8 c) l₃ at₃ → Wrote l₃ at₃ (inBytes 8 d) l₄ at₄ → Wrote l₄ at₄ (inBytes 8 e) l₅ at₅
-    → Wrote l₀ at₀ (join (map (inBytes 8) (a ∷ b ∷ c ∷ d ∷ e ∷ []))) l₅ at₅
-five-wrote a b c d e v w x y z =
+-- six writes, and those behind that of the answer's number
+pub six-wrote : {l₀ l₁ l₂ l₃ l₄ l₅ l₆ : List ℕ} {at₀ at₁ at₂ at₃ at₄ at₅ at₆ : ℕ} (a b c d e f : ℕ) → Wrote l₀ at₀ (inBytes 8 a) l₁ at₁
+    → Wrote l₁ at₁ (inBytes 8 b) l₂ at₂ → Wrote l₂ at₂ (inBytes 8 c) l₃ at₃
+    → Wrote l₃ at₃ (inBytes 8 d) l₄ at₄ → Wrote l₄ at₄ (inBytes 8 e) l₅ at₅ → Wrote l₅ at₅ (inBytes 8 f) l₆ at₆
+    → Wrote l₀ at₀ (join (map (inBytes 8) (a ∷ b ∷ c ∷ d ∷ e ∷ f ∷ []))) l₆ at₆
+six-wrote a b c d e f u v w x y z =
     parts-end
-    (parts-step (parts-step (parts-step (parts-step (parts-step (parts-start (map (inBytes 8) (a ∷ b ∷ c ∷ d ∷ e ∷ []))) v) w) x) y) z)
+    (parts-step (parts-step (parts-step (parts-step (parts-step (parts-step
+    (parts-start (map (inBytes 8) (a ∷ b ∷ c ∷ d ∷ e ∷ f ∷ []))) u) v) w) x) y) z)
 
-pub figures-wrote : {l₀ l₁ l₂ : List ℕ} {at₀ at₁ at₂ : ℕ} (a : Answer) (n : ℕ) (vs : List ℕ) → n ≡ number a → vs ≡ five a
+pub figures-wrote : {l₀ l₁ l₂ : List ℕ} {at₀ at₁ at₂ : ℕ} (a : Answer) (n : ℕ) (vs : List ℕ) → n ≡ number a → vs ≡ six a
     → Wrote l₀ at₀ (inBytes 8 n) l₁ at₁ → Wrote l₁ at₁ (join (map (inBytes 8) vs)) l₂ at₂
     → Wrote l₀ at₀ (figures (number a) (values a)) l₂ at₂
 unfolding figures
@@ -81,27 +82,28 @@ figures-wrote a n vs e f v w =
 
 -- a number, and four values
 pub four-wrote : {l₀ l₁ l₂ : List ℕ} {at₀ at₁ at₂ : ℕ} (n a b c d : ℕ) → Wrote l₀ at₀ (inBytes 8 n) l₁ at₁
-    → Wrote l₁ at₁ (join (map (inBytes 8) (a ∷ b ∷ c ∷ d ∷ 0 ∷ []))) l₂ at₂ → Wrote l₀ at₀ (figures n (a ∷ b ∷ c ∷ d ∷ [])) l₂ at₂
+    → Wrote l₁ at₁ (join (map (inBytes 8) (a ∷ b ∷ c ∷ d ∷ 0 ∷ 0 ∷ []))) l₂ at₂ → Wrote l₀ at₀ (figures n (a ∷ b ∷ c ∷ d ∷ [])) l₂ at₂
 unfolding figures
-four-wrote n a b c d v w = wrote-then (inBytes 8 n) (join (map (inBytes 8) (a ∷ b ∷ c ∷ d ∷ 0 ∷ []))) v w
+four-wrote n a b c d v w = wrote-then (inBytes 8 n) (join (map (inBytes 8) (a ∷ b ∷ c ∷ d ∷ 0 ∷ 0 ∷ []))) v w
 
--- a number of eight bytes, and five more
-five-long : (vs : List ℕ) → length (take 5 (vs ++ replicate {A = ℕ} 5 0)) ≡ 5
-five-long [] = refl
-five-long (a ∷ []) = refl
-five-long (a ∷ b ∷ []) = refl
-five-long (a ∷ b ∷ c ∷ []) = refl
-five-long (a ∷ b ∷ c ∷ d ∷ []) = refl
-five-long (a ∷ b ∷ c ∷ d ∷ e ∷ vs) = refl
+-- a number of eight bytes, and six more
+six-long : (vs : List ℕ) → length (take 6 (vs ++ replicate {A = ℕ} 6 0)) ≡ 6
+six-long [] = refl
+six-long (a ∷ []) = refl
+six-long (a ∷ b ∷ []) = refl
+six-long (a ∷ b ∷ c ∷ []) = refl
+six-long (a ∷ b ∷ c ∷ d ∷ []) = refl
+six-long (a ∷ b ∷ c ∷ d ∷ e ∷ []) = refl
+six-long (a ∷ b ∷ c ∷ d ∷ e ∷ f ∷ vs) = refl
 
 longs-length : (vs : List ℕ) → length (join (map (inBytes 8) vs)) ≡ 8 * length vs
 longs-length [] = refl
 longs-length (v ∷ vs) = omega (arith, longs-length vs)
 
-pub figures-length : (a : ℕ) (vs : List ℕ) → length (figures a vs) ≡ 48
+pub figures-length : (a : ℕ) (vs : List ℕ) → length (figures a vs) ≡ 56
 unfolding figures
 figures-length a vs =
-    omega (arith, longs-length (a ∷ take 5 (vs ++ replicate {A = ℕ} 5 0)), five-long vs)
+    omega (arith, longs-length (a ∷ take 6 (vs ++ replicate {A = ℕ} 6 0)), six-long vs)
 
 -- an answer goes to the bytes lent for it, where these are enough
 module _ (a : ℕ) (vs buf : List ℕ) where

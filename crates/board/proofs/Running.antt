@@ -10,13 +10,13 @@ use mathlib.Core.Logic.{_⊎_, inl, inr}
 use lib.ListN.{length, take, drop}
 use lib.Seq.{slice, take-at}
 use Rattle.text.specs.Lines.{linesOf}
-use Rattle.limits.specs.Limits.{pageRoom}
+use Rattle.limits.specs.Limits.{pageRoom, usualYear}
 use Rattle.text.specs.Inner.{Wrote}
 use Rattle.text.proofs.Lines.{lines-none, lines-next}
 use Rattle.text.proofs.Laws.{Left, left-start, left-step, left-end, wrote-front}
 use Rattle.page.proofs.Writing.{left-as, wrote-as}
 use Rattle.rules.specs.Answers as answers
-use Rattle.rules.specs.Rules.{sizes}
+use Rattle.rules.specs.Rules.{mayStart}
 use Rattle.rules.specs.Keeper.{lists, fresh}
 use Rattle.tables.specs.declared.Tables.{Tables}
 use Rattle.tables.specs.declared.Outcome.{Outcome}
@@ -32,11 +32,11 @@ use Rattle.board.proofs.Answered.{answering-put}
 use Rattle.board.proofs.Whole.{after, printed-length, printed-none, filled-fits, filled-over, filled-none, filled-most, ran-put}
 
 -- FRESH of the smallest tables yields them, allowed or not
-pub made-smallest : (r : Outcome) → told r ≡ made 1 0 0 1975 → r .tables ≡ smallest
+pub made-smallest : (r : Outcome) → told r ≡ made 1 0 0 usualYear → r .tables ≡ smallest
 unfolding madeBy
-made-smallest r e = ap (λ (x : Result). x .tables) e ∙ go (sizes 1 0 0)
+made-smallest r e = ap (λ (x : Result). x .tables) e ∙ go (mayStart 1 0 0 usualYear)
   where
-    go : (b : Bool) → (cond {A = Result} b (record { number = 0; values = 0 ∷ []; tables = lay (fresh lists 1 0 0 1975) })
+    go : (b : Bool) → (cond {A = Result} b (record { number = 0; values = 0 ∷ []; tables = lay (fresh lists 1 0 0 usualYear) })
         (record { number = 3; values = 0 ∷ []; tables = smallest })) .tables ≡ smallest
     go true = refl
     go false = refl

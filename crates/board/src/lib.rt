@@ -14,8 +14,8 @@
 // for its type; bytes that are lent for writing overlap no others that are handed in; and nothing else writes to any of them before the
 // call returns.
 //
-// All but board_sound hand back the answer's number. The answer itself goes to the front of `answer`, in 48 bytes: its number and five
-// values of 8 bytes each, the lowest first. Fewer than 48 bytes are answered 12: nothing is done, and no byte is written. The values of
+// All but board_sound hand back the answer's number. The answer itself goes to the front of `answer`, in 56 bytes: its number and six
+// values of 8 bytes each, the lowest first. Fewer than 56 bytes are answered 12: nothing is done, and no byte is written. The values of
 // board_find are 0, then 0 for the original or 1 for the copy, and where the line begins and ends there; that of board_list is how many
 // lines it put, or, with 12, how many places these need.
 mod desk;
@@ -24,6 +24,7 @@ mod telling;
 ghost use mathlib.Core.Path.{_≡_};
 ghost use Rattle.board.specs.Board.{ran, boarded, soundly, readBack};
 use limits::PAGE_ROOM;
+use limits::USUAL_YEAR;
 use rules::Answer;
 use tables::Tables;
 
@@ -44,7 +45,7 @@ pub extern "C" fn board_run(text: &[u8], out: &mut [u8], answer: &mut [u8]) -> u
     if answer.len() < telling::FIGURES_LENGTH {
         return 12;
     }
-    let first = Tables::fresh(1, 0, 0);
+    let first = Tables::fresh(1, 0, 0, USUAL_YEAR as u64);
     let mut tables = first.tables;
     let mut space = [0u8; PAGE_ROOM];
     let mut from: usize = 0;
@@ -115,7 +116,7 @@ pub extern "C" fn board_ask(
 }
 
 // Reads a page back: the tables, in packed form, at the front of `tables`, the rest of it untouched. The reading's own answer, 0, or 15 and
-// the line, with the smallest tables; or 12, and `tables` as it was, where fewer than 1,269 bytes are lent for these, value 1269.
+// the line, with the smallest tables; or 12, and `tables` as it was, where fewer than 1,271 bytes are lent for these, value 1271.
 #[no_mangle]
 pub extern "C" fn board_read(page: &[u8], tables: &mut [u8], answer: &mut [u8]) -> u64
     ensures { λ r. ⌜ record { number = r; tables = now (tables .exit); answer = now (answer .exit) }
@@ -125,7 +126,7 @@ pub extern "C" fn board_read(page: &[u8], tables: &mut [u8], answer: &mut [u8]) 
         return 12;
     }
     if tables.len() < packing::PACKED_LENGTH {
-        return telling::tell(answer, Answer::TooShort(1269));
+        return telling::tell(answer, Answer::TooShort(1271));
     }
     let r = reader::read_page(page);
     let t = r.tables;

@@ -1,4 +1,4 @@
-// An answer as bytes: its number and five values, each in 8 bytes.
+// An answer as bytes: its number and six values, each in 8 bytes.
 ghost use mathlib.Core.Path.{_≡_};
 ghost use Prim.Native.Nat.{_+_, _≤_};
 ghost use mathlib.Core.List.{[], _∷_, map};
@@ -11,15 +11,15 @@ ghost use Rattle.board.specs.Board.{figures, figuresLength, answering};
 use rules::Answer;
 
 // The bytes of an answer.
-pub(crate) const FIGURES_LENGTH: usize = 48;
+pub(crate) const FIGURES_LENGTH: usize = 56;
 
-// The value of an answer, the day of one that is a time.
+// The value of an answer, the year of one that is a time.
 fn first_value(answer: Answer) -> u64
     ensures { λ r. ⌜ r ≡ getD (values answer) 0 0 ⌝ }
 {
     match answer {
         Answer::Done(v) => v,
-        Answer::Told(t) => t.day,
+        Answer::Told(t) => t.year,
         Answer::Waits(s) => s as u64,
         Answer::WrongState(s) => s as u64,
         Answer::TooShort(n) => n,
@@ -39,15 +39,16 @@ fn first_value(answer: Answer) -> u64
     }
 }
 
-fn put_five(buf: &mut [u8], at: usize, a: u64, b: u64, c: u64, d: u64, e: u64) -> usize
-    requires { ⌜ at + 40 ≤ length (now buf) ⌝ }
-    ensures { λ r. ⌜ Wrote (now (buf .entry)) at (join (map (inBytes 8) (a ∷ b ∷ c ∷ d ∷ e ∷ []))) (now (buf .exit)) r ⌝ }
+fn put_six(buf: &mut [u8], at: usize, a: u64, b: u64, c: u64, d: u64, e: u64, f: u64) -> usize
+    requires { ⌜ at + 48 ≤ length (now buf) ⌝ }
+    ensures { λ r. ⌜ Wrote (now (buf .entry)) at (join (map (inBytes 8) (a ∷ b ∷ c ∷ d ∷ e ∷ f ∷ []))) (now (buf .exit)) r ⌝ }
 {
     let i = packing::put_long(buf, at, a);
     let j = packing::put_long(buf, i, b);
     let k = packing::put_long(buf, j, c);
     let l = packing::put_long(buf, k, d);
-    packing::put_long(buf, l, e)
+    let m = packing::put_long(buf, l, e);
+    packing::put_long(buf, m, f)
 }
 
 pub(crate) fn put_figures(buf: &mut [u8], answer: Answer) -> usize
@@ -56,9 +57,18 @@ pub(crate) fn put_figures(buf: &mut [u8], answer: Answer) -> usize
 {
     let at = packing::put_long(buf, 0, console::number_of(answer));
     if let Answer::Told(t) = answer {
-        return put_five(buf, at, t.day, t.hour, t.minute, t.second, t.hundredth);
+        return put_six(
+            buf,
+            at,
+            t.year,
+            t.day,
+            t.hour,
+            t.minute,
+            t.second,
+            t.hundredth,
+        );
     }
-    put_five(buf, at, first_value(answer), 0, 0, 0, 0)
+    put_six(buf, at, first_value(answer), 0, 0, 0, 0, 0)
 }
 
 // Tells an answer: its figures at the front of the bytes lent for it, where these are enough, and its number.
@@ -80,7 +90,7 @@ pub(crate) fn put_four(buf: &mut [u8], number: u64, a: u64, b: u64, c: u64, d: u
     ensures { λ r. ⌜ Wrote (now (buf .entry)) 0 (figures number (a ∷ b ∷ c ∷ d ∷ [])) (now (buf .exit)) r ⌝ }
 {
     let at = packing::put_long(buf, 0, number);
-    put_five(buf, at, a, b, c, d, 0)
+    put_six(buf, at, a, b, c, d, 0, 0)
 }
 
 // Tells of a text that was run how many bytes its output has in all, and how many of them were put.

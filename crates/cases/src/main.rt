@@ -2,9 +2,9 @@
 // short. Each is made by setting a field of the tables, and then keyed in like any other.
 ghost use Prim.Native.Nat.{_≤_};
 ghost use lib.ListN.{length};
-use clock::Clock;
 use libc::STDOUT_FILENO;
 use limits::PAGE_ROOM;
+use limits::USUAL_YEAR;
 use rules::Answer;
 use tables::Tables;
 
@@ -31,8 +31,7 @@ fn show(tables: Tables, line: &[u8]) -> Tables {
 // The same tables at another time.
 fn at_clock(tables: Tables, ticks: u64) -> Tables {
     let mut book = tables.ledger;
-    let clock = Clock::from_ticks(ticks);
-    book.clock = clock;
+    book.clock.ticks = ticks;
     let links = tables.links;
     Tables {
         ledger: book,
@@ -53,7 +52,7 @@ fn with_head(tables: Tables, p: u8) -> Tables {
 
 // Two programs, one of them scheduled.
 fn two_programs() -> Tables {
-    let made = Tables::fresh(4, 1, 1);
+    let made = Tables::fresh(4, 1, 1, USUAL_YEAR as u64);
     let a = show(made.tables, b"LOAD,A,10");
     let b = show(a, b"LOAD,B,10");
     show(b, b"RU,A")

@@ -89,13 +89,20 @@ shows-time y c n day h m s x S =
 
 pub some-time : (y c : ℕ) → (n : ℕ) × (day : ℕ) × (h : ℕ) × (m : ℕ) × (s : ℕ) × (x : ℕ) × Shows y c n day h m s x
 some-time y c =
-    let (n, day, F, e) = date-falls y (c / 8_640_000) in
-    (n, day, c / 360_000 % 24, c / 6_000 % 60, c / 100 % 60, c % 100, record {
-      first = F .first;
-      last = F .last;
-      hour = omega arith;
-      minute = omega arith;
-      second = omega arith;
-      hundredth = omega arith;
-      all = pieces (daysOf n y + (day - 1)) c (omega (arith, F .all, F .first));
-    })
+    let (n, day, F, e) = date-falls y (c / 8_640_000) in (
+      n,
+      day,
+      c / 360_000 % 24,
+      c / 6_000 % 60,
+      c / 100 % 60,
+      c % 100,
+      record {
+        first = F .first;
+        last = F .last;
+        hour = omega arith;
+        minute = omega arith;
+        second = omega arith;
+        hundredth = omega arith;
+        all = pieces (daysOf n y + (day - 1)) c (omega (arith, F .all, F .first));
+      },
+    )

@@ -206,17 +206,24 @@ some-date days = go (ltb days (before year)) refl
 
     go : (b : Bool) → ltb days (before year) ≡ b → (z : ℕ) × (day : ℕ) × Dated days z day
     go true e =
-        let h = not-far days year refl (ltb-true days (before year) e) in
-        (year - 1, days - before (year - 1) + 1, record {
-          begun = h .1;
-          going = omega (arith, ltb-true days (before year) e, ap before (let p : suc (year - 1) ≡ year = omega (arith, h .0) in p));
-          is = refl;
-        })
-    go false e = (year, days - before year + 1, record {
-      begun = ltb-false days (before year) e;
-      going = not-past days year refl;
-      is = refl;
-    })
+        let h = not-far days year refl (ltb-true days (before year) e) in (
+          year - 1,
+          days - before (year - 1) + 1,
+          record {
+            begun = h .1;
+            going = omega (arith, ltb-true days (before year) e, ap before (let p : suc (year - 1) ≡ year = omega (arith, h .0) in p));
+            is = refl;
+          },
+        )
+    go false e = (
+      year,
+      days - before year + 1,
+      record {
+        begun = ltb-false days (before year) e;
+        going = not-past days year refl;
+        is = refl;
+      },
+    )
 
 pub date-falls : (y d : ℕ) → (n : ℕ) × (day : ℕ) × (Falls y d n day) × (dated d y d ≡ (y + n) ∷ day ∷ [])
 date-falls y d =

@@ -173,7 +173,7 @@ pieces-are false o c = only (listedLines o c)
 
 -- how long it all is: no more than 4,096 lines, each with the room for one
 abbrev pub mostSaid : ℕ
-mostSaid = 70000000
+mostSaid = 80000000
 
 pub pieces-far : (g : Bool) (o c : List ℕ) → length o ≤ pageRoom → length c ≤ pageRoom → length (pieces g o c) ≤ mostSaid
 pieces-far g o c h k =
@@ -192,7 +192,7 @@ pieces-far g o c h k =
 
 -- the list has room for three figures of each: what is handed back is how many there are, and the figures stand in front
 abbrev pub listRoom : ℕ
-listRoom = 12288
+listRoom = 13056
 
 module _ (o c list : List ℕ) (h : length o ≤ pageRoom) (r : length list ≡ listRoom) where
   figures-long : length (figuresListed o c) ≡ length (listedLines o c) * 3

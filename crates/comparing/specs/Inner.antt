@@ -46,7 +46,7 @@ pub record Puts (writing : Bool) (before : List ℕ) (at : ℕ) (bytes : List �
 
 -- the room for one piece, and a place that all pieces together do not reach
 abbrev pub pieceRoom : ℕ
-pieceRoom = 2 * pageRoom + 68
+pieceRoom = 17476
 
 abbrev pub farPlace : ℕ
 farPlace = 1000000000

@@ -73,7 +73,7 @@ fn print_page(tables: Tables, out: &mut [u8]) -> Outcome
     }
 }
 
-// What a line prints, at the front of a lent buffer of at least 8,192 bytes: the line for its answer, or for PAGE
+// What a line prints, at the front of a lent buffer of at least 8,704 bytes: the line for its answer, or for PAGE
 // the page; and how many bytes that is.
 pub fn print_line(tables: Tables, line: &[u8], out: &mut [u8]) -> Outcome
     ensures { λ r. ⌜ beside (now (out .exit)) (told r) ≡ lineShown tables (now (line .entry)) (now (out .entry)) ⌝ }

@@ -23,14 +23,7 @@ fn not_said() -> Command
 }
 
 // Behind word `last` and a name the line ends with k numbers, or with one less where the last is spare.
-fn with_numbers(
-    s: &[u8],
-    at: usize,
-    last: usize,
-    name: [u8; 5],
-    k: usize,
-    spare: bool,
-) -> Command
+fn with_numbers(s: &[u8], at: usize, last: usize, name: [u8; 5], k: usize, spare: bool) -> Command
     requires { ⌜ length (now s) ≤ longestLine ⌝ }
     requires { ⌜ last < noWord ⌝ }
     ensures { λ r. ⌜ says r ≡ counted k spare (request last name) (fieldsFrom (now (s .entry)) at) ⌝ }

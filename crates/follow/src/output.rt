@@ -10,8 +10,8 @@ use rules::Answer;
 // The bytes of the buffer.
 pub const SPACE: usize = 65536;
 
-// The bytes of the room in which what is shown is put first. The longest is a verdict. A page has at most 8,192 bytes, and no line of one
-// has fewer than 5; so there are at most 1,638 lines of either, and all that is said of them is shorter.
+// The bytes of the room in which what is shown is put first. The longest is a verdict. A page has at most 8,704 bytes, and no line of one
+// has fewer than 5; so there are at most 1,740 lines of either, and all that is said of them is shorter.
 pub const SHOWN: usize = 262144;
 
 // How many bytes wait at the front of the buffer, and whether all before them was written. Where it was not, nothing more is taken.

@@ -10,6 +10,7 @@ use super::output::SHOWN;
 use super::output::SPACE;
 use super::output::Waiting;
 use super::saying;
+use limits::USUAL_YEAR;
 use showing::LONGEST_NAME;
 use showing::LONGEST_PAGE;
 use tables::Tables;
@@ -31,7 +32,7 @@ fn none(waiting: Waiting) -> Standing
     requires { ⌜ waiting .count ≤ outputSpace ⌝ }
     ensures { λ r. ⌜ Shows 0 r ⌝ }
 {
-    let smallest = Tables::fresh(1, 0, 0);
+    let smallest = Tables::fresh(1, 0, 0, USUAL_YEAR as u64);
     let t = smallest.tables;
     Standing {
         taken: false,

@@ -13,7 +13,7 @@ use Rattle.tables.specs.declared.Tables.{Tables}
 use Rattle.tables.specs.Tables.{plain}
 use Rattle.tables.specs.Calls.{Result}
 use Rattle.page.specs.Page.{page}
-use Rattle.reader.specs.Order.{heading, headForms, firstBad}
+use Rattle.reader.specs.Order.{pageAhead, firstBad}
 use Rattle.reader.specs.Reading.{notRead, reading}
 use Rattle.reader.proofs.Exact.{not-read}
 use Rattle.text.specs.Text.{parts}

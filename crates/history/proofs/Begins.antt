@@ -20,14 +20,14 @@ use Rattle.history.specs.Runs.{requested}
 use Rattle.history.specs.Demand.{replaying}
 use Rattle.history.proofs.Steps.{asked-planned}
 
--- FRESH, where `new` makes fresh tables and b tells whether the sizes are allowed
-abbrev Begins : {F : Type 0} → F → (ℕ → ℕ → ℕ → F) → ℕ → ℕ → ℕ → Bool → Reply F
+-- FRESH, where `new` makes fresh tables and b tells whether the sizes and the year are allowed
+abbrev Begins : {F : Type 0} → F → (ℕ → ℕ → ℕ → ℕ → F) → ℕ → ℕ → ℕ → ℕ → Bool → Reply F
 Begins {F} t new T S R Y b =
     let r : Reply F =
     cond b (record { number = 0; values = 0 ∷ []; tables = new T S R Y }) (record { number = 3; values = 0 ∷ []; tables = new 1 0 0 1975 }) in
     record { number = r .number; values = r .values; tables = cond (eqb (r .number) 0) (r .tables) t }
 
-abbrev renewal : ℕ → ℕ → ℕ → Bool → Plan
+abbrev renewal : ℕ → ℕ → ℕ → ℕ → Bool → Plan
 renewal T S R Y b = need b 3 0 (done (0 ∷ []) (renewed T S R Y ∷ []))
 
 linked-begins : (t : Tables) (T S R Y : ℕ) (b : Bool) → Begins t freshly T S R Y b ≡ planned t (renewal T S R Y b)

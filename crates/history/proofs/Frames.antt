@@ -43,15 +43,15 @@ use Rattle.history.proofs.Steps.{written-leaves, paged-sound, keyed-sou
 
 -- of tables that are not sound
 module _ (t : Tables) (e : sound t ≡ false) where
-  asked-stays : (q : Request) → asked t q .tables ≡ t
+  pub asked-stays : (q : Request) → asked t q .tables ≡ t
   unfolding asked
   asked-stays q = rw (e, asked)
 
-  paged-stays : (buf : List ℕ) → paged t buf .tables ≡ t
+  pub paged-stays : (buf : List ℕ) → paged t buf .tables ≡ t
   unfolding pagedIn
   paged-stays buf = rw (e, pagedIn)
 
-  keyed-stays : (bytes buf : List ℕ) → keyed t bytes buf .tables ≡ t
+  pub keyed-stays : (bytes buf : List ℕ) → keyed t bytes buf .tables ≡ t
   unfolding keyedIn
   keyed-stays bytes buf = rw (e, keyedIn)
 

@@ -5,3 +5,4 @@ pub mod Begins
 pub mod FirstEntries
 pub mod Demand3
 pub mod Singly
+pub mod Years

@@ -120,6 +120,13 @@ pub data Asks (q : Request) : Made → Type 0 where
   by-call : Asks q (calls.request q)
   by-line : (bytes buf : List ℕ) → lineOf bytes ≡ line.asks q → Asks q (calls.line bytes buf)
 
+-- the year in which the clock of tables started: FRESH's alone
+abbrev pub yearOf : Tables → ℕ
+yearOf t = plain t .book .year
+
+pub record YearStays (t : Tables) (c : Made) : Type 0 where
+  pub same : ((T S R Y : ℕ) → Asks (FRESH T S R Y) c → ⊥) → yearOf (step linked t c .tables) ≡ yearOf t
+
 -- the call is an accepted FRESH, which takes no tables; or the tables are sound and it concerns program p: its caller, named
 -- in it, due at that tick, or woken by it; or it is an accepted TICK,n, and p is due at one of its ticks
 pub data Touches (t : Tables) (c : Made) (p : ℕ) : Type 0 where

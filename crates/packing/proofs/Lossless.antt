@@ -48,6 +48,7 @@ Each P (x ∷ xs) = P x × Each P xs
 
 pub record FitTables (t : Tables) : Type 0 where
   pub clock : t .ledger .clock .ticks < wide 8
+  pub year : t .ledger .clock .year < wide 2
   pub tracks : t .ledger .tracks .count < wide 2
   pub system : t .ledger .tracks .system < wide 2
   pub programs : Each FitProgram (t .ledger .programs)
@@ -153,9 +154,10 @@ program-back s r o rest F whole =
 tables-parts : (t : Tables)
     → packed t
     ≡ inBytes 8 (t .ledger .clock .ticks)
+    ++ (inBytes 2 (t .ledger .clock .year)
     ++ (inBytes 2 (t .ledger .tracks .count) ++ (inBytes 2 (t .ledger .tracks .system) ++ ((t .ledger .numbers .count ∷ [])
     ++ (places (t .ledger .tracks)
-    ++ (join (map packResource (t .ledger .numbers .resources)) ++ (t .links ++ join (map packProgram (t .ledger .programs))))))))
+    ++ (join (map packResource (t .ledger .numbers .resources)) ++ (t .links ++ join (map packProgram (t .ledger .programs)))))))))
 unfolding packed
 tables-parts t = simp append-assoc
 
@@ -171,34 +173,39 @@ lossless t A F =
     let n = (t .ledger .numbers .count ∷ []) ++ h in
     let y = inBytes 2 (t .ledger .tracks .system) ++ n in
     let x = inBytes 2 (t .ledger .tracks .count) ++ y in
-    let p₀ : drop 0 s ≡ inBytes 8 (t .ledger .clock .ticks) ++ x = tables-parts t in
-    let p₈ : drop 8 s ≡ x = behind s 0 8 (inBytes 8 (t .ledger .clock .ticks)) refl p₀ in
-    let p₁₀ : drop 10 s ≡ y = behind s 8 10 (inBytes 2 (t .ledger .tracks .count)) refl p₈ in
-    let p₁₂ : drop 12 s ≡ n = behind s 10 12 (inBytes 2 (t .ledger .tracks .system)) refl p₁₀ in
-    let p₁₃ : drop 13 s ≡ h = behind s 12 13 (t .ledger .numbers .count ∷ []) refl p₁₂ in
-    let p₂₆₉ : drop 269 s ≡ r = behind s 13 269 (places (t .ledger .tracks)) (omega (arith, A .holders)) p₁₃ in
-    let p₃₀₁ : drop 301 s ≡ l = behind s 269 301 (join (map packResource rs)) (omega (arith, A .resources, resources-length rs)) p₂₆₉ in
-    let p₃₄₁ : drop 341 s ≡ join (map packProgram ps) = behind s 301 341 (t .links) (omega (arith, A .links)) p₃₀₁ in
+    let w = inBytes 2 (t .ledger .clock .year) ++ x in
+    let p₀ : drop 0 s ≡ inBytes 8 (t .ledger .clock .ticks) ++ w = tables-parts t in
+    let p₈ : drop 8 s ≡ w = behind s 0 8 (inBytes 8 (t .ledger .clock .ticks)) refl p₀ in
+    let p₁₀ : drop 10 s ≡ x = behind s 8 10 (inBytes 2 (t .ledger .clock .year)) refl p₈ in
+    let p₁₂ : drop 12 s ≡ y = behind s 10 12 (inBytes 2 (t .ledger .tracks .count)) refl p₁₀ in
+    let p₁₄ : drop 14 s ≡ n = behind s 12 14 (inBytes 2 (t .ledger .tracks .system)) refl p₁₂ in
+    let p₁₅ : drop 15 s ≡ h = behind s 14 15 (t .ledger .numbers .count ∷ []) refl p₁₄ in
+    let p₂₇₁ : drop 271 s ≡ r = behind s 15 271 (places (t .ledger .tracks)) (omega (arith, A .holders)) p₁₅ in
+    let p₃₀₃ : drop 303 s ≡ l = behind s 271 303 (join (map packResource rs)) (omega (arith, A .resources, resources-length rs)) p₂₇₁ in
+    let p₃₄₃ : drop 343 s ≡ join (map packProgram ps) = behind s 303 343 (t .links) (omega (arith, A .links)) p₃₀₃ in
     λ i. record {
       ledger = record {
         programs =
             (ap (λ (k : ℕ). map (λ i. programAt s (programsPlace + 29 * i)) (from 0 k)) (sym (A .programs))
             ∙ items-back FitProgram packProgram 29 (λ r f. program-length r (f .name)) s (λ i. programsPlace + 29 * i) (λ i. omega arith)
-            (programAt s) (program-back s) ps 0 [] (F .programs) (p₃₄₁ ∙ sym (append-nil (join (map packProgram ps)))))
+            (programAt s) (program-back s) ps 0 [] (F .programs) (p₃₄₃ ∙ sym (append-nil (join (map packProgram ps)))))
             i;
-        clock = record { ticks = number-at s 0 8 (t .ledger .clock .ticks) x (F .clock) p₀ i };
+        clock = record {
+          ticks = number-at s 0 8 (t .ledger .clock .ticks) w (F .clock) p₀ i;
+          year = number-at s 8 2 (t .ledger .clock .year) x (F .year) p₈ i;
+        };
         tracks =
-            tableAt (number-at s 8 2 (t .ledger .tracks .count) y (F .tracks) p₈ i)
-            (number-at s 10 2 (t .ledger .tracks .system) n (F .system) p₁₀ i)
-            (list-at s 13 256 (places (t .ledger .tracks)) r (A .holders) p₁₃ i);
+            tableAt (number-at s 10 2 (t .ledger .tracks .count) y (F .tracks) p₁₀ i)
+            (number-at s 12 2 (t .ledger .tracks .system) n (F .system) p₁₂ i)
+            (list-at s 15 256 (places (t .ledger .tracks)) r (A .holders) p₁₅ i);
         numbers = record {
-          count = byte-at s 12 p₁₂ i;
+          count = byte-at s 14 p₁₄ i;
           resources =
               (ap (λ (k : ℕ). map (λ i. resourceAt s (resourcesPlace + 2 * i)) (from 0 k)) (sym (A .resources))
               ∙ items-back (λ x. Unit {0}) packResource 2 (λ x f. refl) s (λ i. resourcesPlace + 2 * i) (λ i. omega arith) (resourceAt s)
-              (resource-back s) rs 0 l (anyone rs) p₂₆₉)
+              (resource-back s) rs 0 l (anyone rs) p₂₇₁)
               i;
         };
       };
-      links = list-at s 301 40 (t .links) (join (map packProgram ps)) (A .links) p₃₀₁ i;
+      links = list-at s 303 40 (t .links) (join (map packProgram ps)) (A .links) p₃₀₃ i;
     }

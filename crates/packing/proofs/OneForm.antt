@@ -80,7 +80,7 @@ module _ (s : List ℕ) (long : length s ≡ packedLength) where
   pub unpacked-arrays : Arrays (unpacked s)
   unfolding unpacked
   unpacked-arrays =
-      record { programs = refl; links = part-length 301 40 (omega arith); holders = part-length 13 256 (omega arith); resources = refl }
+      record { programs = refl; links = part-length 303 40 (omega arith); holders = part-length 15 256 (omega arith); resources = refl }
 
   unpacked-names : Each Named (unpacked s .ledger .programs)
   unfolding unpacked programAt
@@ -118,8 +118,9 @@ module _ (s : List ℕ) (b : Bytes s) where
   unfolding unpacked programAt
   unpacked-fits long = record {
     clock = figure-small 8 0;
-    tracks = figure-small 2 8;
-    system = figure-small 2 10;
+    year = figure-small 2 8;
+    tracks = figure-small 2 10;
+    system = figure-small 2 12;
     programs =
         each-from FitProgram (λ i. programAt s (programsPlace + 29 * i)) 0 32
         (λ i h.
@@ -145,11 +146,11 @@ module _ (s : List ℕ) where
   -- what the code has in hand: the tables that the bytes say, packed where as many bytes stood
   pub packed-is : (t : Tables) (l form : List ℕ) (n : ℕ) → length s ≡ packedLength → length l ≡ packedLength → t ≡ unpacked s
       → Wrote l 0 (packed t) form n
-      → alike (slice 0 1269 form) s ≡ isPacked s
+      → alike (slice 0 1271 form) s ≡ isPacked s
   packed-is t l form n long k u w =
       let whole : form ≡ packed t = filled-whole w (ap (λ (x : Tables). length (packed x)) u ∙ unpacked-length s long ∙ sym k) in
-      let all : length form ≤ 1269 = omega (arith, ap length whole, ap (λ (x : Tables). length (packed x)) u, unpacked-length s long) in
-      ap (λ (x : List ℕ). alike x s) (take-all 1269 form all ∙ whole ∙ ap packed u)
+      let all : length form ≤ 1271 = omega (arith, ap length whole, ap (λ (x : Tables). length (packed x)) u, unpacked-length s long) in
+      ap (λ (x : List ℕ). alike x s) (take-all 1271 form all ∙ whole ∙ ap packed u)
       ∙ sym (by-length true (eq-eqb (length s) packedLength long))
 
   pub is-length : isPacked s ≡ true → length s ≡ packedLength

@@ -77,17 +77,18 @@ program-wrote r u k n m eu ek en em a b c d e f g h i =
     ∷ inBytes 8 (r .interval) ∷ (m ∷ []) ∷ []
     )) a) b) c) d) e) f) g) h) i))
 
-pub tables-wrote : {l₀ l₁ l₂ l₃ l₄ l₅ l₆ l₇ l₈ : List ℕ} {at₀ at₁ at₂ at₃ at₄ at₅ at₆ at₇ at₈ : ℕ} (t : Tables)
-    → Wrote l₀ at₀ (inBytes 8 (t .ledger .clock .ticks)) l₁ at₁ → Wrote l₁ at₁ (inBytes 2 (t .ledger .tracks .count)) l₂ at₂
-    → Wrote l₂ at₂ (inBytes 2 (t .ledger .tracks .system)) l₃ at₃
-    → Wrote l₃ at₃ (t .ledger .numbers .count ∷ []) l₄ at₄ → Wrote l₄ at₄ (places (t .ledger .tracks)) l₅ at₅
-    → Wrote l₅ at₅ (join (map packResource (t .ledger .numbers .resources))) l₆ at₆
-    → Wrote l₆ at₆ (t .links) l₇ at₇ → Wrote l₇ at₇ (join (map packProgram (t .ledger .programs))) l₈ at₈ → Wrote l₀ at₀ (packed t) l₈ at₈
+pub tables-wrote : {l₀ l₁ l₂ l₃ l₄ l₅ l₆ l₇ l₈ l₉ : List ℕ} {at₀ at₁ at₂ at₃ at₄ at₅ at₆ at₇ at₈ at₉ : ℕ} (t : Tables)
+    → Wrote l₀ at₀ (inBytes 8 (t .ledger .clock .ticks)) l₁ at₁ → Wrote l₁ at₁ (inBytes 2 (t .ledger .clock .year)) l₂ at₂
+    → Wrote l₂ at₂ (inBytes 2 (t .ledger .tracks .count)) l₃ at₃ → Wrote l₃ at₃ (inBytes 2 (t .ledger .tracks .system)) l₄ at₄
+    → Wrote l₄ at₄ (t .ledger .numbers .count ∷ []) l₅ at₅ → Wrote l₅ at₅ (places (t .ledger .tracks)) l₆ at₆
+    → Wrote l₆ at₆ (join (map packResource (t .ledger .numbers .resources))) l₇ at₇
+    → Wrote l₇ at₇ (t .links) l₈ at₈ → Wrote l₈ at₈ (join (map packProgram (t .ledger .programs))) l₉ at₉ → Wrote l₀ at₀ (packed t) l₉ at₉
 unfolding packed
-tables-wrote t a b c d e f g h =
+tables-wrote t a b c d e f g h i =
     wrote-as (simp (append-assoc, append-nil)) (parts-end
-    (parts-step (parts-step (parts-step (parts-step (parts-step (parts-step (parts-step (parts-step (parts-start (
-    inBytes 8 (t .ledger .clock .ticks) ∷ inBytes 2 (t .ledger .tracks .count) ∷ inBytes 2 (t .ledger .tracks .system)
+    (parts-step (parts-step (parts-step (parts-step (parts-step (parts-step (parts-step (parts-step (parts-step (parts-start (
+    inBytes 8 (t .ledger .clock .ticks) ∷ inBytes 2 (t .ledger .clock .year) ∷ inBytes 2 (t .ledger .tracks .count)
+    ∷ inBytes 2 (t .ledger .tracks .system)
     ∷ (t .ledger .numbers .count ∷ []) ∷ places (t .ledger .tracks) ∷ join (map packResource (t .ledger .numbers .resources)) ∷ t .links
     ∷ join (map packProgram (t .ledger .programs)) ∷ []
-    )) a) b) c) d) e) f) g) h))
+    )) a) b) c) d) e) f) g) h) i))

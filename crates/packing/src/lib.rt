@@ -23,15 +23,15 @@ use tables::Tables;
 use tracks::Tracks;
 
 // Where each part of the tables stands, and how many bytes there are.
-const HOLDERS_PLACE: usize = 13;
+const HOLDERS_PLACE: usize = 15;
 
-const RESOURCES_PLACE: usize = 269;
+const RESOURCES_PLACE: usize = 271;
 
-const LINKS_PLACE: usize = 301;
+const LINKS_PLACE: usize = 303;
 
-const PROGRAMS_PLACE: usize = 341;
+const PROGRAMS_PLACE: usize = 343;
 
-pub const PACKED_LENGTH: usize = 1269;
+pub const PACKED_LENGTH: usize = 1271;
 
 // The number in two bytes at a place, the lowest first.
 fn pair_at(s: &[u8], at: usize) -> u16
@@ -120,12 +120,12 @@ fn resources_at(s: &[u8]) -> [Resource; MOST_NUMBERS]
 
 fn tracks_at(s: &[u8]) -> Tracks
     requires { ⌜ packedLength ≤ length (now s) ⌝ }
-    ensures { λ r. ⌜ r ≡ tableAt (figureAt 2 (now (s .entry)) 8) (figureAt 2 (now (s .entry)) 10)
+    ensures { λ r. ⌜ r ≡ tableAt (figureAt 2 (now (s .entry)) 10) (figureAt 2 (now (s .entry)) 12)
         (take mostTracks (drop holdersPlace (now (s .entry)))) ⌝ }
 {
     let mut holders = [0u8; MOST_TRACKS];
     text::put_bytes(&mut holders, 0, &s[HOLDERS_PLACE..RESOURCES_PLACE]);
-    Tracks::from_places(pair_at(s, 8), pair_at(s, 10), holders)
+    Tracks::from_places(pair_at(s, 10), pair_at(s, 12), holders)
 }
 
 fn links_at(s: &[u8]) -> [u8; SLOTS]
@@ -137,17 +137,17 @@ fn links_at(s: &[u8]) -> [u8; SLOTS]
     links
 }
 
-// The tables in 1,269 bytes.
+// The tables in 1,271 bytes.
 pub fn tables_at(s: &[u8]) -> Tables
     requires { ⌜ packedLength ≤ length (now s) ⌝ }
     ensures { λ r. ⌜ r ≡ unpacked (now (s .entry)) ⌝ }
 {
     let programs = programs_at(s);
-    let clock = Clock::from_ticks(long_at(s, 0));
+    let clock = Clock::from_ticks(long_at(s, 0), pair_at(s, 8));
     let tracks = tracks_at(s);
     let resources = resources_at(s);
     let numbers = Numbers {
-        count: s[12],
+        count: s[14],
         resources: resources,
     };
     let ledger = Ledger {
@@ -258,7 +258,7 @@ fn put_resources(buf: &mut [u8], at: usize, resources: [Resource; MOST_NUMBERS])
     o
 }
 
-// Puts the tables in 1,269 bytes.
+// Puts the tables in 1,271 bytes.
 pub fn put_tables(buf: &mut [u8], tables: Tables) -> usize
     requires { ⌜ packedLength ≤ length (now buf) ⌝ }
     ensures { λ n. ⌜ Wrote (now (buf .entry)) 0 (packed tables) (now (buf .exit)) n ⌝ }
@@ -272,13 +272,14 @@ pub fn put_tables(buf: &mut [u8], tables: Tables) -> usize
     let links = tables.links;
     let programs = book.programs;
     let a = put_long(buf, 0, clock.ticks);
-    let b = put_pair(buf, a, tracks.count);
-    let c = put_pair(buf, b, tracks.system);
-    let d = text::put_byte(buf, c, numbers.count);
-    let e = text::put_bytes(buf, d, &holders);
-    let f = put_resources(buf, e, resources);
-    let g = text::put_bytes(buf, f, &links);
-    put_programs(buf, g, programs)
+    let b = put_pair(buf, a, clock.year);
+    let c = put_pair(buf, b, tracks.count);
+    let d = put_pair(buf, c, tracks.system);
+    let e = text::put_byte(buf, d, numbers.count);
+    let f = text::put_bytes(buf, e, &holders);
+    let g = put_resources(buf, f, resources);
+    let h = text::put_bytes(buf, g, &links);
+    put_programs(buf, h, programs)
 }
 
 // Whether bytes are tables in packed form: read and packed anew they are the same bytes.

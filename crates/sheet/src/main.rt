@@ -8,6 +8,7 @@ ghost use Rattle.sheet.specs.Inner.{Through};
 
 mod moving;
 
+use limits::USUAL_YEAR;
 use tables::Tables;
 
 // The bytes of a block, and those of the output.
@@ -69,7 +70,7 @@ fn print_all(block: &mut [u8], out: &mut [u8])
     requires { ⌜ most < length (now block) ⌝ }
     requires { ⌜ pageRoom ≤ length (now out) ⌝ }
 {
-    let first = Tables::fresh(1, 0, 0);
+    let first = Tables::fresh(1, 0, 0, USUAL_YEAR as u64);
     let mut tables = first.tables;
     let mut have: usize = 0;
     let mut left = u64::MAX;

@@ -116,7 +116,7 @@ module _ (a b c d e f g : List ℕ) where
 pub request-pieces : (n : ℕ) (l : List ℕ) (a : ℕ) (vs : List ℕ) → requestText n l a vs ≡ join (requestPieces n l a vs)
 request-pieces n l a vs = seven (decimal n) (text ": ") (shownRequest l) (text " -> ") (answerText a vs) (refusal a) (10 ∷ [])
 
-text-most : (a : Answer) → length (answerText (number a) (values a)) ≤ 138
+text-most : (a : Answer) → length (answerText (number a) (values a)) ≤ 159
 text-most a =
     let s = answerOf (number a) (values a) in
     omega (arith, answer-some a, answer-most a, length-take-le (length s - 1) s (omega arith))

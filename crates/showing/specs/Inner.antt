@@ -16,10 +16,10 @@ meant a = cond (ltb a 2) [] (text (getD meanings (a - 2) ""))
 
 -- the room for what is shown of a request, and of a page
 abbrev pub requestRoom : ℕ
-requestRoom = 300
+requestRoom = 321
 
 abbrev pub pageTextRoom : ℕ
-pageTextRoom = 69773
+pageTextRoom = 69794
 
 -- behind 15 the line that is not well formed
 abbrev pub badText : List ℕ → ℕ → List ℕ → List ℕ

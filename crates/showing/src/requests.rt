@@ -16,7 +16,7 @@ use tables::Outcome;
 use tables::Tables;
 
 // The bytes of the longest line that is shown for a request.
-const REQUEST_ROOM: usize = 300;
+const REQUEST_ROOM: usize = 321;
 
 // A byte that is no letter, digit or mark is shown as a question mark.
 fn shown(b: u8) -> u8

@@ -101,7 +101,7 @@ pub made-anew : (t : Tables) (nm : List ℕ) (a : Answer) (T S R Y : ℕ) → Si
 unfolding step madeBy
 made-anew t nm a T S R Y Z =
     let W : Starts T S R Y =
-        record { some = Z .least; most = Z .most; first = Z .part; few = Z .few; earliest = Z .earliest; latest = Z .latest } in
+    record { some = Z .least; most = Z .most; first = Z .part; few = Z .few; earliest = Z .earliest; latest = Z .latest } in
     rw (starts-is T S R Y W, madeBy) refl
 
 -- OF

@@ -201,8 +201,8 @@ returns-3 c =
 pub board-run-spec : {M : Type 1} → statement M
 board-run-spec =
     tie.close
-    (tie.spec Inv-loop μ-loop (λ c κs. search needs) (λ c. search needs) returns returns-2 (λ c κs. search needs) loop-holds
-    (λ c κs. search needs) sub-print-line part-print-line-start part-print-line-end slice-aggregate-print-line
+    (tie.spec Inv-loop μ-loop (λ c κs. search needs) (λ c. search needs) returns returns-2 (λ c. search needs) (λ c κs. search needs)
+    loop-holds (λ c κs. search needs) sub-print-line part-print-line-start part-print-line-end slice-aggregate-print-line
     (λ c κs. search needs) (λ c κs. search needs) (λ c. omega (arith, needed-small (turn c), ends (Ended c) .high)) sub-if3
     array-share-prefix-space slice-aggregate-put-bytes put-bytes-requires add-from loop-less loop-again (λ c κs. search needs)
     same-length-2 (λ c. search needs) returns-3)

@@ -17,7 +17,7 @@ returns-2 c =
     let t = p .before .before in
     let s = t .before .before .before in
     c .is-word .ensures
-    ∙ packed-is (s .args .s .now) (t .tables-at .result) _ _ _ (t .before .if1 .left) (length-replicate {A = ℕ} 1269 0)
+    ∙ packed-is (s .args .s .now) (t .tables-at .result) _ _ _ (t .before .if1 .left) (length-replicate {A = ℕ} 1271 0)
     (t .tables-at .ensures) (p .put-tables .ensures)
 
 pub is-packed-spec : {M : Type 1} → statement M

@@ -10,7 +10,7 @@ use Rattle.packing.proofs.links_at.Tie as tie
 returns : tie.Need-returns
 returns c =
     let w = c .before in
-    part-whole 301 40 (w .before .before .before .before .args .s .now) (omega arith) (length-replicate {A = ℕ} 40 0)
+    part-whole 303 40 (w .before .before .before .before .args .s .now) (omega arith) (length-replicate {A = ℕ} 40 0)
     (w .put-bytes .ensures)
 
 pub links-at-spec : {M : Type 1} → statement M

@@ -1,4 +1,4 @@
--- `packing::put_tables` meets its contract: its eight writes are the tables (`tables-wrote`), whose arrays are as
+-- `packing::put_tables` meets its contract: its nine writes are the tables (`tables-wrote`), whose arrays are as
 -- long as their types say. Assumes nothing.
 use Prim.Native.Nat.{_+_, _≤_}
 use native.Mathlib.Omega.{arith}
@@ -17,7 +17,7 @@ use Rattle.packing.proofs.put_tables.Tie as tie
 -- where the places of the tracks were read, seen from behind the write of the numbers' count; and where the function began
 abbrev read : tie.After-put-byte → tie.After-places
 read c = c .before .before .before .before .before .before .before .before .before .before .before .before .before .before .before .before
-    .before .before
+    .before .before .before .before .before .before
 
 abbrev begun : tie.After-put-byte → tie.Start
 begun c = read c .before .before .before .before .before
@@ -67,9 +67,10 @@ returns c =
     let d = e .before .before .before .before .before in
     let y = d .before .before .before .before in
     let x = y .before .before .before .before in
-    let a = x .before .before .before .before in
+    let w = x .before .before .before .before in
+    let a = w .before .before .before .before in
     tables-wrote (begun d .args .tables)
-    (a .put-long .ensures) (x .put-pair .ensures) (y .put-pair2 .ensures) (d .put-byte .ensures)
+    (a .put-long .ensures) (w .put-pair .ensures) (x .put-pair2 .ensures) (y .put-pair3 .ensures) (d .put-byte .ensures)
     (wrote-as (sym (read d .places .ensures)) (e .put-bytes .ensures)) (f .put-resources .ensures) (g .put-bytes2 .ensures)
     (h .put-programs .ensures)
 
@@ -80,6 +81,7 @@ pub put-tables-spec : {M : Type 1} → statement M
 put-tables-spec =
     tie.close
     (tie.spec (λ c κs. search needs) (λ c κs. search needs) (λ c κs. search needs) (λ c κs. search needs) (λ c κs. search needs)
+    (λ c κs. search needs)
     slice-aggregate-put-bytes (λ c κs. omega (arith, long (c .before .before .before .before)))
     (λ c κs. omega (arith, room (c .before .before .before))) slice-aggregate-put-bytes-2 put-bytes-requires-2 put-programs-requires
     same-length returns)

@@ -12,14 +12,15 @@ returns c =
     let n = c .before .before in
     let h = n .before in
     let k = h .before in
-    let l = k .before in
+    let y = k .before in
+    let l = y .before in
     let p = l .before in
     λ i. record {
       ledger = record {
         programs = p .programs-at .ensures i;
-        clock = record { ticks = (k .from-ticks .ensures ∙ l .long-at .ensures) i };
+        clock = (k .from-ticks .ensures ∙ (λ j. record { ticks = l .long-at .ensures j; year = y .pair-at .ensures j })) i;
         tracks = h .tracks-at .ensures i;
-        numbers = record { count = getD (p .before .before .args .s .now) 12 0; resources = n .resources-at .ensures i };
+        numbers = record { count = getD (p .before .before .args .s .now) 14 0; resources = n .resources-at .ensures i };
       };
       links = c .links-at .ensures i;
     }
@@ -28,4 +29,4 @@ pub tables-at-spec : {M : Type 1} → statement M
 tables-at-spec =
     tie.close
     (tie.spec (λ c κs. search needs) (λ c κs. search needs) (λ c κs. search needs) (λ c κs. search needs) (λ c κs. search needs)
-    (λ c. search needs) (λ c κs. search needs) returns)
+    (λ c κs. search needs) (λ c. search needs) (λ c κs. search needs) returns)

@@ -14,7 +14,7 @@ returns c =
     let y = c .before in
     let x = y .before in
     let w = x .before .before in
-    let holders = part-whole 13 256 (w .before .before .before .before .args .s .now) (omega arith) (length-replicate {A = ℕ} 256 0)
+    let holders = part-whole 15 256 (w .before .before .before .before .args .s .now) (omega arith) (length-replicate {A = ℕ} 256 0)
     (w .put-bytes .ensures) in
     c .from-places .ensures ∙ (λ i. tableAt (x .pair-at .ensures i) (y .pair-at2 .ensures i) (holders i))
 

@@ -155,4 +155,4 @@ read-head-spec =
     (λ c. search needs) (λ c κs. (line-4 (c .before .before) .within, refl)) (λ c. search needs) (λ c. search needs) (λ c. search needs)
     (λ c κs. search needs) returns-5 (λ c. search needs) (λ c κs. (line-5 (c .before .before) .within, refl)) (λ c. search needs)
     (λ c. search needs) (λ c. search needs) (λ c κs. search needs) returns-6
-    (λ c. omega (arith, dated (up-4 (up-5 (up-6 (c .before)))) .read-year .ensures .few)) returns-7)
+    (λ c. omega (arith, dated (up-4 (up-5 (up-6 (c .before .before)))) .read-year .ensures .few)) returns-7)
