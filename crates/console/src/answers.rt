@@ -119,7 +119,7 @@ pub(crate) fn put_answer(buf: &mut [u8], answer: Answer) -> usize
 }
 
 // The bytes of the longest line for an answer.
-const LONGEST_ANSWER: usize = 160;
+pub const LONGEST_ANSWER: usize = 160;
 
 // The line for an answer at the front of `out`, and how many bytes it has; none where fewer than 160 are lent.
 pub fn print_answer(answer: Answer, out: &mut [u8]) -> usize

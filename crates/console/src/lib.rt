@@ -6,6 +6,7 @@ mod lines;
 mod parse;
 mod words;
 
+pub use answers::LONGEST_ANSWER;
 pub use answers::bytes_printed;
 pub use answers::number_of;
 pub use answers::print_answer;

@@ -7,14 +7,12 @@ ghost use Rattle.console.specs.Sheet.{lineEnd};
 use super::output;
 use super::output::Waiting;
 use super::saying;
+use console::LONGEST_ANSWER;
 use rules::Answer;
 use transcripts::Mark;
 
 // The figures of a full list: three for each of 65,536 lines.
 pub const LISTED: usize = 196608;
-
-// The bytes of the longest line for an answer.
-const LONGEST_ANSWER: usize = 139;
 
 fn put_answer(out: &mut [u8], waiting: Waiting, answer: Answer) -> Waiting
     requires { ⌜ waiting .count ≤ length (now out) ⌝ }

@@ -12,9 +12,6 @@ pub use pages::show_page;
 pub use requests::show_request;
 use rules::Answer;
 
-// The bytes of the longest line for an answer.
-pub(crate) const LONGEST_ANSWER: usize = 160;
-
 // Puts bytes at the front of `out` where they fit: 0 and how many, or 12 and how many are needed.
 pub fn hand_over(bytes: &[u8], out: &mut [u8]) -> Answer
     ensures { λ r. ⌜ answered r (now (out .exit)) ≡ shownIn (now (bytes .entry)) (now (out .entry)) ⌝ }

@@ -9,8 +9,8 @@ ghost use Rattle.tables.specs.Calls.{told};
 ghost use Rattle.transcripts.specs.Listing.{answered};
 ghost use Rattle.showing.specs.Showing.{lineOfNumber, pageText, pageShown, longestName, longestPage};
 ghost use Rattle.showing.specs.Inner.{badText, readShown, pageTextRoom};
-use super::LONGEST_ANSWER;
 use super::hand_over;
+use console::LONGEST_ANSWER;
 use rules::Answer;
 use tables::Outcome;
 

@@ -8,7 +8,7 @@ ghost use Rattle.rules.specs.Engine.{beside};
 ghost use Rattle.tables.specs.Calls.{told};
 ghost use Rattle.showing.specs.Showing.{shownByte, shownRequest, refusal, answerText, requestText, requestShown};
 ghost use Rattle.showing.specs.Inner.{meant, requestRoom};
-use super::LONGEST_ANSWER;
+use console::LONGEST_ANSWER;
 use limits::LONGEST_LINE;
 use limits::PAGE_ROOM;
 use rules::Answer;

@@ -22,7 +22,7 @@ cast-t9 : tie.Need-cast-t9
 cast-t9 c = omega (arith, sized c .few)
 
 cast-t10 : tie.Need-cast-t10
-cast-t10 c = omega (arith, sized c .latest)
+cast-t10 c = omega (arith, sized c)
 
 returns : tie.Need-returns
 returns c = λ v nm. like v nm (renewing v _ _ _ _ (sym (c .before .may-start .ensures) ∙ c .if1 .taken))
