@@ -7,15 +7,14 @@ use native.Mathlib.Omega.{arith}
 use mathlib.Core.Path.{_≡_, refl, sym, ap, _∙_, subst}
 use mathlib.Core.Logic.{_≢_}
 use mathlib.Core.Bool.{Bool, true, false}
-use mathlib.Core.List.{List}
 use Rattle.records.specs.Records.{Known}
 use Rattle.rules.specs.Book.{at}
-use Rattle.rules.specs.Requests.{Request, FRESH, LOAD, operator, TICK, running}
+use Rattle.rules.specs.Requests.{Request, FRESH, TICK}
 use Rattle.clock.specs.Clock.{ceiling}
 use Rattle.rules.specs.Rules.{mayStart, dueAt}
 use Rattle.rules.specs.Keeper.{lists, State, after}
 use Rattle.rules.specs.Sound.{Sound}
-use Rattle.rules.specs.Engine.{afterTicks, madeBy, pagedIn}
+use Rattle.rules.specs.Engine.{afterTicks, madeBy}
 use Rattle.rules.specs.Frame.{Stirred, stays}
 use Rattle.rules.proofs.frame.FrameLaws as rules
 use Rattle.rules.proofs.soundness.SoundRuns.{sound-after}
@@ -31,29 +30,12 @@ use Rattle.tables.proofs.Plain.{plain-lay, sound-plain}
 use Rattle.tables.proofs.Orderly.{orderly-lay, sound-orderly}
 use Rattle.tables.proofs.ManyTicks.{tick-laid}
 use Rattle.tables.proofs.Demanded.{after-is}
-use Rattle.page.specs.Paging.{Written, linked, paged}
-use Rattle.console.specs.Line.{Line, bad, PAGE, lineOf}
-use Rattle.console.specs.Line as line
-use Rattle.console.specs.Console.{keyedIn, obeyed, keyed}
-use Rattle.history.specs.Runs.{Made, step, begun}
+use Rattle.page.specs.Paging.{linked}
+use Rattle.history.specs.Runs.{Made, begun}
 use Rattle.history.specs.Runs as calls
-use Rattle.history.specs.Demand.{ticks-call, ticks-line, Asks, by-call, by-line, Touches, anew, concerns, ticking}
+use Rattle.history.specs.Demand.{Asks, Touches, anew, concerns, ticking}
 use Rattle.history.specs.Demand.{before, afterwards, Bystander}
-use Rattle.history.proofs.Steps.{written-leaves, paged-sound, keyed-sound}
-
--- of tables that are not sound
-module _ (t : Tables) (e : sound t ≡ false) where
-  pub asked-stays : (q : Request) → asked t q .tables ≡ t
-  unfolding asked
-  asked-stays q = rw (e, asked)
-
-  pub paged-stays : (buf : List ℕ) → paged t buf .tables ≡ t
-  unfolding pagedIn
-  paged-stays buf = rw (e, pagedIn)
-
-  pub keyed-stays : (bytes buf : List ℕ) → keyed t bytes buf .tables ≡ t
-  unfolding keyedIn
-  keyed-stays bytes buf = rw (e, keyedIn)
+use Rattle.history.proofs.Leaving.{asked-stays, left-by}
 
 -- so many ticks of tables that are laid out, at none of which p is due
 undue-same : (m : ℕ) (a : State lists) → Sound a → a .book .clock + m ≤ ceiling → (p : ℕ) → Known p
@@ -106,45 +88,20 @@ module _ (t : Tables) (A : Arrays t) (p : ℕ) (P : Known p) where
           (λ k h d. f (ap (λ (r : Result). r .number) (M .made)) k h (ap (λ (u : Tables). dueAt (plain (afterTicks asked k u) .book) p) i ∙ d))
 
   -- FRESH as a call of its own
-  made-same : (T S R Y : ℕ) → (Touches t (calls.request (FRESH T S R Y)) p → ⊥) → Same t p (begun linked t (madeBy freshly T S R Y) .tables)
+  made-same : (c : Made) (T S R Y : ℕ) → c ≡ calls.request (FRESH T S R Y) → (Touches t c p → ⊥)
+      → Same t p (begun linked t (madeBy freshly T S R Y) .tables)
   unfolding madeBy
-  made-same T S R Y n = go (mayStart T S R Y) refl
+  made-same c T S R Y i n = go (mayStart T S R Y) refl
     where
       go : (b : Bool) → mayStart T S R Y ≡ b → Same t p (begun linked t (madeBy freshly T S R Y) .tables)
-      go true e = absurd (n (anew T S R Y refl e))
+      go true e = absurd (n (anew T S R Y i e))
       go false e = rw (e, madeBy)
-
-  paged-same : (buf : List ℕ) → Same t p (paged t buf .tables)
-  paged-same buf = same (paged t buf .tables) (go (sound t) refl)
-    where
-      go : (b : Bool) → sound t ≡ b → paged t buf .tables ≡ t
-      go true e = ap (λ (w : Written). w .tables) (paged-sound t e buf) ∙ written-leaves t buf
-      go false e = paged-stays t e buf
-
-  keyed-same : (bytes buf : List ℕ) → (Touches t (calls.line bytes buf) p → ⊥) → Same t p (keyed t bytes buf .tables)
-  keyed-same bytes buf n = go (sound t) refl
-    where
-      obeyed-same : (l : Line) → lineOf bytes ≡ l → Same t p (obeyed t buf l .tables)
-      obeyed-same bad e = refl
-      obeyed-same PAGE e = paged-same buf
-      obeyed-same (line.asks q) e = asked-same (calls.line bytes buf) q (by-line bytes buf e) n
-      obeyed-same (line.ticks m) e = ticked-same m (λ z k h d. n (ticking m k (ticks-line bytes buf e) z h d))
-
-      go : (b : Bool) → sound t ≡ b → Same t p (keyed t bytes buf .tables)
-      go true e = ap (λ (w : Written). at (plain (w .tables) .book) p) (keyed-sound t e bytes buf) ∙ obeyed-same (lineOf bytes) refl
-      go false e = same (keyed t bytes buf .tables) (keyed-stays t e bytes buf)
 
   -- THE FRAME
   pub frame : (c : Made) → (Touches t c p → ⊥) → afterwards t c p ≡ before t p
-  unfolding step
-  frame (calls.request (FRESH T S R Y)) n = made-same T S R Y n
-  frame (calls.request (LOAD nm m)) n = asked-same _ _ by-call n
-  frame (calls.request (operator o nm)) n = asked-same _ _ by-call n
-  frame (calls.request TICK) n = asked-same _ TICK by-call n
-  frame (calls.request (running r)) n = asked-same _ _ by-call n
-  frame (calls.ticks m) n = ticked-same m (λ z k h d. n (ticking m k ticks-call z h d))
-  frame (calls.page buf) n = paged-same buf
-  frame (calls.line bytes buf) n = keyed-same bytes buf n
+  frame c n =
+      left-by t (Same t p) refl c (λ q a. asked-same c q a n) (λ m a. ticked-same m (λ z k h d. n (ticking m k a z h d)))
+      (λ T S R Y a e. made-same c T S R Y e n)
 
   -- of one that may only be woken: the record stays, or its wait is over
   asked-stirred : (c : Made) → Bystander t c p → (q : Request) → Asks q c → Stirred (before t p) (at (plain (asked t q .tables) .book) p)
@@ -158,29 +115,7 @@ module _ (t : Tables) (A : Arrays t) (p : ℕ) (P : Known p) where
           (rules.stirred (plain t) (sound-plain t A (sound-clauses t e)) q p P old (B .apart q a))
       go false e = stays (same (asked t q .tables) (asked-stays t e q))
 
-  keyed-stirred : (bytes buf : List ℕ) → Bystander t (calls.line bytes buf) p
-      → Stirred (before t p) (at (plain (keyed t bytes buf .tables) .book) p)
-  keyed-stirred bytes buf B = go (sound t) refl
-    where
-      obeyed-stirred : (l : Line) → lineOf bytes ≡ l → Stirred (before t p) (at (plain (obeyed t buf l .tables) .book) p)
-      obeyed-stirred bad e = stays refl
-      obeyed-stirred PAGE e = stays (paged-same buf)
-      obeyed-stirred (line.asks q) e = asked-stirred (calls.line bytes buf) B q (by-line bytes buf e)
-      obeyed-stirred (line.ticks m) e = stays (ticked-same m (λ z k h d. B .undue m k (ticks-line bytes buf e) z h d))
-
-      go : (b : Bool) → sound t ≡ b → Stirred (before t p) (at (plain (keyed t bytes buf .tables) .book) p)
-      go true e =
-          subst (λ (w : Written). Stirred (before t p) (at (plain (w .tables) .book) p)) (sym (keyed-sound t e bytes buf))
-          (obeyed-stirred (lineOf bytes) refl)
-      go false e = stays (same (keyed t bytes buf .tables) (keyed-stays t e bytes buf))
-
   pub stirred : (c : Made) → Bystander t c p → Stirred (before t p) (afterwards t c p)
-  unfolding step
-  stirred (calls.request (FRESH T S R Y)) B = absurd (B .old T S R Y by-call)
-  stirred (calls.request (LOAD nm m)) B = asked-stirred _ B _ by-call
-  stirred (calls.request (operator o nm)) B = asked-stirred _ B _ by-call
-  stirred (calls.request TICK) B = asked-stirred _ B TICK by-call
-  stirred (calls.request (running r)) B = asked-stirred _ B _ by-call
-  stirred (calls.ticks m) B = stays (ticked-same m (λ z k h d. B .undue m k ticks-call z h d))
-  stirred (calls.page buf) B = stays (paged-same buf)
-  stirred (calls.line bytes buf) B = keyed-stirred bytes buf B
+  stirred c B =
+      left-by t (λ u. Stirred (before t p) (at (plain u .book) p)) (stays refl) c (λ q a. asked-stirred c B q a)
+      (λ m a. stays (ticked-same m (λ z k h d. B .undue m k a z h d))) (λ T S R Y a e. absurd (B .old T S R Y a))

@@ -1,5 +1,6 @@
 pub mod Steps
 pub mod Demand1
+pub mod Leaving
 pub mod Frames
 pub mod Begins
 pub mod FirstEntries

@@ -6,8 +6,7 @@ use native.Mathlib.Omega.{arith}
 use mathlib.Core.Path.{_≡_, refl, sym, ap, _∙_, subst}
 use mathlib.Core.Logic.{_≢_}
 use mathlib.Core.Bool.{Bool, true, false}
-use mathlib.Core.List.{List}
-use Rattle.rules.specs.Requests.{Request, FRESH, LOAD, operator, TICK, running}
+use Rattle.rules.specs.Requests.{Request, FRESH, TICK}
 use Rattle.clock.specs.Clock.{ceiling}
 use Rattle.rules.specs.Keeper.{lists, State, after}
 use Rattle.rules.specs.Sound.{Sound}
@@ -25,15 +24,9 @@ use Rattle.tables.proofs.Plain.{plain-lay, sound-plain}
 use Rattle.tables.proofs.Orderly.{orderly-lay, sound-orderly}
 use Rattle.tables.proofs.ManyTicks.{tick-laid}
 use Rattle.tables.proofs.Demanded.{after-is}
-use Rattle.page.specs.Paging.{Written, linked, paged}
-use Rattle.console.specs.Line.{Line, bad, PAGE, lineOf}
-use Rattle.console.specs.Line as line
-use Rattle.console.specs.Console.{obeyed, keyed}
-use Rattle.history.specs.Runs.{Made, step}
-use Rattle.history.specs.Runs as calls
-use Rattle.history.specs.Demand.{Asks, by-call, by-line, yearOf, YearStays}
-use Rattle.history.proofs.Steps.{written-leaves, paged-sound, keyed-sound}
-use Rattle.history.proofs.Frames.{asked-stays, paged-stays, keyed-stays}
+use Rattle.history.specs.Runs.{Made}
+use Rattle.history.specs.Demand.{Asks, yearOf, YearStays}
+use Rattle.history.proofs.Leaving.{asked-stays, left-by}
 
 -- the year of tables u is that of tables t
 abbrev Same : Tables → Tables → Type 0
@@ -75,43 +68,9 @@ module _ (t : Tables) (A : Arrays t) where
           ap (λ (r : Result). yearOf (r .tables)) (M .made) ∙ ap (λ (u : Tables). yearOf (afterTicks asked m u)) i
           ∙ ticks-same m (plain t) S (M .below)
 
-  paged-same : (buf : List ℕ) → Same t (paged t buf .tables)
-  paged-same buf = same (paged t buf .tables) (go (sound t) refl)
-    where
-      go : (b : Bool) → sound t ≡ b → paged t buf .tables ≡ t
-      go true e = ap (λ (w : Written). w .tables) (paged-sound t e buf) ∙ written-leaves t buf
-      go false e = paged-stays t e buf
-
-  -- a request, as a call or as a line
-  abbrev Old : Made → Type 0
-  Old c = (T S R Y : ℕ) → Asks (FRESH T S R Y) c → ⊥
-
-  old-request : (c : Made) (q : Request) → Asks q c → Old c → (T S R Y : ℕ) → q ≢ FRESH T S R Y
-  old-request c q a old T S R Y e = old T S R Y (subst (λ (x : Request). Asks x c) e a)
-
-  keyed-same : (bytes buf : List ℕ) → Old (calls.line bytes buf) → Same t (keyed t bytes buf .tables)
-  keyed-same bytes buf old = go (sound t) refl
-    where
-      obeyed-same : (l : Line) → lineOf bytes ≡ l → Same t (obeyed t buf l .tables)
-      obeyed-same bad e = refl
-      obeyed-same PAGE e = paged-same buf
-      obeyed-same (line.asks q) e = asked-same q (old-request (calls.line bytes buf) q (by-line bytes buf e) old)
-      obeyed-same (line.ticks m) e = ticked-same m
-
-      go : (b : Bool) → sound t ≡ b → Same t (keyed t bytes buf .tables)
-      go true e = ap (λ (w : Written). yearOf (w .tables)) (keyed-sound t e bytes buf) ∙ obeyed-same (lineOf bytes) refl
-      go false e = same (keyed t bytes buf .tables) (keyed-stays t e bytes buf)
-
   pub year-stays : (c : Made) → YearStays t c
-  unfolding step
-  year-stays c = record { same = go c }
-    where
-      go : (c : Made) → Old c → Same t (step linked t c .tables)
-      go (calls.request (FRESH T S R Y)) old = absurd (old T S R Y by-call)
-      go (calls.request (LOAD nm m)) old = asked-same _ (old-request _ _ by-call old)
-      go (calls.request (operator o nm)) old = asked-same _ (old-request _ _ by-call old)
-      go (calls.request TICK) old = asked-same TICK (old-request _ TICK by-call old)
-      go (calls.request (running r)) old = asked-same _ (old-request _ _ by-call old)
-      go (calls.ticks m) old = ticked-same m
-      go (calls.page buf) old = paged-same buf
-      go (calls.line bytes buf) old = keyed-same bytes buf old
+  year-stays c = record {
+    same = λ old.
+        left-by t (Same t) refl c (λ q a. asked-same q (λ T S R Y e. old T S R Y (subst (λ (x : Request). Asks x c) e a)))
+        (λ m a. ticked-same m) (λ T S R Y a e. absurd (old T S R Y a));
+  }

@@ -5,17 +5,16 @@ use native.Mathlib.Omega.{arith}
 use mathlib.Core.Path.{_≡_, refl, sym, ap, _∙_, subst}
 use mathlib.Core.Bool.{Bool, true, false, cond}
 use mathlib.Core.List.{List, [], _∷_, _++_}
-use mathlib.Core.Option.{Option, some}
+use mathlib.Core.Option.{some}
 use lib.ListN.{drop}
 use lib.Dec.{eqb}
 use borrow.Author.Tests.{eqb-true}
 use Rattle.limits.specs.Limits.{usualYear}
 use Rattle.lists.specs.Lists.{same, count, hit}
 use Rattle.text.specs.Text.{text, decimal, behind}
-use Rattle.rules.specs.Keeper.{lists, State}
 use Rattle.page.specs.Page.{Line, line, pageKey, clockKey, yearKey, tracksKey, systemKey, numbersKey, programsKey, sizeKeys, firstWord, paired}
 use Rattle.page.specs.Page.{yearLine, headLines}
-use Rattle.shapes.specs.Shapes.{there, otherwise, figure}
+use Rattle.shapes.specs.Shapes.{there, otherwise}
 use Rattle.reader.specs.Order.{valueBehind, isFigure, yearForm, sizeForms, heading, yearAhead, pageAhead, recordsAhead}
 use Rattle.reader.specs.Said.{beginsWith, yearSaid, started, recordsSaid, said}
 use Rattle.shapes.proofs.Pieces.{decimal-only, clean-line}

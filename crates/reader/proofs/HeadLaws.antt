@@ -15,7 +15,7 @@ use Rattle.page.specs.Page.{firstWord, pageKey, clockKey, yearKey, tracksKey, s
 use Rattle.reader.specs.declared.parts.Year.{Year}
 use Rattle.reader.specs.declared.parts.Head.{Head}
 use Rattle.shapes.specs.Shapes.{otherwise, figure}
-use Rattle.reader.specs.Order.{Place, opening, heading, firstForms, yearForm, sizeForms, yearAhead, recordsAhead, valueBehind, firstBad}
+use Rattle.reader.specs.Order.{Place, opening, heading, firstForms, yearForm, sizeForms, recordsAhead, valueBehind, firstBad}
 use Rattle.reader.specs.Said.{valueOf, figureOf, beginsWith, yearSaid, started, recordsSaid, said}
 use Rattle.shapes.specs.Inner.{LineIs, NoLine, unended, keyless, shapeless, wordIs}
 use Rattle.reader.specs.Walks.{ahead, YearRead, HeadRead}

@@ -8,9 +8,7 @@ use mathlib.Core.List.{List, [], _∷_}
 use mathlib.Core.Option.{Option, none, some}
 use lib.Dec.{leb, ltb}
 use lib.ListN.{length, set, take, drop, replicate, length-append, length-replicate, length-set}
-use borrow.Author.Tests.{leb-true}
 use Rattle.lists.specs.Lists.{hit, upTo}
-use Rattle.lists.proofs.Tests.{both, upTo-true}
 use Rattle.text.specs.Text.{text}
 use Rattle.records.specs.declared.Program.{Program}
 use Rattle.records.specs.Records.{known, unused}

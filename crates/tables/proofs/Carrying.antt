@@ -9,8 +9,6 @@ use mathlib.Core.List.{List, [], _∷_, _++_}
 use lib.Dec.{eqb}
 use lib.ListN.{length, take, length-append}
 use lib.Seq.{length-take-le}
-use borrow.Author.Tests.{le-leb}
-use Rattle.lists.proofs.Tests.{and, upTo-is}
 use Rattle.records.specs.declared.Resource.{Resource}
 use Rattle.records.specs.declared.Numbers.{Numbers}
 use Rattle.records.specs.declared.Why.the-variants.{Nothing}

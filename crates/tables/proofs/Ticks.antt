@@ -10,13 +10,10 @@ use mathlib.Core.Bool.{Bool, true, false, cond}
 use mathlib.Core.List.{List, [], _∷_, map}
 use lib.ListN.{length, getD, set, length-map, List·getD-eq-default}
 use Rattle.lists.specs.Lists.{hit, same, keep, from, join, Ascending}
-use Rattle.clock.specs.declared.Clock.{Clock}
 use Rattle.clock.specs.Clock.{ceiling}
 use Rattle.records.specs.declared.Program.{Program}
 use Rattle.records.specs.declared.Why.the-variants.{Nothing}
 use Rattle.records.specs.Records.{Known, all, missing, recordAt}
-use Rattle.records.specs.Numbers.{resources}
-use Rattle.tracks.specs.Tracks.{holders}
 use Rattle.rules.specs.Book.{Book, at, stateOf, prioOf}
 use Rattle.rules.specs.Plans.{Event, on, becomes}
 use Rattle.rules.specs.Keeper.{lists, Entries, State, play}

@@ -1,7 +1,7 @@
 -- `clock::date_of` meets its contract: the year told at once is the one in which the day falls, or the next. Assumes nothing.
-use Prim.Native.Nat.{ℕ, suc, _+_, _-_, _*_, _/_, _≤_, _<_}
+use Prim.Native.Nat.{ℕ, suc, _+_, _-_, _*_, _/_, _≤_}
 use native.Mathlib.Omega.{arith}
-use mathlib.Core.Path.{_≡_, refl, sym, ap, _∙_}
+use mathlib.Core.Path.{_≡_, refl, ap}
 use borrow.Author.Needs.{needs}
 use Rattle.clock.specs.Inner.{before}
 use Rattle.clock.proofs.Years.{not-past, not-far}

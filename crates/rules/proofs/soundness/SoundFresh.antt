@@ -4,15 +4,13 @@ use Prim.Native.Nat.{ℕ, suc, _+_, _-_, _≤_, _<_}
 use native.Mathlib.Omega.{arith}
 use native.Mathlib.Decide.{decLe}
 use mathlib.Core.Path.{_≡_, refl, sym, ap, _∙_, subst}
-use mathlib.Core.Bool.{true, _&&_}
+use mathlib.Core.Bool.{true}
 use mathlib.Core.List.{List, [], _++_}
 use lib.ListN.{length, getD, replicate, length-append, length-replicate, getD-replicate, List·getD-append}
 use lib.Seq.{getD-append-add}
-use lib.Dec.{leb}
-use borrow.Author.Tests.{leb-true}
-use Rattle.lists.specs.Lists.{same, upTo}
+use Rattle.lists.specs.Lists.{same}
 use Rattle.lists.proofs.Laws.{same-ne}
-use Rattle.lists.proofs.Tests.{clash, both, upTo-true}
+use Rattle.lists.proofs.Tests.{clash}
 use Rattle.clock.specs.Clock.{farthest}
 use Rattle.records.specs.declared.Program.{Program}
 use Rattle.records.specs.Records.{unused}
