@@ -1,7 +1,7 @@
 -- The lines that the desk lists, as they are said: each lies in its text where its figures say, so what is said by the figures is said of
 -- the line; there are few of them, each is short; and they are gone through figure by figure.
 -- Assumes nothing.
-use Prim.Native.Nat.{ℕ, zero, suc, _+_, _-_, _*_, _≤_, _<_}
+use Prim.Native.Nat.{ℕ, zero, suc, _+_, _-_, _*_, _≤_, _<_, _/_}
 use native.Mathlib.Omega.{arith}
 use mathlib.Core.Path.{_≡_, refl, sym, ap, ap₂, subst, _∙_}
 use mathlib.Core.Logic.{inr}
@@ -192,7 +192,7 @@ pieces-far g o c h k =
 
 -- the list has room for three figures of each: what is handed back is how many there are, and the figures stand in front
 abbrev pub listRoom : ℕ
-listRoom = 13056
+listRoom = pageRoom / 2 * 3
 
 module _ (o c list : List ℕ) (h : length o ≤ pageRoom) (r : length list ≡ listRoom) where
   figures-long : length (figuresListed o c) ≡ length (listedLines o c) * 3

@@ -1,6 +1,6 @@
 -- What inner functions ask and promise each other; no public call mentions it.
 -- Assumes nothing.
-use Prim.Native.Nat.{ℕ, _+_}
+use Prim.Native.Nat.{ℕ, _+_, _*_}
 use mathlib.Core.Path.{_≡_}
 use mathlib.Core.Bool.{Bool, true, false, cond}
 use mathlib.Core.List.{List, [], _++_, map}
@@ -8,6 +8,7 @@ use mathlib.Core.Option.{none}
 use lib.ListN.{length}
 use lib.Seq.{slice, sets}
 use lib.Dec.{ltb, eqb}
+use Rattle.limits.specs.Limits.{pageRoom}
 use Rattle.text.specs.Text.{text}
 use Rattle.text.specs.Lines.{linesOf}
 use Rattle.console.specs.Sheet.{lineEnd}
@@ -46,7 +47,7 @@ pub record Puts (writing : Bool) (before : List ℕ) (at : ℕ) (bytes : List �
 
 -- the room for one piece, and a place that all pieces together do not reach
 abbrev pub pieceRoom : ℕ
-pieceRoom = 17476
+pieceRoom = 2 * pageRoom + 68
 
 abbrev pub farPlace : ℕ
 farPlace = 1000000000

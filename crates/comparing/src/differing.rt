@@ -10,12 +10,13 @@ ghost use Rattle.text.specs.Inner.{Wrote};
 ghost use Rattle.showing.specs.Showing.{longestName};
 ghost use Rattle.comparing.specs.Verdicts.{sides};
 ghost use Rattle.comparing.specs.Inner.{lineFrom, saidOf, pieces, Puts, partedAt, partingText, partsText, farPlace, pieceRoom};
+use limits::PAGE_ROOM;
 use rules::Answer;
 
-// Of each listed line three figures, and no page has more than 4,352 lines with a byte each.
-const LISTED: usize = 13056;
+// Of each listed line three figures, and no page has more than half as many lines with a byte each as it has bytes.
+const LISTED: usize = PAGE_ROOM / 2 * 3;
 // The bytes that are said of one line, with a page's for either side.
-const PIECE: usize = 17476;
+const PIECE: usize = 2 * PAGE_ROOM + 68;
 
 // `line N: X on the sheet, Y by the requests`, at the front.
 fn put_difference(out: &mut [u8], what: &[u8], n: u64, x: &[u8], y: &[u8]) -> usize
