@@ -1,7 +1,7 @@
 // The station's clock: ticks of 10 ms since the start of a year. A timer's due is a plain number of ticks, since it may pass the
 // clock's ceiling.
 ghost use mathlib.Core.Path.{_≡_};
-ghost use Prim.Native.Nat.{_+_, _-_, _≤_, _<_};
+ghost use Prim.Native.Nat.{_≤_};
 ghost use Rattle.clock.specs.Clock.{unit, timeOf, partsOf};
 ghost use Rattle.clock.specs.Inner.{before, Dated};
 
