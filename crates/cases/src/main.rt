@@ -1,5 +1,7 @@
 // Runs that no console script reaches: a clock near the day's end and near its ceiling, tables that are not sound, a buffer that is too
 // short. Each is made by setting a field of the tables, and then keyed in like any other.
+#![tactic(auto)]
+
 ghost use Rattle.std.specs.Prelude.{◌≤◌, length};
 
 use libc::STDOUT_FILENO;

@@ -1,5 +1,7 @@
 // The program `desk`: holds a copy's transcript against the original's. With two files it prints the lines that differ; with a key and an
 // occurrence behind them, that line. The work on texts is done by `transcripts`; here are only the arguments, the files and the output.
+#![tactic(auto)]
+
 mod arguments;
 mod files;
 mod moving;

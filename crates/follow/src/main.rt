@@ -1,6 +1,8 @@
 // The program `follow`: whether one sheet can follow another. The first argument names a page; behind it come two by two a file of requests
 // and the next page. The work on pages and lines is done by `showing` and `comparing`; here are only the arguments, the files and the
 // output.
+#![tactic(auto)]
+
 ghost use Rattle.std.specs.Prelude.{◌≤◌};
 ghost use Rattle.follow.specs.Inner.{output_space};
 

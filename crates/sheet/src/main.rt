@@ -1,5 +1,7 @@
 // The program `sheet`: reads lines from standard input and prints what each comes to, from the smallest tables on. The work on bytes is
 // done by `blocks` and `console`; here is only the order of the reads and writes.
+#![tactic(auto)]
+
 ghost use Rattle.std.specs.Prelude.{◌<◌, ◌≤◌, length};
 ghost use Rattle.limits.specs.Limits.{page_room};
 ghost use Rattle.blocks.specs.Blocks.{most};
