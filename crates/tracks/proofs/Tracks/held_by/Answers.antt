@@ -1,11 +1,10 @@
 -- `tracks::Tracks::held_by` meets its contract. The loop's invariant: those counted and those among the tracks left
 -- are all. The measure is the tracks left.
 -- Assumes nothing.
-use Prim.Native.Nat.{◌-◌, ◌<◌}
+use Prim.Native.Nat.{◌<◌}
 use native.Mathlib.Omega.{arith}
 use lib.ListN.{length}
 use lib.Seq.{get_or-take}
-use Rattle.lists.specs.Lists.{count}
 use Rattle.tracks.specs.Tracks.{nobody, holders}
 use Rattle.tracks.proofs.Turns.{count_past, count-hit, count-miss}
 use Rattle.tracks.proofs.Tracks.held_by.Goals as goal

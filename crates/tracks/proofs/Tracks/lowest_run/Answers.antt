@@ -1,7 +1,7 @@
 -- `tracks::Tracks::lowest_run` meets its contract. The loop's invariant: what one pass knows before it looks at a
 -- track (`Sought`). The measure is the tracks left.
 -- Assumes nothing.
-use Prim.Native.Nat.{◌+◌, ◌-◌}
+use Prim.Native.Nat.{◌+◌}
 use native.Mathlib.Omega.{arith}
 use mathlib.Core.Path.{sym}
 use lib.Seq.{get_or-take}

@@ -1,7 +1,7 @@
 -- `tracks::Tracks::replace_all` meets its contract. The loop's invariant: the tracks before i have changed their
 -- holder. The measure is the tracks left.
 -- Assumes nothing.
-use Prim.Native.Nat.{ℕ, ◌-◌, ◌<◌}
+use Prim.Native.Nat.{ℕ, ◌<◌}
 use native.Mathlib.Omega.{arith}
 use borrow.Author.Rules.{rules}
 use mathlib.Core.Path.{◌≡◌, refl, ap, ◌∙◌}
@@ -21,7 +21,7 @@ loop-i-preserved c =
     let within : c.loop-i.i < length xs = omega (arith, c.requires.most) in (
       omega arith,
       c.loop-i.invariant.1,
-      elim c.if-holders-i.branch [ goal.then-holders-i w ↦ w.?-is ∙ passed-hit c.args.p c.args.h c.loop-i.i xs c.loop-i.holders z within w.if-holders-i.true | goal.else-holders-i w ↦ w.?-is ∙ passed-miss c.args.p c.args.h c.loop-i.i xs c.loop-i.holders z within w.if-holders-i.false ],
+      elim c.if-holders-i.branch [ goal.then-holders-i w ↦ w.holders-is ∙ passed-hit c.args.p c.args.h c.loop-i.i xs c.loop-i.holders z within w.if-holders-i.true | goal.else-holders-i w ↦ w.holders-is ∙ passed-miss c.args.p c.args.h c.loop-i.i xs c.loop-i.holders z within w.if-holders-i.false ],
     )
 
 pub returns : goal.returns

@@ -4,7 +4,6 @@
 use Prim.Native.Nat.{◌-◌, ◌≤◌}
 use mathlib.Core.Path.{◌≡◌}
 use lib.ListN.{length}
-use Rattle.tracks.specs.Tracks.{holders}
 use Rattle.tracks.proofs.Turns.{passed}
 use Rattle.tracks.proofs.Tracks.replace_all.Given as goal
 

@@ -1,5 +1,4 @@
 -- `tracks::sound::blank_ok` meets its contract. The invariant: the largest holder so far is 0 exactly where each is. Assumes nothing.
-use Prim.Native.Nat.{◌-◌}
 use native.Mathlib.Omega.{arith}
 use Rattle.tracks.proofs.Tells.{tally-start, tally-more, tally-end}
 use Rattle.tracks.proofs.sound.blank_ok.Goals as goal

@@ -1,5 +1,5 @@
 -- `tracks::sound::others_ok` meets its contract. The invariant: the sum of the marks so far is 0 exactly where each is. Assumes nothing.
-use Prim.Native.Nat.{ℕ, ◌-◌}
+use Prim.Native.Nat.{ℕ}
 use mathlib.Core.Path.{◌≡◌, ap, ◌∙◌}
 use native.Mathlib.Omega.{arith}
 use lib.ListN.{get_or}

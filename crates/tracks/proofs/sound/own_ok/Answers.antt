@@ -1,5 +1,4 @@
 -- `tracks::sound::own_ok` meets its contract. The invariant: the system holds each place before i. Assumes nothing.
-use Prim.Native.Nat.{◌-◌}
 use native.Mathlib.Omega.{arith}
 use borrow.Author.Count.{below_more}
 use Rattle.tracks.proofs.Tells.{tells-yes, tells-no}
