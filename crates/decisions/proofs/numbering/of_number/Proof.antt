@@ -55,23 +55,23 @@ returns-4 c =
 returns-5 : tie.Need-returns-in-Lock
 returns-5 c =
     λ v nm O.
-    like v nm (owned c.before.before.before.before v O)
+    like v nm (owned c.before.before v O)
     (subst (λ (q : Wanted). Decides v nm (wanted v c.args.c c.args.r q c.number-x.result) c.locks.result)
-    (sym c.q-1.given.1) (c.locks.ensures v nm (most c.before.before.before.before.before.before v O)))
+    (sym c.in-Lock.is) (c.locks.ensures v nm (most c.before.before.before.before v O)))
 
 returns-6 : tie.Need-returns-in-Clear
 returns-6 c =
     λ v nm O.
-    like v nm (owned c.before.before.before v O)
+    like v nm (owned c.before.before v O)
     (subst (λ (q : Wanted). Decides v nm (wanted v c.args.c c.args.r q c.number-x.result) c.clears.result)
-    (sym c.enum_told-1.given.1) (c.clears.ensures v nm (most c.before.before.before.before.before v O)))
+    (sym c.in-Clear.is) (c.clears.ensures v nm (most c.before.before.before.before v O)))
 
 returns-7 : tie.Need-returns-in-Free
 returns-7 c =
     λ v nm O.
-    like v nm (owned c.before.before.before v O)
+    like v nm (owned c.before.before v O)
     (subst (λ (q : Wanted). Decides v nm (wanted v c.args.c c.args.r q c.number-x.result) c.frees.result)
-    (sym c.enum_told-in-Free-1.given.1) (c.frees.ensures v nm (most c.before.before.before.before.before v O)))
+    (sym c.in-Free.is) (c.frees.ensures v nm (most c.before.before.before.before v O)))
 
 pub of_number_spec : {M : Type 1} → statement M
 of_number_spec = tie.close (tie.spec (λ c κs. search rules) (λ c κs. search rules) returns (λ c κs. search rules) returns-2 (λ c. search rules) (λ c κs. search rules) returns-3 (λ c κs. search rules) (λ c κs. search rules) returns-4 (λ c. search rules) (λ c κs. search rules) (λ c. search rules) (λ c κs. search rules) (λ c. search rules) (λ c κs. search rules) returns-5 returns-6 returns-7)
