@@ -4,19 +4,17 @@ use mathlib.Core.Logic.{inl, inr}
 use mathlib.Core.List.{List}
 use Prim.Native.Nat.{ℕ}
 use lib.ListN.{length}
-use borrow.Author.Rules.{rules}
 use Rattle.transcripts.specs.Listing.{listed_lines, filled, listing}
 use Rattle.transcripts.proofs.ListLaws.{cut-numbers}
-use Rattle.transcripts.proofs.listing.list.Statement.{statement}
-use Rattle.transcripts.proofs.listing.list.Tie as tie
+use Rattle.transcripts.proofs.listing.list.Goals as goal
 
-returns : tie.Need-returns
+pub returns : goal.returns
 unfolding listing
 returns c =
-    let a = c.before.before.before.before.before.before.before.args in
+    let a = c.args in
     let ds = listed_lines a.original.now a.copy.now in
-    c.before.before.put-listed.ensures
+    c.put_listed.ensures
     ∙ ap (λ (figures : List ℕ). filled (length ds) figures a.list.now) (cut-numbers a.copy.now ds)
 
-pub list-spec : {M : Type 1} → statement M
-list-spec = tie.close (tie.spec (λ c κs. inr (inl refl)) (λ c. search rules) returns)
+pub put_listed-requires : goal.put_listed-requires
+put_listed-requires c = inr (inl refl)
