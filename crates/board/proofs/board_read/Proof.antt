@@ -27,18 +27,15 @@ returns-2 c =
 -- the tables read
 arrays : (c : tie.After-read_page-r) → Arrays c.read_page-r.result.tables
 arrays c = record {
-  programs = sym (length-map c.read_page-r.result.tables.ledger.programs (program.the_field).into)
-      ∙ c.read_page-r.type-inv.1.1.1.0.1.1.0.1.1.0.1.0.1;
+  programs = c.read_page-r.type_inv.1.1.1.0.1.1.0.1.1.0.1.0.1;
   links = search rules;
-  holders = sym (length-map c.read_page-r.result.tables.ledger.tracks.holders u8-field.into)
-      ∙ c.read_page-r.type-inv.1.1.1.0.1.1.0.1.1.1.1.0.1.1.1.1.0.1.0.1;
-  resources = sym (length-map c.read_page-r.result.tables.ledger.numbers.resources (resource.the_field).into)
-      ∙ c.read_page-r.type-inv.1.1.1.0.1.1.0.1.1.1.1.1.0.1.1.1.0.1.0.1;
+  holders = c.read_page-r.type_inv.1.1.1.0.1.1.0.1.1.1.1.0.1.1.1.1.0.1.0.1;
+  resources = c.read_page-r.type_inv.1.1.1.0.1.1.0.1.1.1.1.1.0.1.1.1.0.1.0.1;
 }
 
 long : (c : tie.After-read_page-r) → length (packed c.read_page-r.result.tables) ≡ packed_length
 long c =
-    let g = c.read_page-r.type-inv.1.1.1.0.1.1.0.1.1.0 in
+    let g = c.read_page-r.type_inv.1.1.1.0.1.1.0.1.1.0 in
     packed-length c.read_page-r.result.tables (arrays c) (named-each c.read_page-r.result.tables.ledger.programs g.0 g.1.1)
 
 returns-3 : tie.Need-returns

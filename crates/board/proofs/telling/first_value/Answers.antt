@@ -10,9 +10,6 @@ use Rattle.board.proofs.telling.first_value.Goals as goal
 abbrev value : Answer → ℕ
 value a = get_or (values a) 0 0
 
-pub returns-in-NoCaller : goal.returns-in-NoCaller
-returns-in-NoCaller c = first-none c.args.answer c.in-NoCaller.in-NoCaller-own.keys7
-
 pub returns-in-Done : goal.returns-in-Done
 returns-in-Done c = sym (ap value c.in-Done.is)
 
