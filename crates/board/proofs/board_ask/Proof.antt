@@ -4,12 +4,9 @@ use mathlib.Core.Bool.{not}
 use mathlib.Core.Path.{ap}
 use mathlib.Core.Path.{◌≡◌, sym, ◌∙◌}
 use mathlib.Core.Bool.{true, false}
-use lib.ListN.{length, length-map}
-use denote.Struct.Field.{u8-field}
+use lib.ListN.{length}
 use borrow.Author.Rules.{rules}
 use borrow.Author.Tests.{not-true, not-false}
-use Rattle.records.specs.contracts.Program as program
-use Rattle.records.specs.contracts.Resource as resource
 use Rattle.tables.specs.Tables.{Arrays}
 use Rattle.packing.specs.Packed.{packed_length, packed, is_packed}
 use Rattle.packing.proofs.OneForm.{named-each, packed-length, is-length}

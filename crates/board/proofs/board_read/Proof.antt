@@ -1,11 +1,8 @@
 -- `board_read` meets its contract: too little room for the answer or for the tables is refused with nothing read; else the tables stand
 -- at the front of their buffer, since the arrays of tables are as long as their types say. Assumes nothing.
-use mathlib.Core.Path.{◌≡◌, sym, ◌∙◌}
-use lib.ListN.{length, length-map}
-use denote.Struct.Field.{u8-field}
+use mathlib.Core.Path.{◌≡◌}
+use lib.ListN.{length}
 use borrow.Author.Rules.{rules}
-use Rattle.records.specs.contracts.Program as program
-use Rattle.records.specs.contracts.Resource as resource
 use Rattle.tables.specs.Tables.{Arrays}
 use Rattle.packing.specs.Packed.{packed_length, packed}
 use Rattle.packing.proofs.OneForm.{named-each, packed-length}

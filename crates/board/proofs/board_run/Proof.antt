@@ -7,7 +7,6 @@ use mathlib.Core.Path.{◌≡◌, sym, ap, subst, ◌∙◌}
 use mathlib.Core.Bool.{false}
 use mathlib.Core.List.{List, [], ◌∷◌}
 use mathlib.Core.Logic.{inl, inr}
-use borrow.Author.Tests.{not-true, not-false}
 use lib.ListN.{length, take, drop, length-replicate}
 use lib.Seq.{slice, length-take-le}
 use borrow.Author.Rules.{rules}
@@ -128,7 +127,7 @@ slice-aggregate-put-bytes c =
     sym (length-take-le (N c.before.before.before.before) (Space c.before.before.before.before) (shows c.before.before.before.before).within)
 
 put-bytes-requires : tie.Need-put_bytes-used-requires invariant-loop decreases-loop
-put-bytes-requires c κs = 
+put-bytes-requires c κs =
     let e = c.if-not-is_full.true in
     put-room (turn c.before.before.before.before) (unfilled c.before.before.before e) (fit c.before.before.before e)
 

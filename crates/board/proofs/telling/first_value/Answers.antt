@@ -4,7 +4,6 @@ use mathlib.Core.Path.{sym, ap}
 use lib.ListN.{get_or}
 use Rattle.rules.specs.declared.Answer.{Answer}
 use Rattle.rules.specs.Answers.{values}
-use Rattle.board.proofs.Answered.{first-none}
 use Rattle.board.proofs.telling.first_value.Goals as goal
 
 abbrev value : Answer → ℕ
