@@ -3,7 +3,6 @@ use Prim.Native.Nat.{◌≤◌, ◌<◌}
 use native.Mathlib.Omega.{arith}
 use borrow.Author.Tests.{eq-eqb, ne_eqb, lt-ltb, le-ltb, le-leb, lt-leb}
 use Rattle.ledger.specs.Inner.{timed}
-use Rattle.ledger.proofs.entries.is_timed.Goals.{Else-ahead-eq0}
 use Rattle.ledger.proofs.entries.is_timed.Goals as goal
 
 pub returns-then-due-eq0 : goal.returns-then-due-eq0
@@ -25,13 +24,10 @@ returns-then-ahead-eq0 c =
     simp (ne_eqb _ _ c.if-due-eq0.false, le-ltb a.ticks a.due h)
 
 -- the due lies ahead
-ahead : (c : Else-ahead-eq0) → let a = c.args in a.ticks < a.due
-ahead c = omega (arith, c.if-ahead-eq0.false)
-
 pub returns-then-ahead-gt-FARTHEST : goal.returns-then-ahead-gt-FARTHEST
 unfolding timed
-returns-then-ahead-gt-FARTHEST c = simp (ne_eqb _ _ c.if-due-eq0.false, lt-ltb _ _ (ahead (goal.at.returns-then-ahead-gt-FARTHEST c).Else-ahead-eq0), lt-leb _ _ c.if-ahead-gt-FARTHEST.true)
+returns-then-ahead-gt-FARTHEST c = simp (ne_eqb _ _ c.if-due-eq0.false, lt-ltb c.args.ticks c.args.due (omega arith), lt-leb _ _ c.if-ahead-gt-FARTHEST.true)
 
 pub returns : goal.returns
 unfolding timed
-returns c = simp (ne_eqb _ _ c.if-due-eq0.false, lt-ltb _ _ (ahead (goal.at.returns c).Else-ahead-eq0), le-leb _ _ c.if-ahead-gt-FARTHEST.false)
+returns c = simp (ne_eqb _ _ c.if-due-eq0.false, lt-ltb c.args.ticks c.args.due (omega arith), le-leb _ _ c.if-ahead-gt-FARTHEST.false)

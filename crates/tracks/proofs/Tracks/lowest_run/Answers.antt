@@ -8,7 +8,6 @@ use lib.Seq.{get_or-take}
 use Rattle.tracks.specs.Tracks.{nobody, holders}
 use Rattle.tracks.proofs.OnePass.{Sought, sought-first, sought-held, sought-free, sought-found}
 use Rattle.tracks.proofs.OnePass.{sought-none, lowest-empty, lowest-zero}
-use Rattle.tracks.proofs.Tracks.lowest_run.Goals.{Else-self-track-ne-FREE}
 use Rattle.tracks.proofs.Tracks.lowest_run.Goals as goal
 
 pub returns-then-end-eq0 : goal.returns-then-end-eq0
@@ -30,22 +29,24 @@ loop-track-preserved-then-self-track-ne-FREE c =
     (sought-held c.loop-track.invariant.0 c.loop-track.invariant.1 (λ e. omega arith), omega arith)
 
 -- the track is free, and the run one longer
-longer : (c : Else-self-track-ne-FREE)
-    → Sought c.args.n (holders c.args.self) (c.loop-track.length + 1) (c.loop-track.track + 1)
-longer c =
+pub overflow_sub-result : goal.overflow_sub-result
+overflow_sub-result c =
     let t = c.args.self in
     let is = get_or-take t.count t.holders c.loop-track.track nobody (omega arith) in
-    sought-free c.loop-track.invariant.0 c.loop-track.invariant.1 (omega arith)
-
-pub overflow_sub-result : goal.overflow_sub-result
-overflow_sub-result c = omega (arith, (longer (goal.at.overflow_sub-result c).Else-self-track-ne-FREE).low)
+    omega (arith, (sought-free c.loop-track.invariant.0 c.loop-track.invariant.1 (omega arith)).low)
 
 pub returns-then-length-n : goal.returns-then-length-n
 returns-then-length-n c =
-    sym (sought-found (longer (goal.at.returns-then-length-n c).Else-self-track-ne-FREE) (omega arith) (omega (arith, c.requires.long)) (omega arith))
+    let t = c.args.self in
+    let is = get_or-take t.count t.holders c.loop-track.track nobody (omega arith) in
+    sym (sought-found (sought-free c.loop-track.invariant.0 c.loop-track.invariant.1 (omega arith)) (omega arith) (omega (arith, c.requires.long)) (omega arith))
 
 pub loop-track-preserved : goal.loop-track-preserved
-loop-track-preserved c = (longer (goal.at.loop-track-preserved c).Else-self-track-ne-FREE, omega (arith, (longer (goal.at.loop-track-preserved c).Else-self-track-ne-FREE).few))
+loop-track-preserved c =
+    let t = c.args.self in
+    let is = get_or-take t.count t.holders c.loop-track.track nobody (omega arith) in
+    let longer = sought-free c.loop-track.invariant.0 c.loop-track.invariant.1 (omega arith) in
+    (longer, omega (arith, longer.few))
 
 pub returns : goal.returns
 returns c =
