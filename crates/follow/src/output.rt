@@ -13,7 +13,7 @@ pub const SPACE: usize = 65536;
 pub const SHOWN: usize = 262144;
 
 // How many bytes wait at the front of the buffer, and whether all before them was written. Where it was not, nothing more is taken.
-#[derive(Drop)]
+#[derive(Clone, Copy)]
 pub struct Waiting {
     pub count: usize,
     pub written: bool,

@@ -15,7 +15,7 @@ pub const ROOM: usize = LONGEST_PAGE + 1;
 
 // A page that was shown, from which the next step goes on: whether it is one, its tables, how many bytes of the room it has; and what waits
 // to go out.
-#[derive(Drop)]
+#[derive(Clone, Copy)]
 pub struct Standing {
     pub taken: bool,
     pub tables: Tables,

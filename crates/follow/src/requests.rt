@@ -17,7 +17,7 @@ const MANY: u64 = 1000000;
 
 // How far a file is keyed in: the tables, the number of the next line, how many bytes of it are held at the block's front, and what waits
 // to go out; and whether the file was read to its end.
-#[derive(Drop)]
+#[derive(Clone, Copy)]
 pub struct Keying {
     pub tables: Tables,
     pub count: u64,
