@@ -1,1 +1,2 @@
 // No code: the bench sheet, computed through the definitions.
+#![tactic(auto)]

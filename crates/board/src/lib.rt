@@ -18,6 +18,8 @@
 // values of 8 bytes each, the lowest first. Fewer than 56 bytes are answered 12: nothing is done, and no byte is written. The values of
 // board_find are 0, then 0 for the original or 1 for the copy, and where the line begins and ends there; that of board_list is how many
 // lines it put, or, with 12, how many places these need.
+#![tactic(auto)]
+
 mod desk;
 mod telling;
 

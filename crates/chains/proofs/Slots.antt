@@ -177,7 +177,7 @@ module _ (l l' : List ℕ) (at p : ℕ) (A : get_or l' at 0 ≡ get_or l (7 + p)
       subst (λ (x : ℕ). Leads l' x qs) e (cut qs (rw (e, ← k) o) (rw (e, ← k) h))
   take_step false s q qs t e o z h ih = (
     C s (λ k. omega (arith, o s, same_refl s, rw (← e, ← k) at (before_on p (7 + q) qs)))
-        (λ k. omega (arith, rw (← k) at z, o s, same_refl s)) ∙ h.0,
+        (λ k. omega (arith, subst (λ (x : ℕ). 1 ≤ inner x (q ∷ qs)) (sym k) z, o s, same_refl s)) ∙ h.0,
     ih e (omega (arith, same-ne (7 + p) (7 + q) (λ k. eqb-false q p t (omega arith)))),
   )
 

@@ -1,5 +1,7 @@
 // Chains of programs in one array of links: slot s, 0 to 6, is the head of the chain of state s, and slot
 // 7 + p the link of program p. A link is the number of the program that comes next, or 0 for the end.
+#![tactic(auto)]
+
 ghost use Rattle.std.specs.Prelude.{◌≡◌, ◌<◌, [], get_or};
 ghost use Rattle.limits.specs.Limits.{most_programs};
 ghost use Rattle.chains.specs.Links.{walk, read};
@@ -87,7 +89,7 @@ pub fn link(links: [u8; SLOTS], at: usize) -> u8
 }
 
 // Programs in order: the first `len` of `ids`.
-#[derive(Drop)]
+#[derive(Clone, Copy)]
 pub struct Listing {
     pub ids: [u8; MOST_PROGRAMS],
     pub len: usize,

@@ -1,17 +1,19 @@
 // The station's clock: ticks of 10 ms since the start of a year. A timer's due is a plain number of ticks, since it may pass the
 // clock's ceiling.
+#![tactic(auto)]
+
 ghost use Rattle.std.specs.Prelude.{◌≡◌, ◌≤◌};
 ghost use Rattle.clock.specs.Clock.{unit, time_of, parts_of};
 ghost use Rattle.clock.specs.Inner.{before, Dated};
 
-#[derive(Drop)]
+#[derive(Clone, Copy)]
 pub struct Clock {
     pub ticks: u64,
     pub year: u16,
 }
 
 // The time, as EXEC 11 gives it.
-#[derive(Drop)]
+#[derive(Clone, Copy)]
 pub struct Time {
     pub year: u64,
     pub day: u64,
@@ -22,7 +24,7 @@ pub struct Time {
 }
 
 // A year, and a day of it.
-#[derive(Drop)]
+#[derive(Clone, Copy)]
 struct Date {
     year: u64,
     day: u64,

@@ -10,14 +10,14 @@ use text::Number;
 const YEAR: u64 = USUAL_YEAR as u64;
 
 // The numbers that a line ends with, the usual year in the place of each that there is not; or not, where they are too few or too many.
-#[derive(Drop)]
+#[derive(Clone, Copy)]
 pub(crate) enum Numbers {
     Are(u64, u64, u64, u64),
     Not,
 }
 
 // The five bytes of the name in a field, and the next place.
-#[derive(Drop)]
+#[derive(Clone, Copy)]
 pub(crate) enum NameField {
     Is(u8, u8, u8, u8, u8, usize),
     Not,

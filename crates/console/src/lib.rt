@@ -1,4 +1,6 @@
 // The console line: what it says, what it does, and what is printed for it.
+#![tactic(auto)]
+
 mod answers;
 mod fields;
 mod keying;
@@ -12,7 +14,7 @@ pub use lines::line_end;
 use rules::Request;
 
 // What a line says: a wrong word, field count or field form is bad.
-#[derive(Drop)]
+#[derive(Clone, Copy)]
 pub enum Said {
     Bad,
     Page,
@@ -21,7 +23,7 @@ pub enum Said {
 }
 
 // The same, with the name in it; five blanks where there is none.
-#[derive(Drop)]
+#[derive(Clone, Copy)]
 pub struct Command {
     pub name: [u8; 5],
     pub said: Said,

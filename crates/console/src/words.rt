@@ -12,7 +12,7 @@ pub(crate) const NO_WORD: usize = 30;
 // The word before, whether a name comes next, how many numbers come behind that, and whether it is a last word; the word whose row holds in
 // its place where a field comes behind it that is no word; and whether the last of its numbers may be left away. The last row is no word of its
 // own: it is TICK with a number.
-#[derive(Drop)]
+#[derive(Clone, Copy)]
 pub(crate) struct Word(pub u8, pub bool, pub u8, pub bool, pub u8, pub bool);
 
 const WORDS: [Word; NO_WORD] = [

@@ -1,5 +1,7 @@
 // What a request comes to, read off the book before anything changes: its answer, and the effect that is left to be made.
 // Nothing here knows how chains are kept.
+#![tactic(auto)]
+
 mod deciding;
 mod discs;
 mod naming;
@@ -16,7 +18,7 @@ use records::Why;
 use rules::Answer;
 
 // What is left to be made; p and c are programs. A name stands beside, as it does beside a request.
-#[derive(Drop)]
+#[derive(Clone, Copy)]
 pub enum Effect {
     Stay,
     Renew(u16, u16, u8, u16),
@@ -37,7 +39,7 @@ pub enum Effect {
 }
 
 // The answer is the effect's own where that counts programs or makes new tables: End, Release, Tick and Renew.
-#[derive(Drop)]
+#[derive(Clone, Copy)]
 pub struct Decision {
     pub answer: Answer,
     pub effect: Effect,

@@ -22,7 +22,7 @@ use tracks::Tracks;
 
 // What is asked of the program: to go from one state to another, by RU or GO; to be suspended, or marked for it; a priority; to end,
 // by OF 1 or 8; to be sent off, and awaited or not; a timer.
-#[derive(Drop)]
+#[derive(Clone, Copy)]
 pub(crate) enum Task {
     Shift(u8, u8),
     Suspend,
@@ -34,7 +34,7 @@ pub(crate) enum Task {
 }
 
 // The program of a name.
-#[derive(Drop)]
+#[derive(Clone, Copy)]
 pub(crate) enum Named {
     Is(u8),
     Missing,

@@ -13,7 +13,7 @@ use records::{Numbers, Why};
 use rules::Answer;
 
 // What is wanted of a number that is allocated; to lock it, w says whether to wait.
-#[derive(Drop)]
+#[derive(Clone, Copy)]
 pub(crate) enum Wanted {
     Lock(u64),
     Clear,

@@ -11,7 +11,7 @@ use rules::Answer;
 use tables::Tables;
 
 // The first is no page, or the next is none, each with the value of its refusal; the next follows; or it does not.
-#[derive(Drop)]
+#[derive(Clone, Copy)]
 pub enum Verdict {
     NoFirst(u64),
     NoNext(u64),

@@ -1,1 +1,2 @@
 // No code: runs of calls, and what holds of them.
+#![tactic(auto)]

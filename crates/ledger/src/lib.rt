@@ -1,4 +1,6 @@
 // The book as the code keeps it: records, the clock, the tracks and the resource numbers, in arrays of one size.
+#![tactic(auto)]
+
 mod entries;
 mod freeing;
 mod places;
@@ -12,7 +14,7 @@ use records::{Numbers, Program};
 pub use sound::{Review, reviewed};
 use tracks::Tracks;
 
-#[derive(Drop)]
+#[derive(Clone, Copy)]
 pub struct Ledger {
     pub programs: [Program; MOST_PROGRAMS],
     pub clock: Clock,
@@ -22,7 +24,7 @@ pub struct Ledger {
 
 // What a call sets free: the program that ended, or 0; how many tracks; which numbers were cleared or deallocated, number r
 // at r - 1; whether one was deallocated.
-#[derive(Drop)]
+#[derive(Clone, Copy)]
 pub struct Release {
     pub ended: u8,
     pub tracks: usize,

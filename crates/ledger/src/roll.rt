@@ -8,7 +8,7 @@ use limits::MOST_PROGRAMS;
 use records::Program;
 
 // Whether the records are sound; a mark for each used one; and their states and priorities.
-#[derive(Drop)]
+#[derive(Clone, Copy)]
 pub struct Roll {
     pub ok: bool,
     pub used: [u8; MOST_PROGRAMS],

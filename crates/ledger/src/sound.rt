@@ -10,7 +10,7 @@ use clock::Clock;
 use limits::{FIRST_YEAR, LAST_YEAR, MOST_NUMBERS, MOST_PROGRAMS, MOST_TRACKS};
 
 // Whether the ledger is sound, but for the chains; and the states and priorities of its records, blank where it is refused early.
-#[derive(Drop)]
+#[derive(Clone, Copy)]
 pub struct Review {
     pub ok: bool,
     pub states: [u8; MOST_PROGRAMS],

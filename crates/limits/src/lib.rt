@@ -1,5 +1,6 @@
 // The outline's figures, once for all crates: the states of a program, and how much
 // there may be of each thing. The definitions have theirs in specs/Limits.antt.
+#![tactic(auto)]
 
 // The states that a program may be in.
 pub const DORMANT: u8 = 0;

@@ -1,4 +1,6 @@
 // Tables as bytes at fixed places.
+#![tactic(auto)]
+
 ghost use Rattle.std.specs.Prelude.{◌≡◌, ◌+◌, ◌*◌, ◌≤◌, map, length, take, drop};
 ghost use Rattle.limits.specs.Limits.{most_programs, most_tracks, most_numbers};
 ghost use Rattle.lists.specs.Lists.{hit, from, join};

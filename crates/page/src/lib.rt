@@ -1,4 +1,6 @@
 // The page: what the tables say, in lines of key=value.
+#![tactic(auto)]
+
 pub mod keys;
 mod lines;
 mod sections;

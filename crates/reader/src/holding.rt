@@ -8,7 +8,7 @@ use super::read_from;
 use tables::Outcome;
 
 // A page and a place in it.
-#[derive(Drop)]
+#[derive(Clone, Copy)]
 pub struct Reader<'a> {
     pub page: &'a [u8],
     pub at: usize,

@@ -1,4 +1,6 @@
 // A page read back: exactly the bytes that the writer makes from some sound tables are read.
+#![tactic(auto)]
+
 mod holding;
 mod parts;
 

@@ -20,14 +20,14 @@ use text::Place;
 use tracks::Tracks;
 
 // The year's line, one or none: what it says, or the usual year, and the place behind it.
-#[derive(Drop)]
+#[derive(Clone, Copy)]
 pub(crate) struct Year {
     pub(crate) lines: u64,
     pub(crate) at: usize,
     pub(crate) year: u64,
 }
 
-#[derive(Drop)]
+#[derive(Clone, Copy)]
 pub(crate) struct Head {
     pub(crate) bad: u64,
     pub(crate) at: usize,
@@ -42,7 +42,7 @@ pub(crate) struct Head {
 
 // A record's lines: how many of them are well formed, and, where all seven are, what they say and the place behind them. The mark's line is
 // the eighth of a record that has one.
-#[derive(Drop)]
+#[derive(Clone, Copy)]
 pub(crate) struct Record {
     pub(crate) good: u64,
     pub(crate) at: usize,
@@ -50,7 +50,7 @@ pub(crate) struct Record {
     pub(crate) program: Program,
 }
 
-#[derive(Drop)]
+#[derive(Clone, Copy)]
 pub(crate) struct Records {
     pub(crate) bad: u64,
     pub(crate) at: usize,
@@ -58,7 +58,7 @@ pub(crate) struct Records {
     pub(crate) programs: [Program; MOST_PROGRAMS],
 }
 
-#[derive(Drop)]
+#[derive(Clone, Copy)]
 pub(crate) struct Chains {
     pub(crate) bad: u64,
     pub(crate) at: usize,
@@ -66,14 +66,14 @@ pub(crate) struct Chains {
     pub(crate) links: [u8; SLOTS],
 }
 
-#[derive(Drop)]
+#[derive(Clone, Copy)]
 pub(crate) struct Held {
     pub(crate) at: usize,
     pub(crate) line: u64,
     pub(crate) tracks: Tracks,
 }
 
-#[derive(Drop)]
+#[derive(Clone, Copy)]
 pub(crate) struct Numbered {
     pub(crate) at: usize,
     pub(crate) line: u64,

@@ -1,4 +1,6 @@
 // A program's record, why it waits, and a resource number.
+#![tactic(auto)]
+
 ghost use Rattle.std.specs.Prelude.{◌≡◌, ◌&&◌, ◌||◌, map, ◌≤◌, eqb, length, drop, replicate};
 ghost use Rattle.std.proofs.Math.Seq.{slice};
 ghost use Rattle.limits.specs.Limits.{most_numbers};
@@ -12,7 +14,7 @@ ghost use Rattle.records.specs.Inner.{named, Fit, Within};
 use limits::{DISC, DORMANT, GENERAL, MOST_NUMBERS, MOST_PROGRAMS, SCHEDULED, SUSPENDED};
 
 // Why a program waits: for tracks, how many; for its son, or for a lock, which; or for any number.
-#[derive(Drop)]
+#[derive(Clone, Copy)]
 pub enum Why {
     Nothing,
     Tracks(u16),
@@ -23,7 +25,7 @@ pub enum Why {
 
 // A record. It has a timer exactly where due is not 0. The mark `suspend` sends a program that waits to the suspended ones once its wait is
 // over.
-#[derive(Drop)]
+#[derive(Clone, Copy)]
 pub struct Program {
     pub used: bool,
     pub name: [u8; 5],
@@ -36,14 +38,14 @@ pub struct Program {
 }
 
 // A resource number: its owner is 0 where it is free, a program, or GLOBAL; its lock is 0 where it is clear, or a program.
-#[derive(Drop)]
+#[derive(Clone, Copy)]
 pub struct Resource {
     pub owner: u8,
     pub lock: u8,
 }
 
 // The table of resource numbers 1 to `count`; number r stands at r - 1.
-#[derive(Drop)]
+#[derive(Clone, Copy)]
 pub struct Numbers {
     pub count: u8,
     pub resources: [Resource; MOST_NUMBERS],
@@ -104,7 +106,7 @@ pub fn is_legal(name: [u8; 5]) -> bool
 }
 
 // The five bytes of a name, or none where the bytes are not one.
-#[derive(Drop)]
+#[derive(Clone, Copy)]
 pub enum Name {
     Is(u8, u8, u8, u8, u8),
     Not,

@@ -1,8 +1,10 @@
 // What is asked, and what a call answers. The rules themselves are definitions, and stand in specs/.
+#![tactic(auto)]
+
 use clock::Time;
 
 // The cases of the outline's list of answers. A value stands with its case where the list gives one.
-#[derive(Drop)]
+#[derive(Clone, Copy)]
 pub enum Answer {
     Done(u64),
     Told(Time),
@@ -25,7 +27,7 @@ pub enum Answer {
 }
 
 // What the operator asks of a program. A name stands beside a request, since an enum holds no array.
-#[derive(Drop)]
+#[derive(Clone, Copy)]
 pub enum Order {
     Ru,
     Ss,
@@ -35,7 +37,7 @@ pub enum Order {
 }
 
 // What the running program asks.
-#[derive(Drop)]
+#[derive(Clone, Copy)]
 pub enum Call {
     Exec4(u64, u64),
     Exec15(u64, u64),
@@ -55,7 +57,7 @@ pub enum Call {
 }
 
 // Every request, but for the name in it.
-#[derive(Drop)]
+#[derive(Clone, Copy)]
 pub enum Request {
     Fresh(u64, u64, u64, u64),
     Load(u64),

@@ -10,14 +10,14 @@ use records::Name;
 use text::Place;
 
 // Where the value of a line begins and ends.
-#[derive(Drop)]
+#[derive(Clone, Copy)]
 pub enum Value {
     Is(usize, usize),
     Not,
 }
 
 // A name, and the place of the next line.
-#[derive(Drop)]
+#[derive(Clone, Copy)]
 pub enum NameLine {
     Is(u8, u8, u8, u8, u8, usize),
     Not,

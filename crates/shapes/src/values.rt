@@ -14,35 +14,35 @@ use records::{Numbers, Why};
 use text::{Number, Place};
 
 // A number, and the place behind its mark.
-#[derive(Drop)]
+#[derive(Clone, Copy)]
 pub enum Figure {
     Is(u64, usize),
     Not,
 }
 
 // Why a program waits, and the place behind the mark.
-#[derive(Drop)]
+#[derive(Clone, Copy)]
 pub enum Reason {
     Is(Why, usize),
     Not,
 }
 
 // The first and the last track of a run, its holder, and the place behind the mark.
-#[derive(Drop)]
+#[derive(Clone, Copy)]
 pub enum Run {
     Is(u64, u64, u8, usize),
     Not,
 }
 
 // A resource number, its owner, its lock, and the place behind the mark.
-#[derive(Drop)]
+#[derive(Clone, Copy)]
 pub enum Resource {
     Is(u64, u8, u8, usize),
     Not,
 }
 
 // The links with a chain put into them, and whether the bytes were one.
-#[derive(Drop)]
+#[derive(Clone, Copy)]
 pub struct Chain {
     pub ok: bool,
     pub links: [u8; SLOTS],

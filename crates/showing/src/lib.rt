@@ -1,4 +1,6 @@
 // What is shown of requests and of pages, put at the front of a lent buffer; whoever reads and writes files is a program.
+#![tactic(auto)]
+
 mod pages;
 mod requests;
 

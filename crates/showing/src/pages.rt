@@ -70,7 +70,7 @@ fn put_text(out: &mut [u8], name: &[u8], s: &[u8], answer: Answer) -> usize
 }
 
 // A page that was read: what its reading comes to, and the answer of what is shown of it.
-#[derive(Drop)]
+#[derive(Clone, Copy)]
 pub struct Sheet {
     pub read: Outcome,
     pub shown: Answer,

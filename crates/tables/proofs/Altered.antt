@@ -1,7 +1,6 @@
 -- Tables in order with other holders of their tracks or other numbers are in order, and say what the event says.
 -- The idea: no record and no link changes, so all that is known of the chains holds as it stands.
 -- Assumes nothing.
-use mathlib.Core.Path.{◌≡◌}
 use mathlib.Core.List.{[], ◌∷◌}
 use Rattle.records.specs.declared.Numbers.{Numbers}
 use Rattle.records.specs.Numbers.{resources}

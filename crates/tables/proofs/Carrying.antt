@@ -16,7 +16,6 @@ use Rattle.records.specs.Numbers.{resources, table_of, with_number}
 use Rattle.records.proofs.Table.{resources-with, fit-with}
 use Rattle.tracks.specs.declared.Tracks.{Tracks}
 use Rattle.tracks.specs.Tracks.{nobody, holders, replaced}
-use Rattle.tracks.specs.Tracks as tracks
 use Rattle.tracks.proofs.Fits.{Holds}
 use Rattle.rules.specs.declared.Answer.{Answer}
 use Rattle.rules.specs.Answers as answers

@@ -5,21 +5,19 @@ use Prim.Native.Nat.{ℕ, zero, suc, ◌+◌, ◌-◌, ◌≤◌, ◌<◌}
 use native.Mathlib.Omega.{arith}
 use native.Mathlib.Decide.{dec_lt}
 use mathlib.Core.Path.{◌≡◌, refl, sym, ap, ap₂, ◌∙◌, subst}
-use mathlib.Core.Bool.{Bool, true, false, ◌&&◌}
-use mathlib.Core.List.{List, [], ◌∷◌}
+use mathlib.Core.Bool.{Bool, true, false}
+use mathlib.Core.List.{[], ◌∷◌}
 use lib.ListN.{length, get_or}
 use lib.Dec.{ltb, leb}
-use borrow.Author.Tests.{lt-ltb, le-ltb, le-leb, lt-leb}
+use borrow.Author.Tests.{lt-ltb, le-ltb, le-leb}
 use Rattle.limits.specs.Limits.{most_ticks}
 use Rattle.lists.specs.Lists.{hit, sum, up_to}
-use Rattle.lists.proofs.Tests.{up_to-is, not-both}
+use Rattle.lists.proofs.Tests.{up_to-is}
 use Rattle.clock.specs.Clock.{ceiling}
-use Rattle.records.specs.declared.Program.{Program}
-use Rattle.records.specs.Records.{Known, missing}
+use Rattle.records.specs.Records.{missing}
 use Rattle.rules.specs.declared.Answer.TheVariants.{NotAllowed, AtCeiling, NotSound}
 use Rattle.rules.specs.Requests.{TICK}
-use Rattle.rules.specs.Plans.{Plan, values_of}
-use Rattle.rules.specs.Keeper.{lists, State, asks, after}
+use Rattle.rules.specs.Keeper.{lists, State, after}
 use Rattle.rules.specs.Engine.{after_ticks, sum_of_ticks}
 use Rattle.rules.specs.Sound as rules
 use Rattle.rules.proofs.soundness.SoundRuns.{sound-after}
@@ -33,7 +31,7 @@ use Rattle.tables.specs.declared.Tables.{Tables}
 use Rattle.tables.specs.Tables.{plain, lay, clock_of, Arrays}
 use Rattle.tables.specs.Sound.{sound}
 use Rattle.tables.specs.Calls.{Result, told, planned, asked, many_ticks}
-use Rattle.tables.specs.Inner.{Orderly, Says, Moves, TicksTo, counted}
+use Rattle.tables.specs.Inner.{Orderly, Moves, TicksTo, counted}
 use Rattle.tables.proofs.Agree.{sound-clauses, sound-test}
 use Rattle.tables.proofs.Orderly.{orderly-lay, sound-orderly}
 use Rattle.tables.proofs.Plain.{plain-lay, lay-sound, sound-plain}

@@ -2,15 +2,13 @@
 -- program is scheduled; else the record stays. The clock is one further, and tracks and numbers stay. A tick is a move of the clock by one.
 -- Of any sound tables. Assumes nothing.
 use Prim.Native.Nat.{ℕ, ◌+◌, ◌-◌, ◌<◌}
-use mathlib.Core.Path.{◌≡◌, refl, ap, ◌∙◌}
+use mathlib.Core.Path.{◌≡◌, ap, ◌∙◌}
 use mathlib.Core.Bool.{true}
-use mathlib.Core.List.{List}
 use Rattle.clock.specs.Clock.{ceiling}
-use Rattle.records.specs.Records.{Known}
 use Rattle.rules.specs.Book.{at}
 use Rattle.rules.specs.Requests.{TICK}
 use Rattle.rules.specs.Plans.{number_of}
-use Rattle.rules.specs.Keeper.{lists, State, after}
+use Rattle.rules.specs.Keeper.{lists, State}
 use Rattle.rules.specs.Sound as rules
 use Rattle.timers.specs.Inner.{moved_to}
 use Rattle.timers.proofs.Moves.{moved_at, struck-tick, sound-timely, tick-plan, tick-moved}
@@ -18,7 +16,7 @@ use Rattle.tables.specs.declared.Tables.{Tables}
 use Rattle.tables.specs.Tables.{plain, Arrays}
 use Rattle.tables.specs.Sound.{sound}
 use Rattle.tables.specs.Calls.{Result, served, asked}
-use Rattle.tables.specs.Demand.{on_tick, Ticked}
+use Rattle.tables.specs.Demand.{Ticked}
 use Rattle.tables.proofs.Agree.{sound-clauses}
 use Rattle.tables.proofs.Plain.{sound-plain}
 use Rattle.tables.proofs.Serving.{asked-sound}

@@ -13,7 +13,7 @@ use Rattle.lists.specs.Lists.{hit, same, keep, from, join, Ascending}
 use Rattle.clock.specs.Clock.{ceiling}
 use Rattle.records.specs.declared.Program.{Program}
 use Rattle.records.specs.declared.Why.TheVariants.{Nothing}
-use Rattle.records.specs.Records.{Known, all, missing, record_at}
+use Rattle.records.specs.Records.{all, missing, record_at}
 use Rattle.rules.specs.Book.{Book, at, state_of, prio_of}
 use Rattle.rules.specs.Plans.{Event, on, becomes}
 use Rattle.rules.specs.Keeper.{lists, Entries, State, play}

@@ -12,7 +12,7 @@ use Rattle.tracks.specs.declared.Tracks.{Tracks}
 use Rattle.tracks.specs.Tracks.{holders}
 use Rattle.tracks.specs.Inner as tracks
 use Rattle.rules.specs.declared.Answer.{Answer}
-use Rattle.rules.specs.Book.{at, state_of, prio_of}
+use Rattle.rules.specs.Book.{state_of, prio_of}
 use Rattle.rules.specs.Plans.{Event, Release, from_disc, from_general}
 use Rattle.rules.specs.Keeper.{lists, Entries, State, play, view}
 use Rattle.rules.specs.Replay.{Accounts}

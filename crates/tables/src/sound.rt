@@ -10,7 +10,7 @@ use ledger::reviewed;
 use limits::{DORMANT, MOST_PROGRAMS, SCHEDULED, STATES, SUSPENDED};
 
 // Whether what was walked is in order, and a mark for each program that was met.
-#[derive(Drop)]
+#[derive(Clone, Copy)]
 struct Walked {
     ok: bool,
     met: [u8; MOST_PROGRAMS],

@@ -1,4 +1,6 @@
 // Text as bytes: put at a place of a lent buffer, and read: fields, words and numbers.
+#![tactic(auto)]
+
 ghost use Rattle.std.specs.Prelude.{◌≡◌, [], ◌∷◌, ◌++◌, ◌+◌, ◌≤◌, ◌<◌, length, drop};
 ghost use Rattle.std.proofs.Math.Seq.{slice};
 ghost use Rattle.lists.specs.Lists.{alike};
@@ -160,7 +162,7 @@ pub fn rest_is(s: &[u8], from: usize, w: &[u8]) -> bool
 }
 
 // The place behind a word, or none.
-#[derive(Drop)]
+#[derive(Clone, Copy)]
 pub enum Place {
     At(usize),
     Not,
@@ -186,14 +188,14 @@ pub fn behind(s: &[u8], from: usize, to: usize, w: &[u8]) -> Place
 }
 
 // A number, or none where the bytes are not one.
-#[derive(Drop)]
+#[derive(Clone, Copy)]
 pub enum Number {
     Is(u64),
     Not,
 }
 
 // What digits say, and the place behind them.
-#[derive(Drop)]
+#[derive(Clone, Copy)]
 pub struct Digits {
     pub value: u64,
     pub end: usize,

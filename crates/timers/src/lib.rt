@@ -1,4 +1,6 @@
 // Timers: when they fall due, and how they move on, over one tick or over many.
+#![tactic(auto)]
+
 ghost use Rattle.std.specs.Prelude.{◌+◌, ◌≤◌, ◌≡◌};
 ghost use Rattle.clock.specs.Clock.{ceiling};
 ghost use Rattle.timers.specs.Inner.{falls_due, due_beyond, moved, starts, sooner, next_start, CanMove, span_of};
@@ -8,7 +10,7 @@ use limits::{DORMANT, MOST_PROGRAMS, MOST_TICKS};
 use records::Program;
 
 // What n ticks come to, before any is made: the clock's reading after them; or n is not allowed; or they would pass the ceiling.
-#[derive(Drop)]
+#[derive(Clone, Copy)]
 pub enum Span {
     To(u64),
     NotAllowed,

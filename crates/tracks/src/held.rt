@@ -5,7 +5,7 @@ ghost use Rattle.tracks.specs.Inner.{Within, RunFrom};
 use limits::MOST_TRACKS;
 
 // Tracks `first` to `last`, which one holder has.
-#[derive(Drop)]
+#[derive(Clone, Copy)]
 pub struct Run {
     pub first: usize,
     pub last: usize,

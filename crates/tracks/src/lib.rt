@@ -1,4 +1,6 @@
 // The disc tracks: who holds each. Other crates reach the array by functions of this one alone.
+#![tactic(auto)]
+
 mod held;
 mod places;
 mod sound;
@@ -14,7 +16,7 @@ pub use places::fill;
 
 // Tracks 0 to `count` - 1, the first `system` of them the system's. A place holds 0 where the track is free, a program's number, GLOBAL or
 // SYSTEM; places from `count` on hold 0.
-#[derive(Drop)]
+#[derive(Clone, Copy)]
 pub struct Tracks {
     pub count: u16,
     pub system: u16,
@@ -22,7 +24,7 @@ pub struct Tracks {
 }
 
 // Where a search of the tracks ended.
-#[derive(Drop)]
+#[derive(Clone, Copy)]
 pub enum Found {
     At(usize),
     Nothing,

@@ -7,14 +7,14 @@ use super::lines::Spot;
 use rules::Answer;
 
 // Which of the two texts.
-#[derive(Drop)]
+#[derive(Clone, Copy)]
 pub enum Mark {
     Original,
     Copy,
 }
 
 // A part of one of the two texts: which, where it begins, and where it ends.
-#[derive(Drop)]
+#[derive(Clone, Copy)]
 pub struct Place {
     pub mark: Mark,
     pub begins: usize,
@@ -22,7 +22,7 @@ pub struct Place {
 }
 
 // What a search comes to: the answer, and the part that is handed back.
-#[derive(Drop)]
+#[derive(Clone, Copy)]
 pub struct Located {
     pub answer: Answer,
     pub place: Place,

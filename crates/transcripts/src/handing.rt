@@ -7,7 +7,7 @@ ghost use Rattle.transcripts.specs.Finding.{Finds};
 use super::finding::{Located, locate, part};
 
 // The line's own bytes, and beside them the answer and which part of which text they are.
-#[derive(Drop)]
+#[derive(Clone, Copy)]
 pub struct Found<'a> {
     pub part: &'a [u8],
     pub located: Located,

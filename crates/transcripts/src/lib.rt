@@ -1,5 +1,7 @@
 // The reading desk: two lent texts, the original's transcript and the copy's. It finds a line by its key, and lists the lines of the
 // original whose counterpart in the copy differs or is missing. The texts may be damaged: any bytes are taken.
+#![tactic(auto)]
+
 mod finding;
 mod handing;
 mod lines;

@@ -4,7 +4,7 @@ ghost use Rattle.transcripts.specs.Transcripts.{has_key};
 ghost use Rattle.transcripts.specs.Inner.{lines_from, spot_of, behind_others, first_keyed, Counted};
 
 // Where a line begins and ends, without its byte 10; or that there is none.
-#[derive(Drop)]
+#[derive(Clone, Copy)]
 pub enum Spot {
     At(usize, usize),
     Nowhere,

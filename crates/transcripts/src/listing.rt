@@ -11,7 +11,7 @@ use rules::Answer;
 
 // One line of the original held against its counterpart: where it ends; whether it is listed, and where its counterpart begins, the copy's
 // length where it has none; and the places up to which the lines of the two texts go together.
-#[derive(Drop)]
+#[derive(Clone, Copy)]
 pub(crate) struct Turn {
     end: usize,
     listed: bool,
@@ -21,7 +21,7 @@ pub(crate) struct Turn {
 }
 
 // Whether a line is listed, and where its counterpart begins.
-#[derive(Drop)]
+#[derive(Clone, Copy)]
 pub(crate) struct Held {
     listed: bool,
     begins: usize,

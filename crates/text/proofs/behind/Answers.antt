@@ -1,7 +1,6 @@
 -- `text::behind` meets its contract. The invariant: what stands behind the word is what stands behind the word from i on, o being as
 -- far from `from`. Assumes nothing.
 use mathlib.Core.Path.{refl, ◌∙◌}
-use Prim.Native.Nat.{◌-◌}
 use native.Mathlib.Omega.{arith}
 use lib.ListN.{drop, drop_of_length-le}
 use lib.Seq.{slice, length-slice}

@@ -1,7 +1,6 @@
 -- `text::digits_from` meets its contract. The invariant: what stands before i was read as a, which has at most i - from digits.
 -- Each return leaves at i, past the last digit. Assumes nothing.
 use mathlib.Core.Path.{◌≡◌, ap}
-use mathlib.Core.Logic.{inl, inr}
 use mathlib.Core.Bool.{false}
 use Prim.Native.Nat.{suc, ◌+◌, ◌-◌, ◌<◌, ◌≤◌}
 use native.Mathlib.Omega.{arith}
@@ -19,7 +18,7 @@ use Rattle.text.proofs.digits_from.Goals as goal
 limit : (c : Joined-most-limit)
     → let g = c.args in
     (g.from ≤ c.if-most-limit.limit) × (c.if-most-limit.limit ≤ length g.s.now) × (c.if-most-limit.limit ≤ g.from + g.most)
-limit c = elim c.if-most-limit.branch [ inl v ↦ omega arith | inr v ↦ omega arith ]
+limit c = elim c.if-most-limit.branch [ goal.then-most-limit w ↦ omega arith | goal.else-most-limit w ↦ omega arith ]
 
 pub loop-i-init : goal.loop-i-init
 loop-i-init c =
@@ -73,7 +72,4 @@ loop-i-preserved c =
 pub returns : goal.returns
 returns c =
     let e : c.loop-i.i ≡ c.if-most-limit.limit = omega arith in
-    rw e at (here (goal.at.returns c).At-loop-i (λ h k. absurd (elim c.if-most-limit.branch [ inl v ↦ omega arith | inr v ↦ omega arith ])))
-
-pub overflow_cast-b : goal.overflow_cast-b
-overflow_cast-b c = omega (arith, c.shared_slice_known-1.given c.loop-i.i)
+    rw e at (here (goal.at.returns c).At-loop-i (λ h k. absurd (elim c.if-most-limit.branch [ goal.then-most-limit w ↦ omega arith | goal.else-most-limit w ↦ omega arith ])))

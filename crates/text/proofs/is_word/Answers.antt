@@ -1,6 +1,5 @@
 -- `text::is_word` meets its contract. The invariant: the two are alike where they are from o and from i on. Assumes nothing.
 use mathlib.Core.Path.{refl, sym, ap, ap₂, ◌∙◌}
-use Prim.Native.Nat.{◌-◌}
 use native.Mathlib.Omega.{arith}
 use lib.ListN.{length, drop_of_length-le}
 use lib.Seq.{slice, length-slice}

@@ -1,6 +1,6 @@
 -- `text::is_word` meets its contract. The invariant: the two are alike where they are from o and from i on. Assumes nothing.
 use mathlib.Core.Path.{◌≡◌}
-use Prim.Native.Nat.{◌+◌, ◌-◌, ◌≤◌}
+use Prim.Native.Nat.{◌+◌, ◌≤◌}
 use lib.ListN.{length, drop}
 use lib.Seq.{slice}
 use Rattle.lists.specs.Lists.{alike}

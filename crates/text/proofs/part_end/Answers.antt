@@ -1,6 +1,6 @@
 -- `text::part_end` meets its contract. The invariant: the first d from `from` on is the first from i on. Assumes nothing.
 use mathlib.Core.Path.{◌≡◌, refl, subst}
-use Prim.Native.Nat.{ℕ, ◌+◌, ◌-◌}
+use Prim.Native.Nat.{ℕ, ◌+◌}
 use native.Mathlib.Omega.{arith}
 use lib.ListN.{length, drop}
 use Rattle.text.specs.Inner.{PartEnd}

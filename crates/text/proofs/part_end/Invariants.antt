@@ -1,6 +1,6 @@
 -- `text::part_end` meets its contract. The invariant: the first d from `from` on is the first from i on. Assumes nothing.
 use mathlib.Core.Path.{◌≡◌}
-use Prim.Native.Nat.{◌+◌, ◌-◌, ◌≤◌}
+use Prim.Native.Nat.{◌+◌, ◌≤◌}
 use lib.ListN.{length, drop}
 use Rattle.text.proofs.Fields.{until}
 use Rattle.text.proofs.part_end.Given as goal

@@ -1,5 +1,5 @@
 -- `text::put_bytes` meets its contract. The invariant: what is left to be stored is s from i on. Assumes nothing.
-use Prim.Native.Nat.{◌≤◌, ◌-◌}
+use Prim.Native.Nat.{◌≤◌}
 use lib.ListN.{length, drop}
 use Rattle.text.proofs.Laws.{Left}
 use Rattle.text.proofs.put_bytes.Given as goal

@@ -37,7 +37,7 @@ returns-then-n-lt100 c =
     rw (two (goal.at.returns-then-n-lt100 c).Then-n-lt100) (wrote_then _ _ c.put_byte-a.ensures c.put_byte-then-n-lt100.ensures)
 
 pub put_three-requires : goal.put_three-requires
-put_three-requires c = (omega arith, omega (arith, ap length (three (goal.at.put_three-requires c).Else-n-lt100)))
+put_three-requires c = record { n_bound = omega arith; at_in_bounds = omega (arith, ap length (three (goal.at.put_three-requires c).Else-n-lt100)) }
 
 pub returns : goal.returns
 returns c = rw (three (goal.at.returns c).Else-n-lt100) c.put_three.ensures

@@ -1,10 +1,9 @@
 -- `text::rest_is` meets its contract. The invariant: the two are alike where the first i bytes are, as `same` says, and the others.
 -- Assumes nothing.
 use mathlib.Core.Path.{◌≡◌, refl, sym, ap, ap₂, ◌∙◌}
-use mathlib.Core.Logic.{inl, inr}
 use mathlib.Core.Bool.{Bool, ◌&&◌, and-true, and-false}
 use mathlib.Core.List.{List, []}
-use Prim.Native.Nat.{ℕ, ◌+◌, ◌-◌}
+use Prim.Native.Nat.{ℕ, ◌+◌}
 use native.Mathlib.Omega.{arith}
 use lib.ListN.{length, drop, length-drop, drop_of_length-le}
 use lib.Seq.{slice, take-length}
@@ -35,11 +34,11 @@ loop-i-preserved c =
       omega arith,
       omega arith,
       c.loop-i.invariant.2 ∙ elim c.if-s-from-2.branch [
-        | inl v ↦ ap (λ (t : Bool). same && t)
-            (alike-differ s w (a.from + i) i (length s) (omega arith) (omega arith) (omega arith) v.0.taken)
-            ∙ and-false same ∙ rw v.1 refl
-        | inr v ↦ ap₂ ◌&&◌ (sym v.1)
-            (alike-on s w (a.from + i) i (length s) (omega arith) (omega arith) (omega arith) v.0.left
+        | goal.then-s-from-2 b ↦ ap (λ (t : Bool). same && t)
+            (alike-differ s w (a.from + i) i (length s) (omega arith) (omega arith) (omega arith) b.if-s-from-2.true)
+            ∙ and-false same ∙ rw b.same-is refl
+        | goal.else-s-from-2 b ↦ ap₂ ◌&&◌ (sym b.same-is)
+            (alike-on s w (a.from + i) i (length s) (omega arith) (omega arith) (omega arith) b.if-s-from-2.false
             ∙ ap (λ (o : ℕ). alike (slice o (length s) s) (drop (i + 1) w)) e)
       ],
     )

@@ -2,10 +2,7 @@
 use borrow.Author.Rules.{rules}
 use native.Mathlib.Omega.{arith}
 use mathlib.Core.Path.{◌≡◌, sym, ap, ◌∙◌, refl, subst}
-use lib.ListN.{length-map}
 use Rattle.records.specs.Records.{Known}
-use Rattle.records.specs.contracts.Program as program
-use Rattle.records.specs.contracts.Resource as resource
 use Rattle.rules.specs.Keeper.{lists, view}
 use Rattle.rules.specs.Keeper as keeper
 use Rattle.rules.specs.Coded.{the_request}
@@ -21,48 +18,43 @@ use Rattle.tables.proofs.Tables.ask.Tie as tie
 
 arrays : (s : tie.Start) → Arrays s.args.self
 arrays s = record {
-  programs = sym (length-map s.args.self.ledger.programs (program.the_field).into) ∙ s.well-formed.0.1.1.0.1.1.0.1.0.1;
+  programs = search rules;
   links = search rules;
   holders = search rules;
-  resources = sym (length-map s.args.self.ledger.numbers.resources (resource.the_field).into)
-      ∙ s.well-formed.0.1.1.0.1.1.1.1.1.0.1.1.1.0.1.0.1;
+  resources = search rules;
 }
 
-tested : (o : tie.After-opened) → Tested o.before.args.self o.opened.result.sound o.opened.result.caller
-tested o = let e = o.opened.ensures in tested-is o.before.args.self _ _ (arrays o.before) e.0 e.1
+tested : (o : tie.After-opened-o) → Tested o.args.self o.opened-o.result.sound o.opened-o.result.caller
+tested o = let e = o.opened-o.ensures in tested-is o.args.self _ _ (arrays o.before) e.0 e.1
 
-abbrev opening : tie.Then1 → tie.After-opened
-opening i = i.before
+ready : (i : tie.Then-o) → Ready i.args.self
+ready i = (tested i.before).ready i.if-o.true
 
-ready : (i : tie.Then1) → Ready (opening i).before.args.self
-ready i = (tested (opening i)).ready i.if1.true
+caller : (i : tie.Then-o) → i.opened-o.result.caller ≡ caller_of i.args.self
+caller i = (tested i.before).caller i.if-o.true
 
-caller : (i : tie.Then1) → (opening i).opened.result.caller ≡ caller_of (opening i).before.args.self
-caller i = (tested (opening i)).caller i.if1.true
-
-decided : (d : tie.After-decide) → let s = (opening d.before).before in
-    Decides (view lists (plain s.args.self)) s.args.name
-    (keeper.asks lists (plain s.args.self) (the_request s.args.name s.args.q)) d.decide.result
-decided d = d.decide.ensures (view lists (plain (opening d.before).before.args.self)) refl (sym (caller d.before))
+decided : (d : tie.After-decide) → Decides (view lists (plain d.args.self)) d.args.name
+    (keeper.asks lists (plain d.args.self) (the_request d.args.name d.args.q)) d.decide.result
+decided d = d.decide.ensures (view lists (plain d.args.self)) refl (sym (caller d.before.before))
 
 decide-requires : tie.Need-decide-requires
 decide-requires c κs =
-    let R = ready c in
+    let R = ready c.before in
     record {
       tracks = R.orderly.tracks;
       numbers = R.orderly.numbers;
       clock = clock-most _ R;
-      known = λ h. subst Known (sym (caller c)) (caller-known _ R (omega (arith, caller c, h)));
+      known = λ h. subst Known (sym (caller c.before)) (caller-known _ R (omega (arith, caller c.before, h)));
     }
 
 carry-requires : tie.Need-carry-requires
-carry-requires c κs = record { ready = ready c.before; apt = (decided c).apt }
+carry-requires c κs = record { ready = ready c.before.before; apt = (decided c).apt }
 
-returns : tie.Need-returns
-returns c = let d = c.before in c.carry.ensures ∙ as-asked _ (ready d.before) _ _ _ (decided d)
+returns : tie.Need-returns-then-o
+returns c = c.carry.ensures ∙ as-asked _ (ready c.before.before.before) _ _ _ (decided c.before)
 
-returns-2 : tie.Need-returns-2
-returns-2 c = ap told c.refused.ensures ∙ asked-unsound _ _ (sym (tested c.before.before).is ∙ c.before.if1.false)
+returns-2 : tie.Need-returns
+returns-2 c = ap told c.refused.ensures ∙ asked-unsound _ _ (sym (tested c.before.before).is ∙ c.if-o.false)
 
-pub ask-spec : {M : Type 1} → statement M
-ask-spec = tie.close (tie.spec (λ c κs. search rules) decide-requires carry-requires returns (λ c κs. search rules) returns-2)
+pub ask_spec : {M : Type 1} → statement M
+ask_spec = tie.close (tie.spec (λ c κs. search rules) decide-requires carry-requires returns (λ c κs. search rules) returns-2)

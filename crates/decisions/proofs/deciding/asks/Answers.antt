@@ -1,0 +1,6 @@
+-- `decisions::deciding::asks` meets its contract: the parts of the book are its parts. Assumes nothing.
+use Rattle.decisions.proofs.Laws.{book-in}
+use Rattle.decisions.proofs.deciding.asks.Goals as goal
+
+pub returns : goal.returns
+returns c = λ v nm O. c.upon.ensures v nm (book-in v _ O)

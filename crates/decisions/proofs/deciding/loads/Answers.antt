@@ -1,0 +1,6 @@
+-- `decisions::deciding::loads` meets its contract: the parts of the book are its parts. Assumes nothing.
+use Rattle.decisions.proofs.Laws.{book-in}
+use Rattle.decisions.proofs.deciding.loads.Goals as goal
+
+pub returns : goal.returns
+returns c = λ v O. c.loads.ensures v (book-in v _ O).programs

@@ -1,0 +1,16 @@
+-- `decisions::naming::find` meets its contract. Assumes nothing.
+use mathlib.Core.Bool.{not}
+use mathlib.Core.Path.{ap}
+use Rattle.decisions.proofs.Asked.{is-illegal, is-missing, is-named}
+use Rattle.decisions.proofs.naming.find.Goals as goal
+
+pub returns-then-not-is_legal : goal.returns-then-not-is_legal
+returns-then-not-is_legal c = is-illegal _ _ _ c.is_legal.ensures (ap not c.if-not-is_legal.true)
+
+pub returns-then-p-eq0 : goal.returns-then-p-eq0
+returns-then-p-eq0 c =
+    is-missing _ _ _ c.is_legal.ensures (ap not c.if-not-is_legal.false) _ c.find_program-p.ensures c.if-p-eq0.true
+
+pub returns : goal.returns
+returns c =
+    is-named _ _ _ c.is_legal.ensures (ap not c.if-not-is_legal.false) _ c.find_program-p.ensures c.if-p-eq0.false

@@ -1,0 +1,14 @@
+-- `decisions::numbering::frees` meets its contract. Assumes nothing.
+use mathlib.Core.Path.{refl}
+use Rattle.rules.specs.declared.Answer.TheVariants.{NotHolder}
+use Rattle.decisions.proofs.Laws.{like, stays}
+use Rattle.decisions.proofs.Numbered.{free_own, free_other}
+use Rattle.decisions.proofs.numbering.frees.Goals as goal
+
+pub returns-then-may_free : goal.returns-then-may_free
+returns-then-may_free c = λ v nm h. like v nm (free_own v _ _ _ _ c.may_free.ensures c.if-may_free.true)
+    (record { number = refl; values = refl; events = refl; apt = (c.requires.low, h) })
+
+pub returns : goal.returns
+returns c = λ v nm h.
+    stays v nm NotHolder 0 c.stay.ensures refl (free_other v _ _ _ _ c.may_free.ensures c.if-may_free.false)

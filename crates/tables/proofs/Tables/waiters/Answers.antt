@@ -1,0 +1,5 @@
+-- `tables::Tables::waiters` meets its contract. Assumes nothing.
+use Rattle.tables.proofs.Tables.waiters.Goals as goal
+
+pub returns : goal.returns
+returns c = λ y R. record { disc = c.disc_waiters-disc.ensures y R; general = c.general_waiters-general.ensures y R }
