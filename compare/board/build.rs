@@ -1,5 +1,5 @@
-//! Links `libboard.a` from the folder that BOARD_LIB names, by default where `rt staticlib board`
-//! writes it.
+//! Links `libboard.a` from the folder that BOARD_LIB names, by default where `compare/board/run`
+//! puts it, target/staticlib.
 
 use std::env;
 use std::path::PathBuf;

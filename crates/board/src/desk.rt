@@ -19,8 +19,7 @@ fn mark_number(mark: Mark) -> u64
 // Looks for the line with this key and occurrence, from 1: in the original, then in the copy. 0, and behind the value 0 which text it is
 // in, 0 the original and 1 the copy, and where it begins and ends; 3 for an empty key or occurrence 0, and 17 where it is in neither, both
 // with the empty front of the original.
-#[unsafe(no_mangle)]
-pub extern "C" fn board_find(
+pub fn board_find(
     original: &[u8],
     copy: &[u8],
     key: &[u8],
@@ -46,13 +45,7 @@ pub extern "C" fn board_find(
 
 // Lists the lines of the original whose counterpart in the copy differs or is missing: their numbers, from 1, at the front of `list`, the
 // rest of it untouched. 0 and how many; or 12 and the places needed, nothing listed, where `list` has fewer.
-#[unsafe(no_mangle)]
-pub extern "C" fn board_list(
-    original: &[u8],
-    copy: &[u8],
-    list: &mut [u64],
-    answer: &mut [u8],
-) -> u64
+pub fn board_list(original: &[u8], copy: &[u8], list: &mut [u64], answer: &mut [u8]) -> u64
     ensures { record { number = result; list = list.new; answer = answer.new }
         ≡ listed_by original.now copy.now list.old answer.old }
 {

@@ -1,18 +1,5 @@
-// The executive for callers in other languages: six functions on bytes. They trust nobody: whatever bytes they are handed, of whatever
-// lengths, the contracts say what comes back. In C, where a slice is a pointer and its length, in bytes but for `list`, whose length is in
-// places of 8 bytes:
-//
-//     uint64_t board_run(const uint8_t *text, size_t, uint8_t *out, size_t, uint8_t *answer, size_t);
-//     uint64_t board_ask(uint8_t *tables, size_t, const uint8_t *line, size_t, uint8_t *page, size_t, uint8_t *answer, size_t);
-//     uint64_t board_sound(const uint8_t *tables, size_t);
-//     uint64_t board_read(const uint8_t *page, size_t, uint8_t *tables, size_t, uint8_t *answer, size_t);
-//     uint64_t board_find(const uint8_t *original, size_t, const uint8_t *copy, size_t, const uint8_t *key, size_t, uint64_t occurrence,
-//         uint8_t *answer, size_t);
-//     uint64_t board_list(const uint8_t *original, size_t, const uint8_t *copy, size_t, uint64_t *list, size_t, uint8_t *answer, size_t);
-//
-// What no contract can say, the caller sees to: each pointer is valid for its length, for writing too where it is not const, and aligned
-// for its type; bytes that are lent for writing overlap no others that are handed in; and nothing else writes to any of them before the
-// call returns.
+// The executive on bytes, as callers in other languages have it: six functions. They trust nobody: whatever bytes they are handed, of
+// whatever lengths, the contracts say what comes back. Crate board_c offers them to C, under the same names.
 //
 // All but board_sound hand back the answer's number. The answer itself goes to the front of `answer`, in 56 bytes: its number and six
 // values of 8 bytes each, the lowest first. Fewer than 56 bytes are answered 12: nothing is done, and no byte is written. The values of
@@ -26,6 +13,7 @@ mod telling;
 ghost use Rattle.std.specs.Prelude.{◌≡◌};
 ghost use Rattle.board.specs.Board.{ran, boarded, soundly, read_back};
 
+pub use desk::{board_find, board_list};
 use limits::{PAGE_ROOM, USUAL_YEAR};
 use rules::Answer;
 use tables::Tables;
@@ -36,8 +24,7 @@ const LONGEST_TEXT: usize = 281474976710656;
 // Runs a whole console text from the smallest tables, as `sheet` does; a line's output is put where it and all before it fit.
 // 0, and as values how many bytes the output has in all and how many were put; or 3, and `out` as it was, where the text has
 // more than 2^48 bytes. 3 goes before 12.
-#[unsafe(no_mangle)]
-pub extern "C" fn board_run(text: &[u8], out: &mut [u8], answer: &mut [u8]) -> u64
+pub fn board_run(text: &[u8], out: &mut [u8], answer: &mut [u8]) -> u64
     ensures { record { number = result; buffer = out.new; answer = answer.new }
         ≡ ran text.now out.old answer.old }
 {
@@ -74,8 +61,7 @@ pub extern "C" fn board_run(text: &[u8], out: &mut [u8], answer: &mut [u8]) -> u
 }
 
 // 1 where the bytes are tables in packed form that are sound, else 0.
-#[unsafe(no_mangle)]
-pub extern "C" fn board_sound(tables: &[u8]) -> u64
+pub fn board_sound(tables: &[u8]) -> u64
     ensures { result ≡ soundly tables.now }
 {
     if !packing::is_packed(tables) {
@@ -90,13 +76,7 @@ pub extern "C" fn board_sound(tables: &[u8]) -> u64
 
 // One console line on tables in packed form, which are replaced by those after it. The line's own answer; or 14, and every byte of tables
 // and page as it was, where the bytes are no tables in packed form or these are not sound. 14 goes before 12.
-#[unsafe(no_mangle)]
-pub extern "C" fn board_ask(
-    tables: &mut [u8],
-    line: &[u8],
-    page: &mut [u8],
-    answer: &mut [u8],
-) -> u64
+pub fn board_ask(tables: &mut [u8], line: &[u8], page: &mut [u8], answer: &mut [u8]) -> u64
     ensures { record { number = result; tables = tables.new; page = page.new; answer = answer.new }
         ≡ boarded tables.old line.now page.old answer.old }
 {
@@ -119,8 +99,7 @@ pub extern "C" fn board_ask(
 
 // Reads a page back: the tables, in packed form, at the front of `tables`, the rest of it untouched. The reading's own answer, 0, or 15 and
 // the line, with the smallest tables; or 12, and `tables` as it was, where fewer than 1,271 bytes are lent for these, value 1271.
-#[unsafe(no_mangle)]
-pub extern "C" fn board_read(page: &[u8], tables: &mut [u8], answer: &mut [u8]) -> u64
+pub fn board_read(page: &[u8], tables: &mut [u8], answer: &mut [u8]) -> u64
     ensures { record { number = result; tables = tables.new; answer = answer.new }
         ≡ read_back page.now tables.old answer.old }
 {

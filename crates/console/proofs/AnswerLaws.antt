@@ -2,15 +2,13 @@
 -- Assumes nothing.
 use Prim.Native.Nat.{ℕ, ◌+◌, ◌≤◌}
 use native.Mathlib.Omega.{arith}
-use mathlib.Core.Path.{◌≡◌, refl, sym, ap, subst}
+use mathlib.Core.Path.{◌≡◌, refl, sym, ap}
 use mathlib.Core.Bool.{Bool, true, false, cond, ◌&&◌}
 use mathlib.Core.Logic.{◌⊎◌, inl, inr}
 use mathlib.Core.List.{List, [], ◌∷◌, ◌++◌, map}
 use lib.ListN.{length, get_or, length-append}
 use lib.Dec.{eqb}
 use borrow.Author.Tests.{eqb-true, ne_eqb}
-use denote.Enum.Declared.{tag_of}
-use types.Run.{OneOf, miss}
 use Rattle.text.specs.Text.{text, decimal, between}
 use Rattle.text.specs.Inner.{Wrote}
 use Rattle.text.proofs.Laws.{wrote_then, decimal-most}
@@ -20,7 +18,6 @@ use Rattle.rules.specs.declared.Answer.{Answer}
 use Rattle.rules.specs.declared.Answer.TheVariants.{Done, Told, Waits, NoCaller, NotAllowed, NoProgram, WrongState, NameInUse, AllUsed}
 use Rattle.rules.specs.declared.Answer.TheVariants.{NoRoom, NotHolder, NotAllocated, AtCeiling, TooShort, NotUnderstood, NotSound, NotRead, InNeither}
 use Rattle.rules.specs.Answers.{number, values}
-use Rattle.rules.specs.contracts.Answer.{the_type}
 use Rattle.rules.proofs.shared.OneAnswer.{one_answer}
 use Rattle.console.specs.Sheet.{printed_bytes}
 use Rattle.console.specs.Inner.{single, values_line, answer_bytes}
@@ -56,14 +53,9 @@ one_value NotSound = inl refl
 one_value (NotRead n) = inl refl
 one_value InNeither = inl refl
 
--- the places among all of those that tell none
-abbrev timeless : List ℕ
-timeless = 0 ∷ 2 ∷ 3 ∷ 4 ∷ 5 ∷ 6 ∷ 7 ∷ 8 ∷ 9 ∷ 10 ∷ 11 ∷ 12 ∷ 13 ∷ 14 ∷ 15 ∷ 16 ∷ 17 ∷ []
-
-pub no-time : (a : Answer) → OneOf timeless (tag_of the_type a) → values_line a ≡ decimal (single (values a))
-no-time a h =
-    elim (one_value a)
-    [ inl e ↦ e | inr p ↦ absurd (miss timeless 1 tt (subst (λ (x : Answer). OneOf timeless (tag_of the_type x)) p.1 h)) ]
+-- what tells no time has one value
+pub no-time : (a : Answer) → ((t : Time) → a ≡ Told t → ⊥) → values_line a ≡ decimal (single (values a))
+no-time a h = elim (one_value a) [ inl e ↦ e | inr p ↦ absurd (h p.0 p.1) ]
 
 -- the line for an answer, whose number is n
 pub answer-wrote : {l₀ l₁ l₂ l₃ l₄ l₅ : List ℕ} {at₀ at₁ at₂ at₃ at₄ at₅ n : ℕ} (a : Answer) → n ≡ number a
@@ -108,17 +100,11 @@ pub answer-room : (a : Answer) → length (answer_bytes a) ≤ 160
 answer-room a = omega (arith, answer-length a (number a) refl, values-room a, decimal-most (number a))
 
 -- an answer at another place than `Done` is not that, and has no bytes printed
-abbrev behind : List ℕ
-behind = 1 ∷ 2 ∷ 3 ∷ 4 ∷ 5 ∷ 6 ∷ 7 ∷ 8 ∷ 9 ∷ 10 ∷ 11 ∷ 12 ∷ 13 ∷ 14 ∷ 15 ∷ 16 ∷ 17 ∷ []
-
-pub done-not : (a : Answer) → OneOf behind (tag_of the_type a) → (v : ℕ) → a ≡ Done v → ⊥
-done-not a h v d = miss behind 0 tt (subst (λ (x : Answer). OneOf behind (tag_of the_type x)) d h)
-
-pub bytes-none : (a : Answer) → OneOf behind (tag_of the_type a) → 0 ≡ printed_bytes (number a) (values a)
+pub bytes-none : (a : Answer) → ((v : ℕ) → a ≡ Done v → ⊥) → 0 ≡ printed_bytes (number a) (values a)
 bytes-none a h = go (eqb (number a) 0) refl (values a) refl
   where
     go : (b : Bool) → eqb (number a) 0 ≡ b → (vs : List ℕ) → values a ≡ vs → 0 ≡ cond (b && eqb (length vs) 1) (get_or vs 0 0) 0
     go false e vs v = refl
     go true e [] v = refl
-    go true e (x ∷ []) v = absurd (done-not a h x (one_answer a (Done x) (eqb-true (number a) 0 e) v))
+    go true e (x ∷ []) v = absurd (h x (one_answer a (Done x) (eqb-true (number a) 0 e) v))
     go true e (x ∷ y ∷ vs) v = sym (ap (λ (t : Bool). cond t x 0) (ne_eqb (length (x ∷ y ∷ vs)) 1 (λ n. omega arith)))

@@ -7,7 +7,6 @@ use mathlib.Core.Bool.{Bool, true, false}
 use mathlib.Core.List.{List, [], ◌∷◌}
 use Rattle.lists.proofs.Tests.{false-true}
 use Rattle.rules.specs.declared.Answer.TheVariants.{NotUnderstood, NotSound}
-use Rattle.rules.specs.Answers.{number, values}
 use Rattle.rules.specs.Requests.{Request}
 use Rattle.tables.specs.declared.Tables.{Tables}
 use Rattle.tables.specs.Sound.{sound}

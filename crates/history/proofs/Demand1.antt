@@ -14,12 +14,10 @@ use Rattle.rules.specs.Rules.{may_start}
 use Rattle.rules.specs.Engine.{beside, made_by, paged_in}
 use Rattle.rules.proofs.shared.ManyTicks.{many-unsound}
 use Rattle.tables.specs.declared.Tables.{Tables}
-use Rattle.tables.specs.Tables.{plain, freshly, smallest, clock_of}
+use Rattle.tables.specs.Tables.{freshly, smallest, clock_of}
 use Rattle.tables.specs.Sound.{sound}
 use Rattle.tables.specs.Calls.{asked, made}
-use Rattle.page.specs.Page.{page}
 use Rattle.page.specs.Paging.{linked}
-use Rattle.console.specs.Line as line
 use Rattle.console.specs.Console.{keyed_in}
 use Rattle.history.specs.Runs.{Made, step, begun}
 use Rattle.history.specs.Runs as calls

@@ -12,12 +12,12 @@ use lib.ListN.{length, get_or}
 use lib.Dec.{eqb}
 use borrow.Author.Tests.{eq-eqb, ne_eqb}
 use Rattle.lists.specs.Lists.{same, count, join, Ascending}
-use Rattle.lists.proofs.Laws.{same_refl, same-ne, same-le, same-eq, ascending-map, count-append}
+use Rattle.lists.proofs.Laws.{same_refl, same-ne, same-eq, ascending-map, count-append}
 use Rattle.records.specs.Records.{Known}
 use Rattle.rules.specs.Book.{Book, state_of, prio_of}
 use Rattle.rules.specs.Keeper.{lists, entries, Entries, State}
 use Rattle.rules.specs.Sound.{Chains}
-use Rattle.rules.specs.Replay.{Before, Fits, Accounts}
+use Rattle.rules.specs.Replay.{Before, Accounts}
 use Rattle.chains.specs.Links.{total}
 use Rattle.chains.proofs.Totals.{total-in}
 use Rattle.tables.proofs.Members.{chained-once}

@@ -3,7 +3,7 @@
 -- Assumes nothing.
 use Prim.Native.Nat.{ℕ, zero, suc, ◌+◌, ◌≤◌}
 use native.Mathlib.Omega.{arith}
-use mathlib.Core.Path.{◌≡◌, refl, sym, ap, ap₂, ◌∙◌, subst}
+use mathlib.Core.Path.{◌≡◌, refl, sym, ap, ◌∙◌}
 use mathlib.Core.Bool.{Bool, true, false}
 use mathlib.Core.List.{List, [], ◌∷◌, ◌++◌, map}
 use lib.ListN.{replicate}
@@ -11,7 +11,7 @@ use Rattle.lists.specs.Lists.{sum, join}
 use Rattle.clock.specs.Clock.{ceiling}
 use Rattle.rules.specs.Requests.{TICK}
 use Rattle.rules.specs.Keeper.{lists, entries, State, after}
-use Rattle.rules.specs.Engine.{Reply, Handed, beside, Engine, after_ticks, sum_of_ticks, ticked_in}
+use Rattle.rules.specs.Engine.{Handed, beside, Engine, after_ticks, sum_of_ticks, ticked_in}
 use Rattle.rules.specs.Sound.{Sound}
 use Rattle.rules.proofs.soundness.SoundRuns.{sound-after}
 use Rattle.rules.proofs.shared.ManyTicks.{Accepted, many-accepted}
@@ -22,11 +22,8 @@ use Rattle.tables.specs.Sound.{sound}
 use Rattle.tables.specs.Calls.{Result}
 use Rattle.tables.proofs.ManyTicks.{tick-laid}
 use Rattle.page.specs.Paging.{linked}
-use Rattle.console.specs.Line.{Line, line_of}
-use Rattle.console.specs.Line as line
-use Rattle.console.specs.Console.{obeyed_in, keyed_in}
+use Rattle.console.specs.Console.{keyed_in}
 use Rattle.history.specs.Runs.{Made, Beginning, begins, lent_to, step, run, outcomes}
-use Rattle.history.specs.Runs as calls
 use Rattle.history.specs.Demand.{replaying, told_of, first_entries, notes_of, AsksTicks, ticks-call, ticks-line, singly, ReadSingly}
 use Rattle.history.proofs.Demand3.{Kept, along, run-kept, run-told, kept-first, kept-begun}
 

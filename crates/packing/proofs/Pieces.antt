@@ -3,15 +3,14 @@
 use Prim.Native.Nat.{ℕ, zero, suc, ◌+◌, ◌*◌, ◌<◌, ◌≤◌}
 use native.Mathlib.Numerals.{add-one}
 use native.Mathlib.Omega.{arith}
-use mathlib.Core.Path.{◌≡◌, refl, sym, ap, subst, ◌∙◌}
+use mathlib.Core.Path.{◌≡◌, refl, ap, subst}
 use mathlib.Core.List.{List, [], ◌∷◌, map, append_assoc, append-nil}
-use lib.ListN.{length, get_or, drop, length-append, length-map, drop_of_length-le}
+use lib.ListN.{length, get_or, drop, length-append, drop_of_length-le}
 use lib.Seq.{drop-cons}
 use mir.Val.{Val}
 use denote.Array.{each}
 use denote.Shadow.{shadow}
 use denote.Struct.Declared.{row}
-use denote.Struct.Field.{u8-field}
 use Rattle.lists.specs.Lists.{hit, join}
 use Rattle.text.specs.Inner.{Wrote}
 use Rattle.text.proofs.Laws.{Left, left-start, left_step, left_end, parts-start, parts-step, parts-end}
@@ -47,11 +46,11 @@ module _ {A : Type 0} (pack : A → List ℕ) (w : ℕ) (xs : List A) where
   items-end h I = left_end I.left (ap (λ (r : List A). join (map pack r)) (drop_of_length-le xs h))
 
 -- the name of each record of an array is as long as its type says
-pub named : (xs : List Program) (us : List Val) (i : ℕ) (d : Program) → shadow (each Program (row the_type).own xs us) → i < length xs
+pub named : (xs : List Program) (us : List Val) (i : ℕ) (d : Program) → shadow (each Program (row the_type).own_val xs us) → i < length xs
     → length (get_or xs i d).name ≡ 5
 named [] us i d g h = absurd (omega arith)
 named (x ∷ xs) [] i d g h = absurd g
-named (x ∷ xs) (u ∷ us) zero d g h = sym (length-map x.name u8-field.into) ∙ g.0.1.1.1.0.1.0.1
+named (x ∷ xs) (u ∷ us) zero d g h = g.0.1.1.1.0.1.0.1
 named (x ∷ xs) (u ∷ us) (suc i) d g h = named xs us i d g.1 (omega arith)
 
 pub resources-length : (xs : List Resource) → length (join (map pack_resource xs)) ≡ 2 * length xs

@@ -1,5 +1,4 @@
-// A reader that keeps the lent page and its place in it: a thin layer over the cursor form. The borrow checker covers no
-// function over such a struct, so each is proved by hand; whoever calls `read_page` is covered again.
+// A reader that keeps the lent page and its place in it: a thin layer over the cursor form.
 ghost use Rattle.std.specs.Prelude.{◌≡◌, drop};
 ghost use Rattle.tables.specs.Calls.{told};
 ghost use Rattle.reader.specs.Reading.{reading};

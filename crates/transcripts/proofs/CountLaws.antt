@@ -1,12 +1,11 @@
 -- Lines counted off up to a place: those counted and those that are left are all of them.
 -- Assumes nothing.
-use Prim.Native.Nat.{ℕ, suc, ◌+◌, ◌-◌, ◌≤◌, ◌<◌}
+use Prim.Native.Nat.{ℕ, ◌+◌, ◌-◌, ◌≤◌, ◌<◌}
 use native.Mathlib.Omega.{arith}
-use mathlib.Core.Path.{◌≡◌, refl, sym, ap, subst, ◌∙◌}
-use mathlib.Core.Bool.{Bool, true, false}
-use mathlib.Core.List.{List, [], ◌∷◌}
+use mathlib.Core.Path.{◌≡◌, ap, subst, ◌∙◌}
+use mathlib.Core.Bool.{true, false}
+use mathlib.Core.List.{List, ◌∷◌}
 use lib.ListN.{length, take, drop}
-use lib.Seq.{slice}
 use Rattle.text.specs.Inner.{PartEnd}
 use Rattle.transcripts.specs.Transcripts.{Line, has_key}
 use Rattle.transcripts.specs.Inner.{line_at, occurrences, Between, here, next, Counted}

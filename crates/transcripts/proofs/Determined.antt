@@ -1,7 +1,7 @@
 -- Each public call's contract determines its outcome: what two outcomes that meet it have in common. Of a part that is the place in memory
 -- and the bytes: the name under which a proof follows a reference is no part of the outcome.
 -- Assumes nothing.
-use Prim.Native.Nat.{ℕ, ◌+◌}
+use Prim.Native.Nat.{ℕ}
 use mathlib.Core.Path.{◌≡◌, sym, ap, ap₂, subst, ◌∙◌}
 use mathlib.Core.List.{List}
 use denote.Ref.{Bor}
@@ -10,7 +10,7 @@ use Rattle.rules.proofs.shared.OneAnswer.{one_answer}
 use Rattle.transcripts.specs.declared.finding.Place.{Place}
 use Rattle.transcripts.specs.declared.finding.Located.{Located}
 use Rattle.transcripts.specs.declared.handing.Found.{Found}
-use Rattle.transcripts.specs.Finding.{Sought, told, sought, PartOf, PartAt, Finds}
+use Rattle.transcripts.specs.Finding.{Sought, told, PartAt, Finds}
 use Rattle.transcripts.specs.Listing.{Filled, answered}
 use Rattle.transcripts.specs.Promises.{SamePart}
 

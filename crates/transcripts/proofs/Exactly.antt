@@ -1,7 +1,7 @@
 -- What is listed is exactly the lines that differ or have no counterpart, each once, upward; nothing is listed exactly where every line
 -- with a key has a counterpart with its bytes; and of a text against itself nothing is. The lines are gone through with those before them.
 -- Assumes nothing.
-use Prim.Native.Nat.{ℕ, zero, suc, ◌+◌, ◌≤◌, ◌<◌}
+use Prim.Native.Nat.{ℕ, suc, ◌+◌, ◌≤◌, ◌<◌}
 use native.Mathlib.Omega.{arith}
 use mathlib.Core.Path.{◌≡◌, refl, sym, ap, subst, ◌∙◌}
 use mathlib.Core.Bool.{Bool, true, false, cond, not}
@@ -14,7 +14,7 @@ use Rattle.lists.proofs.Tests.{false-true, alike-true, alike_refl, alike_is}
 use Rattle.text.proofs.Fields.{alike-not}
 use Rattle.transcripts.specs.Transcripts.{Line, lines_in, key_of}
 use Rattle.transcripts.specs.Listing.{counterpart_of, differs, Listed, listed_behind, listed_lines, numbers_listed}
-use Rattle.transcripts.specs.Promises.{LineOf, Unlike, missing, other, Differs, ListsExactly, AllAlike}
+use Rattle.transcripts.specs.Promises.{Unlike, missing, other, Differs, ListsExactly, AllAlike}
 use Rattle.transcripts.specs.Inner.{occurrences, behind_others}
 use Rattle.transcripts.proofs.KeyLaws.{has_some}
 use Rattle.transcripts.proofs.OccurrenceLaws.{behind-hit, behind-append}

@@ -7,16 +7,16 @@ use mathlib.Core.Bool.{Bool, true, false, cond}
 use mathlib.Core.List.{List, [], ◌∷◌, ◌++◌}
 use mathlib.Core.Option.{Option, none, some}
 use lib.ListN.{length, take, length-append}
-use lib.Seq.{slice, length-slice}
-use Rattle.lists.proofs.Tests.{false-true, clash}
+use lib.Seq.{length-slice}
+use Rattle.lists.proofs.Tests.{clash}
 use Rattle.text.specs.Text.{parts}
-use Rattle.text.specs.Inner.{PartEnd, Wrote}
+use Rattle.text.specs.Inner.{Wrote}
 use Rattle.text.proofs.Laws.{Left, left-start, left_step, left-room, left_end}
 use Rattle.transcripts.specs.declared.listing.Turn.{Turn}
 use Rattle.transcripts.specs.Transcripts.{Line, lines_in, key_of}
 use Rattle.transcripts.specs.Listing.{counterpart_of, differs, Listed, listed_behind, listed_lines, begin_of, figures_of}
 use Rattle.transcripts.specs.Inner.{lines_from, line_at, OnWay, Tells, Turned, TakesTurn, Width, cut, Fills}
-use Rattle.transcripts.proofs.LineLaws.{from-none, from_next, from_start}
+use Rattle.transcripts.proofs.LineLaws.{from-none, from_next}
 use Rattle.transcripts.proofs.WayLaws.{way-start}
 use Rattle.transcripts.proofs.ListLaws.{width-long}
 

@@ -12,7 +12,7 @@ use Rattle.text.specs.Lines.{lines_of}
 use Rattle.text.specs.Inner.{PartEnd}
 use Rattle.text.proofs.Fields.{drop-take}
 use Rattle.text.proofs.Lines.{lines_none, lines_next}
-use Rattle.transcripts.specs.Transcripts.{Line, standing, lines_in}
+use Rattle.transcripts.specs.Transcripts.{standing, lines_in}
 use Rattle.transcripts.specs.Inner.{lines_from, line_at}
 
 pub from-none : (s : List ℕ) (at : ℕ) → length s ≤ at → lines_from s at ≡ []

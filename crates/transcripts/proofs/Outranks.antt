@@ -1,16 +1,13 @@
 -- The original outranks the copy; what is handed back are the line's own bytes; and texts that the reader reads to the same tables have
 -- nothing to list, by what the reader promises alone.
 -- Assumes nothing.
-use Prim.Native.Nat.{ℕ, suc, ◌+◌, ◌-◌, ◌≤◌, ◌<◌}
-use native.Mathlib.Omega.{arith}
-use mathlib.Core.Path.{◌≡◌, refl, sym, ap, ap₂, subst, ◌∙◌}
-use mathlib.Core.Bool.{Bool, true, false, cond, ◌||◌}
-use mathlib.Core.Logic.{◌⊎◌, inl, inr}
+use Prim.Native.Nat.{ℕ}
+use mathlib.Core.Path.{◌≡◌, sym, ap, ap₂, subst, ◌∙◌}
+use mathlib.Core.Bool.{cond, ◌||◌}
 use mathlib.Core.List.{List, [], ◌∷◌}
 use mathlib.Core.Option.{Option, none, some}
-use lib.ListN.{length, get_or, drop}
+use lib.ListN.{length}
 use lib.Dec.{eqb}
-use lib.Seq.{slice}
 use denote.Ref.{Bor}
 use Rattle.tables.specs.declared.Tables.{Tables}
 use Rattle.tables.specs.Calls.{Result}
@@ -22,7 +19,7 @@ use Rattle.transcripts.specs.declared.finding.Mark.TheVariants.{Original, Copy}
 use Rattle.transcripts.specs.declared.finding.Place.{Place}
 use Rattle.transcripts.specs.declared.handing.Found.{Found}
 use Rattle.transcripts.specs.Transcripts.{Line, lines_in, occurrence}
-use Rattle.transcripts.specs.Finding.{Sought, told, refused, found_or, sought, marked, within, PartOf, PartAt, Finds}
+use Rattle.transcripts.specs.Finding.{Sought, refused, found_or, sought, marked, within, PartOf, PartAt, Finds}
 use Rattle.transcripts.specs.Listing.{numbers_listed}
 use Rattle.transcripts.specs.Promises.{StandsIn, OwnBytes}
 use Rattle.transcripts.proofs.FindingLaws.{searches, within-is}

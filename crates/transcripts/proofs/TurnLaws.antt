@@ -1,15 +1,15 @@
 -- One line on: what is looked for from a line on is the line, or is looked for behind its end.
 -- Assumes nothing.
-use Prim.Native.Nat.{ℕ, suc, ◌+◌, ◌-◌, ◌≤◌, ◌<◌}
+use Prim.Native.Nat.{ℕ, ◌+◌, ◌-◌, ◌≤◌, ◌<◌}
 use native.Mathlib.Omega.{arith}
-use mathlib.Core.Path.{◌≡◌, refl, sym, ap, ◌∙◌}
+use mathlib.Core.Path.{◌≡◌, sym, ap, ◌∙◌}
 use mathlib.Core.Bool.{Bool, true, false}
-use mathlib.Core.List.{List, [], ◌∷◌}
+use mathlib.Core.List.{List}
 use mathlib.Core.Option.{Option, none, some}
 use lib.ListN.{length, take, drop}
 use lib.Seq.{slice}
 use Rattle.text.specs.Inner.{PartEnd}
-use Rattle.transcripts.specs.Transcripts.{Line, key_of, has_key}
+use Rattle.transcripts.specs.Transcripts.{key_of, has_key}
 use Rattle.transcripts.specs.Inner.{lines_from, line_at, behind_others, first_or, first_keyed}
 use Rattle.transcripts.proofs.LineLaws.{from-none, from_next, part-taken}
 use Rattle.transcripts.proofs.KeyLaws.{key-none, key-some}

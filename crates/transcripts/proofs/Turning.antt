@@ -1,16 +1,15 @@
 -- What a turn comes to, by the way it went: a line without a key; the next line of the copy with a key; no line ahead; a counterpart that
 -- is counted off.
 -- Assumes nothing.
-use Prim.Native.Nat.{ℕ, ◌+◌, ◌-◌, ◌≤◌, ◌<◌}
+use Prim.Native.Nat.{ℕ, ◌+◌, ◌-◌, ◌<◌}
 use native.Mathlib.Omega.{arith}
 use mathlib.Core.Path.{◌≡◌, refl, sym, ap, ap₂, subst, ◌∙◌}
-use mathlib.Core.Bool.{Bool, true, false}
+use mathlib.Core.Bool.{true, false}
 use mathlib.Core.List.{List, [], ◌∷◌, ◌++◌}
 use mathlib.Core.Option.{Option, none, some}
 use lib.ListN.{length, take, drop}
 use lib.Seq.{slice}
 use Rattle.text.specs.Inner.{PartEnd}
-use Rattle.transcripts.specs.declared.lines.Spot.{Spot}
 use Rattle.transcripts.specs.declared.lines.Spot.TheVariants.{At, Nowhere}
 use Rattle.transcripts.specs.declared.listing.Held.{Held}
 use Rattle.transcripts.specs.declared.listing.Turn.{Turn}
@@ -58,13 +57,13 @@ module _ (o c : List ℕ) (at base other e : ℕ) (h : at < length o) (p : PartE
   keyless-here b = record {
     end = p;
     right = λ before w. record {
-      tells = silent before _ refl;
+      tells = silent before (record { end = e; listed = false; begins = 0; base = e + 1; other = other }) refl;
       onward = steps w e h p b [] other refl (ap (λ (k : Option (List ℕ)). on_keys k []) none-there);
     };
   }
 
   pub keyless : TakesTurn o c at base other (record { end = e; listed = false; begins = 0; base = base; other = other })
-  keyless = record { end = p; right = λ before w. record { tells = silent before _ refl; onward = stays w e h p } }
+  keyless = record { end = p; right = λ before w. record { tells = silent before (record { end = e; listed = false; begins = 0; base = base; other = other }) refl; onward = stays w e h p } }
 
 -- a line with one
 module _ (o c : List ℕ) (at e : ℕ) (key : List ℕ) (l : KeyedLine o at e key) (other : ℕ) where
@@ -109,7 +108,7 @@ module _ (o c : List ℕ) (at e : ℕ) (key : List ℕ) (l : KeyedLine o at e ke
   missing-one s = record {
     end = p;
     right = λ before w. record {
-      tells = told before _ none (first-ahead before w ∙ gone) refl;
+      tells = told before (record { end = e; listed = true; begins = length c; base = e + 1; other = other }) none (first-ahead before w ∙ gone) refl;
       onward = passes w e h p refl key l.key gone;
     };
   }
@@ -157,7 +156,7 @@ module _ (o c : List ℕ) (at e : ℕ) (key : List ℕ) (l : KeyedLine o at e ke
     next_one r g = record {
       end = p;
       right = λ before w. record {
-        tells = told before _ (some y) (its before w)
+        tells = told before (record { end = e; listed = r.listed; begins = r.begins; base = e + 1; other = f + 1 }) (some y) (its before w)
             (g ∙ ap₂ (λ (i j : ℕ). held_at (slice at e o) c (At i j)) (sym spotted.begins) (sym spotted.ends)
             ∙ held-is c (line_at o at e) (some y) stands);
         onward = steps w e h p refl (first.passed ++ (y ∷ [])) (f + 1) on-to same_keys;

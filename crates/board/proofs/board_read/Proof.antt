@@ -13,51 +13,40 @@ use Rattle.board.proofs.ReadingBack.{read-not, read_short, read_done}
 use Rattle.board.proofs.board_read.Statement.{statement}
 use Rattle.board.proofs.board_read.Tie as tie
 
-returns : tie.Need-returns
+returns : tie.Need-returns-then-answer-lt-FIGURES_LENGTH
 returns c =
-    let a = c.before.before.before.before.args in
-    read-not a.page.now a.tables.now a.answer.now c.if1.true
+    let a = c.args in
+    read-not a.page.now a.tables.now a.answer.now c.if-answer-lt-FIGURES_LENGTH.true
 
-returns-2 : tie.Need-returns-2
+returns-2 : tie.Need-returns-then-tables-lt-PACKED_LENGTH
 returns-2 c =
-    let w = c.before.before in
-    let h = w.before.before in
-    let e = h.before in
-    let a = e.before.before.before.before.args in
-    read_short a.page.now a.tables.now a.answer.now e.if1.false w.tell.result w.tell.new.0 h.if2.true
-    w.tell.ensures.0 w.tell.ensures.1
+    let a = c.args in
+    read_short a.page.now a.tables.now a.answer.now c.if-answer-lt-FIGURES_LENGTH.false c.tell.result c.tell.new.buf c.if-tables-lt-PACKED_LENGTH.true
+    c.tell.ensures.0 c.tell.ensures.1
 
 -- the tables read
-arrays : (c : tie.After-read-page) → Arrays c.read-page.result.tables
+arrays : (c : tie.After-read_page-r) → Arrays c.read_page-r.result.tables
 arrays c = record {
-  programs = sym (length-map c.read-page.result.tables.ledger.programs (program.the_field).into)
-      ∙ c.read-page.type-inv.1.1.1.0.1.1.0.1.1.0.1.0.1;
+  programs = sym (length-map c.read_page-r.result.tables.ledger.programs (program.the_field).into)
+      ∙ c.read_page-r.type-inv.1.1.1.0.1.1.0.1.1.0.1.0.1;
   links = search rules;
-  holders = sym (length-map c.read-page.result.tables.ledger.tracks.holders u8-field.into)
-      ∙ c.read-page.type-inv.1.1.1.0.1.1.0.1.1.1.1.0.1.1.1.1.0.1.0.1;
-  resources = sym (length-map c.read-page.result.tables.ledger.numbers.resources (resource.the_field).into)
-      ∙ c.read-page.type-inv.1.1.1.0.1.1.0.1.1.1.1.1.0.1.1.1.0.1.0.1;
+  holders = sym (length-map c.read_page-r.result.tables.ledger.tracks.holders u8-field.into)
+      ∙ c.read_page-r.type-inv.1.1.1.0.1.1.0.1.1.1.1.0.1.1.1.1.0.1.0.1;
+  resources = sym (length-map c.read_page-r.result.tables.ledger.numbers.resources (resource.the_field).into)
+      ∙ c.read_page-r.type-inv.1.1.1.0.1.1.0.1.1.1.1.1.0.1.1.1.0.1.0.1;
 }
 
-long : (c : tie.After-read-page) → length (packed c.read-page.result.tables) ≡ packed_length
+long : (c : tie.After-read_page-r) → length (packed c.read_page-r.result.tables) ≡ packed_length
 long c =
-    let g = c.read-page.type-inv.1.1.1.0.1.1.0.1.1.0 in
-    packed-length c.read-page.result.tables (arrays c) (named-each c.read-page.result.tables.ledger.programs g.0 g.1.1)
+    let g = c.read_page-r.type-inv.1.1.1.0.1.1.0.1.1.0 in
+    packed-length c.read_page-r.result.tables (arrays c) (named-each c.read_page-r.result.tables.ledger.programs g.0 g.1.1)
 
-returns-3 : tie.Need-returns-3
+returns-3 : tie.Need-returns
 returns-3 c =
-    let w = c.before.before in
-    let v = w.before.before.before.before in
-    let k = v.before.before.before in
-    let h = k.before in
-    let e = h.before in
-    let a = e.before.before.before.before.args in
-    read_done a.page.now a.tables.now a.answer.now e.if1.false k.read-page.result v.put-tables.new.0
-    w.tell2.new.0 v.put-tables.result w.tell2.result h.if2.false k.read-page.ensures (long k)
-    v.put-tables.ensures w.tell2.ensures.0 w.tell2.ensures.1
+    let a = c.args in
+    read_done a.page.now a.tables.now a.answer.now c.if-answer-lt-FIGURES_LENGTH.false c.read_page-r.result c.put_tables.new.buf
+    c.tell-2.new.buf c.put_tables.result c.tell-2.result c.if-tables-lt-PACKED_LENGTH.false c.read_page-r.ensures (long c.before.before.before.before.before.before.before.before.before)
+    c.put_tables.ensures c.tell-2.ensures.0 c.tell-2.ensures.1
 
-pub board-read-spec : {M : Type 1} → statement M
-board-read-spec =
-    tie.close
-    (tie.spec returns (λ c κs. search rules) (λ c. search rules) returns-2 (λ c κs. search rules) (λ c κs. search rules)
-    (λ c κs. search rules) (λ c. search rules) (λ c. search rules) returns-3)
+pub board_read_spec : {M : Type 1} → statement M
+board_read_spec = tie.close (tie.spec returns (λ c κs. search rules) (λ c. search rules) returns-2 (λ c κs. search rules) (λ c κs. search rules) (λ c κs. search rules) (λ c. search rules) (λ c. search rules) returns-3)

@@ -22,187 +22,154 @@ use Rattle.board.proofs.Running.{needed-small, run-keep, put-room, run-put, run_
 use Rattle.board.proofs.board_run.Statement.{statement}
 use Rattle.board.proofs.board_run.Tie as tie
 
-abbrev invariant-loop : tie.invariant-loop
+abbrev invariant-loop : tie.invariant-loop-from
 invariant-loop text out₀ answer tables₀ space₀ from₀ used₀ needed₀ is-full₀ out tables space from used needed is-full =
     Run text out₀ out tables from used needed is-full × (length space ≡ page_room)
 
-abbrev decreases-loop : tie.decreases-loop
+abbrev decreases-loop : tie.decreases-loop-from
 decreases-loop text out₀ answer tables₀ space₀ from₀ used₀ needed₀ is-full₀ out tables space from used needed is-full = length text - from
 
-returns : tie.Need-returns invariant-loop decreases-loop
+returns : tie.Need-returns-then-text-gt-LONGEST_TEXT invariant-loop decreases-loop
 returns c =
-    let w = c.before.before in
-    let h = w.before.before in
-    let a = h.before.before.before.before.args in
-    (λ i. record { number = w.tell.ensures.0 i; buffer = a.out.now; answer = w.tell.ensures.1 i })
-    ∙ sym (ran_over a.text.now a.out.now a.answer.now h.if1.true)
+    let a = c.args in
+    (λ i. record { number = c.tell.ensures.0 i; buffer = a.out.now; answer = c.tell.ensures.1 i })
+    ∙ sym (ran_over a.text.now a.out.now a.answer.now c.if-text-gt-LONGEST_TEXT.true)
 
-returns-2 : tie.Need-returns-2 invariant-loop decreases-loop
+returns-2 : tie.Need-returns-then-answer-lt-FIGURES_LENGTH invariant-loop decreases-loop
 returns-2 c =
-    let e = c.before in
-    let a = e.before.before.before.before.args in
+    let a = c.args in
     ap (λ (x : List ℕ). record { number = 12; buffer = a.out.now; answer = x })
-    (sym (answering-not 12 (0 ∷ []) a.answer.now c.if2.true))
-    ∙ sym (ran-short a.text.now a.out.now a.answer.now e.if1.false c.if2.true)
+    (sym (answering-not 12 (0 ∷ []) a.answer.now c.if-answer-lt-FIGURES_LENGTH.true))
+    ∙ sym (ran-short a.text.now a.out.now a.answer.now c.if-text-gt-LONGEST_TEXT.false c.if-answer-lt-FIGURES_LENGTH.true)
 
-loop-holds : tie.Need-loop-init invariant-loop decreases-loop
+loop-holds : tie.Need-loop-from-init invariant-loop decreases-loop
 loop-holds c =
-    let f = c.before in
-    let a = f.before.before.before.before.before.before.args in (
-      run-start a.text.now a.out.now f.fresh.result.tables (made-smallest f.fresh.result f.fresh.ensures),
+    let a = c.args in (
+      run-start a.text.now a.out.now c.fresh-first.result.tables (made-smallest c.fresh-first.result c.fresh-first.ensures),
       length-replicate {A = ℕ} page_room 0,
     )
 
--- back from where a line's end was found to where its turn began, and to the start
-abbrev Turned : tie.After-line-end invariant-loop decreases-loop → tie.At-loop invariant-loop decreases-loop
-Turned c = c.before.before
-
-abbrev Started : tie.At-loop invariant-loop decreases-loop → tie.Start invariant-loop decreases-loop
-Started c = c.before.before.before.before.before.before.before.before
-
-ends : (c : tie.After-line-end invariant-loop decreases-loop) → LineEnd (Started (Turned c)).args.text.now (Turned c).loop.from c.line-end.result
+ends : (c : tie.After-line_end-end invariant-loop decreases-loop) → LineEnd c.args.text.now c.loop-from.from c.line_end-end.result
 ends c =
-    let s = (Started (Turned c)).args.text.now in
-    let from = (Turned c).loop.from in
-    subst (λ (e : ℕ). LineEnd s from e) (sym c.line-end.ensures) (line-end s from)
+    let s = c.args.text.now in
+    let from = c.loop-from.from in
+    subst (λ (e : ℕ). LineEnd s from e) (sym c.line_end-end.ensures) (line-end s from)
 
-low : (c : tie.After-line-end invariant-loop decreases-loop) → (Turned c).loop.from ≤ c.line-end.result
-low c = let h = c.before.loop-test.true in ((ends c).line (omega (arith, h))).low
+low : (c : tie.After-line_end-end invariant-loop decreases-loop) → c.loop-from.from ≤ c.line_end-end.result
+low c = let h = c.loop-from-test.true in ((ends c).line (omega (arith, h))).low
 
-sub-print-line : tie.Need-overflow-sub-print-line invariant-loop decreases-loop
+sub-print-line : tie.Need-slice_bounds-print_line-count invariant-loop decreases-loop
 sub-print-line c = low c
 
-part-print-line-start : tie.Need-slice-bounds-print-line-start invariant-loop decreases-loop
+part-print-line-start : tie.Need-slice_bounds-print_line-start invariant-loop decreases-loop
 part-print-line-start c = low c
 
-part-print-line-end : tie.Need-slice-bounds-print-line-end invariant-loop decreases-loop
+part-print-line-end : tie.Need-slice_bounds-print_line-end invariant-loop decreases-loop
 part-print-line-end c = (ends c).high
 
-slice-aggregate-print-line : tie.Need-slice-aggregate-print-line invariant-loop decreases-loop
-slice-aggregate-print-line c = sym (Turned c.before.before).loop.inv.1
-
--- back from where a line is printed to where its end was found, to where its turn began, and to the start
-abbrev Ended : tie.After-bytes-printed invariant-loop decreases-loop → tie.After-line-end invariant-loop decreases-loop
-Ended c = c.before.before.before.before.before.before
-
-abbrev Begun : tie.After-bytes-printed invariant-loop decreases-loop → tie.At-loop invariant-loop decreases-loop
-Begun c = Turned (Ended c)
-
-abbrev S : tie.After-bytes-printed invariant-loop decreases-loop → tie.Start invariant-loop decreases-loop
-S c = Started (Begun c)
+slice-aggregate-print-line : tie.Need-slice_bounds-print_line-end-in-loop-from invariant-loop decreases-loop
+slice-aggregate-print-line c = sym c.loop-from.invariant.1
 
 -- how many bytes it shows as, the tables after it, and the space
-abbrev N : tie.After-bytes-printed invariant-loop decreases-loop → ℕ
-N c = c.bytes-printed.result
+abbrev N : tie.After-bytes_printed-n invariant-loop decreases-loop → ℕ
+N c = c.bytes_printed-n.result
 
-abbrev After : tie.After-bytes-printed invariant-loop decreases-loop → Tables
-After c = c.before.before.before.print-line.result.tables
+abbrev After : tie.After-bytes_printed-n invariant-loop decreases-loop → Tables
+After c = c.print_line-printed.result.tables
 
-abbrev Space : tie.After-bytes-printed invariant-loop decreases-loop → List ℕ
-Space c = c.before.before.before.print-line.new.1.1.0
+abbrev Space : tie.After-bytes_printed-n invariant-loop decreases-loop → List ℕ
+Space c = c.print_line-printed.new.out
 
-space-same : (c : tie.After-bytes-printed invariant-loop decreases-loop) → length (Space c) ≡ page_room
-space-same c = omega (arith, (Begun c).loop.invariant.1)
+space-same : (c : tie.After-bytes_printed-n invariant-loop decreases-loop) → length (Space c) ≡ page_room
+space-same c = omega (arith, c.loop-from.invariant.1)
 
-shows : (c : tie.After-bytes-printed invariant-loop decreases-loop)
-    → Shows (Begun c).loop.tables (slice (Begun c).loop.from (Ended c).line-end.result (S c).args.text.now) (N c)
+shows : (c : tie.After-bytes_printed-n invariant-loop decreases-loop)
+    → Shows c.loop-from.tables (slice c.loop-from.from c.line_end-end.result c.args.text.now) (N c)
     (After c) (Space c)
 shows c =
-    let l = (Begun c).loop in
-    let p = c.before.before.before.print-line in
-    let s = (S c).args.text.now in
-    let e = (Ended c).line-end.result in
-    subst (λ (x : List ℕ). Shows l.tables x (N c) (After c) (Space c)) (line_taken s l.from e (low (Ended c)))
-    (line-printed l.tables (take (e - l.from) (drop l.from s)) l.space (omega (arith, l.inv.1)) p.result (N c) (Space c)
-    p.ensures c.bytes-printed.ensures
-    (space-same c ∙ sym l.inv.1))
+    let l = c.loop-from in
+    let p = c.print_line-printed in
+    let s = c.args.text.now in
+    let e = c.line_end-end.result in
+    subst (λ (x : List ℕ). Shows l.tables x (N c) (After c) (Space c)) (line_taken s l.from e (low c.before.before.before.before.before.before))
+    (line-printed l.tables (take (e - l.from) (drop l.from s)) l.space (omega (arith, l.invariant.1)) p.result (N c) (Space c)
+    p.ensures c.bytes_printed-n.ensures
+    (space-same c ∙ sym l.invariant.1))
 
-turn : (c : tie.After-bytes-printed invariant-loop decreases-loop)
-    → Turn (S c).args.text.now (S c).args.out.now (Begun c).loop.out (Begun c).loop.tables (Begun c).loop.from
-    (Begun c).loop.used (Begun c).loop.needed (Begun c).loop.is-full
-    (Ended c).line-end.result (N c) (After c) (Space c)
+turn : (c : tie.After-bytes_printed-n invariant-loop decreases-loop)
+    → Turn c.args.text.now c.args.out.now c.loop-from.out c.loop-from.tables c.loop-from.from
+    c.loop-from.used c.loop-from.needed c.loop-from.is-full
+    c.line_end-end.result (N c) (After c) (Space c)
 turn c = record {
-  run = (Begun c).loop.invariant.0;
-  more = (Ended c).before.loop-test.true;
-  ends = ends (Ended c);
+  run = c.loop-from.invariant.0;
+  more = c.loop-from-test.true;
+  ends = ends c.before.before.before.before.before.before;
   shows = shows c;
   long = space-same c;
 }
 
-sub-if3 : tie.Need-overflow-sub-if3 invariant-loop decreases-loop
-sub-if3 c = let r = (Begun c).loop.invariant.0 in omega (arith, r.fits, r.left.same)
+sub-if3 : tie.Need-overflow_sub-out invariant-loop decreases-loop
+sub-if3 c = let r = c.loop-from.invariant.0 in omega (arith, r.fits, r.left.same)
 
 -- where the line is put there was room for it, and for all before it
-unfilled : (c : tie.Then4 invariant-loop decreases-loop) → (Begun c.before.before).loop.is-full ≡ false
+unfilled : (c : tie.Then-not-is_full invariant-loop decreases-loop) → c.loop-from.is-full ≡ false
 unfilled c =
-    elim c.before.if3.branch [
-      | inl w ↦ clash w.1 (not-true c.before.if3.is-full c.if4.true)
-      | inr w ↦ sym w.1 ∙ not-true c.before.if3.is-full c.if4.true
+    elim c.if-out-used.branch [
+      | inl w ↦ clash w.1 (not-true c.if-out-used.is-full c.if-not-is_full.true)
+      | inr w ↦ sym w.1 ∙ not-true c.if-out-used.is-full c.if-not-is_full.true
     ]
 
-fit : (c : tie.Then4 invariant-loop decreases-loop)
-    → N c.before.before ≤ length (Begun c.before.before).loop.out - (Begun c.before.before).loop.used
+fit : (c : tie.Then-not-is_full invariant-loop decreases-loop)
+    → N c.before.before ≤ length c.loop-from.out - c.loop-from.used
 fit c =
-    elim c.before.if3.branch [
-      | inl w ↦ clash w.1 (not-true c.before.if3.is-full c.if4.true)
+    elim c.if-out-used.branch [
+      | inl w ↦ clash w.1 (not-true c.if-out-used.is-full c.if-not-is_full.true)
       | inr w ↦ w.0.left
     ]
 
-array-share-prefix-space : tie.Need-array-share-prefix-space invariant-loop decreases-loop
+array-share-prefix-space : tie.Need-slice_bounds-space-end invariant-loop decreases-loop
 array-share-prefix-space c = (shows c.before.before.before).within
 
-slice-aggregate-put-bytes : tie.Need-slice-aggregate-put-bytes invariant-loop decreases-loop
+slice-aggregate-put-bytes : tie.Need-slice_bounds-put_bytes-end invariant-loop decreases-loop
 slice-aggregate-put-bytes c =
-    let d = c.before.before.before.before in
-    sym (length-take-le (N d) (Space d) (shows d).within)
+    sym (length-take-le (N c.before.before.before.before) (Space c.before.before.before.before) (shows c.before.before.before.before).within)
 
-put-bytes-requires : tie.Need-put-bytes-requires invariant-loop decreases-loop
-put-bytes-requires c κs = let t = c.before.before in put-room (turn t.before.before) (unfilled t) (fit t)
+put-bytes-requires : tie.Need-put_bytes-used-requires invariant-loop decreases-loop
+put-bytes-requires c κs = put-room (turn c.before.before.before.before) (unfilled c.before.before) (fit c.before.before)
 
-add-from : tie.Need-overflow-add-from invariant-loop decreases-loop
+add-from : tie.Need-overflow_add-from invariant-loop decreases-loop
 add-from c =
-    let d = c.before.before in
-    omega (arith, (ends (Ended d)).high, (Begun d).before.before.before.before.if1.false)
+    omega (arith, (ends c.before.before.before.before.before.before.before.before).high, c.if-text-gt-LONGEST_TEXT.false)
 
-loop-less : tie.Need-loop-smaller invariant-loop decreases-loop
-loop-less c = let e = Ended c.before.before in omega (arith, low e, e.before.loop-test.taken)
+loop-less : tie.Need-loop-from-smaller invariant-loop decreases-loop
+loop-less c = omega (arith, low c.before.before.before.before.before.before.before.before, c.loop-from-test.true)
 
-loop-again : tie.Need-loop-preserved invariant-loop decreases-loop
+loop-again : tie.Need-loop-from-preserved invariant-loop decreases-loop
 loop-again c =
-    let j = c.before in
-    let full = j.if3.is-full in (
-      elim c.if4.branch [
+    let full = c.if-out-used.is-full in (
+      elim c.if-not-is_full.branch [
         | inl w ↦
-            let t : tie.Then4 invariant-loop decreases-loop = record { before = j; if4 = w.0 } in
-            run-as w.6 w.7 (run-put (turn j.before) (unfilled t) (fit t) full (not-true full w.0.taken) w.3.last.0
+            let t : tie.Then4 invariant-loop decreases-loop = record { before = c.before; if4 = w.0 } in
+            run-as w.6 w.7 (run-put (turn c.before.before) (unfilled t) (fit t) full (not-true full w.0.taken) w.3.last.0
             w.3.result w.3.ensures)
         | inr w ↦
             let is = not-false full w.0.left in
             run-as w.1 w.2
-            (run-keep (turn j.before) full is (elim j.if3.branch [ inl v ↦ inr v.0.taken | inr v ↦ inl (sym v.1 ∙ is) ]))
+            (run-keep (turn c.before.before) full is (elim c.if-out-used.branch [ inl v ↦ inr v.0.taken | inr v ↦ inl (sym v.1 ∙ is) ]))
       ],
-      space-same j.before,
+      space-same c.before.before,
     )
 
-same-length-2 : tie.Need-same-length-2 invariant-loop decreases-loop
-same-length-2 c = c.before.before.before.before.before.loop.invariant.0.left.same
+same-length-2 : tie.Need-shape_of-out invariant-loop decreases-loop
+same-length-2 c = c.loop-from.invariant.0.left.same
 
-returns-3 : tie.Need-returns-3 invariant-loop decreases-loop
+returns-3 : tie.Need-returns invariant-loop decreases-loop
 returns-3 c =
-    let w = c.before.before in
-    let x = w.before.before in
-    let l = x.before.loop in
-    let h = x.before.before.before.before in
-    let a = (Started x.before).args in
+    let l = c.loop-from in
+    let a = c.args in
     run_end a.text.now a.out.now a.answer.now l.out l.tables l.from l.used l.needed l.is-full l.invariant.0
-    x.loop-test.false
-    w.put-counts.new.0 w.put-counts.result h.before.if1.false h.if2.false w.put-counts.ensures
+    c.loop-from-test.false
+    c.put_counts.new.buf c.put_counts.result c.if-text-gt-LONGEST_TEXT.false c.if-answer-lt-FIGURES_LENGTH.false c.put_counts.ensures
 
-pub board-run-spec : {M : Type 1} → statement M
-board-run-spec =
-    tie.close
-    (tie.spec invariant-loop decreases-loop (λ c κs. search rules) (λ c. search rules) returns returns-2 (λ c. search rules) (λ c κs. search rules)
-    loop-holds (λ c κs. search rules) sub-print-line part-print-line-start part-print-line-end slice-aggregate-print-line
-    (λ c κs. search rules) (λ c κs. search rules) (λ c. omega (arith, needed-small (turn c), (ends (Ended c)).high)) sub-if3
-    array-share-prefix-space slice-aggregate-put-bytes put-bytes-requires add-from loop-less loop-again (λ c κs. search rules)
-    same-length-2 (λ c. search rules) returns-3)
+pub board_run_spec : {M : Type 1} → statement M
+board_run_spec = tie.close (tie.spec invariant-loop decreases-loop (λ c κs. search rules) (λ c. search rules) returns returns-2 (λ c. search rules) (λ c κs. search rules) loop-holds (λ c κs. search rules) sub-print-line part-print-line-start part-print-line-end slice-aggregate-print-line (λ c κs. search rules) (λ c κs. search rules) (λ c. omega (arith, needed-small (turn c), (ends c.before.before.before.before.before.before).high)) sub-if3 array-share-prefix-space slice-aggregate-put-bytes put-bytes-requires add-from loop-less loop-again (λ c κs. search rules) same-length-2 (λ c. search rules) returns-3)

@@ -31,43 +31,36 @@ after-0 s =
     let a = plain s.args.tables in
     (s, todo-start (pieces (λ ls. ls) (parts a)) (page-pieces a) (omega (arith, s.requires.room)))
 
-abbrev after-1 : (c : tie.After-put-heading) → From 1 c.put-heading.new.0 c.put-heading.result
+abbrev after-1 : (c : tie.After-put_heading-a) → From 1 c.put_heading-a.new.buf c.put_heading-a.result
 after-1 c =
     let d = after-0 c.before.before.before.before.before.before.before.before.before.before in
-    (d.0, todo-step d.1 (wrote_as (ap (head d.0) (sym c.before.before.count-used.ensures)) c.put-heading.ensures))
+    (d.0, todo-step d.1 (wrote_as (ap (head d.0) (sym c.count_used-used.ensures)) c.put_heading-a.ensures))
 
-abbrev after-2 : (c : tie.After-put-records) → From 2 c.put-records.new.0 c.put-records.result
-after-2 c = let d = after-1 c.before.before.before.before in (d.0, todo-step d.1 c.put-records.ensures)
+abbrev after-2 : (c : tie.After-put_records-b) → From 2 c.put_records-b.new.buf c.put_records-b.result
+after-2 c = let d = after-1 c.before.before.before.before in (d.0, todo-step d.1 c.put_records-b.ensures)
 
-abbrev after-3 : (c : tie.After-put-chains) → From 3 c.put-chains.new.0 c.put-chains.result
-after-3 c = let d = after-2 c.before.before.before.before in (d.0, todo-step d.1 c.put-chains.ensures)
+abbrev after-3 : (c : tie.After-put_chains-c) → From 3 c.put_chains-c.new.buf c.put_chains-c.result
+after-3 c = let d = after-2 c.before.before.before.before in (d.0, todo-step d.1 c.put_chains-c.ensures)
 
-abbrev after-4 : (c : tie.After-put-runs) → From 4 c.put-runs.new.0 c.put-runs.result
-after-4 c = let d = after-3 c.before.before.before.before in (d.0, todo-step d.1 c.put-runs.ensures)
+abbrev after-4 : (c : tie.After-put_runs-d) → From 4 c.put_runs-d.new.buf c.put_runs-d.result
+after-4 c = let d = after-3 c.before.before.before.before in (d.0, todo-step d.1 c.put_runs-d.ensures)
 
-abbrev after-5 : (c : tie.After-put-resources) → From 5 c.put-resources.new.0 c.put-resources.result
-after-5 c = let d = after-4 c.before.before.before.before in (d.0, todo-step d.1 c.put-resources.ensures)
+abbrev after-5 : (c : tie.After-put_resources-e) → From 5 c.put_resources-e.new.buf c.put_resources-e.result
+after-5 c = let d = after-4 c.before.before.before.before in (d.0, todo-step d.1 c.put_resources-e.ensures)
 
-abbrev after-6 : (c : tie.After-put-entry) → From 6 c.put-entry.new.0 c.put-entry.result
+abbrev after-6 : (c : tie.After-put_entry) → From 6 c.put_entry.new.buf c.put_entry.result
 after-6 c =
-    let d = after-5 c.before.before.before.before.before.before in
-    (d.0, todo-step d.1 (wrote_as (bytes-line (line end_key (text "page"))) c.put-entry.ensures))
+    let d = after-5 c.before.before.before.before.before.before.before.before in
+    (d.0, todo-step d.1 (wrote_as (bytes-line (line end_key (text "page"))) c.put_entry.ensures))
 
-put-heading-requires : tie.Need-put-heading-requires
+put-heading-requires : tie.Need-put_heading-a-requires
 put-heading-requires c κs =
     let d = after-0 c.before.before.before.before.before.before.before.before.before in
-    omega (arith, ap (λ (n : ℕ). length (head d.0 n)) c.before.count-used.ensures, todo-room d.1)
+    omega (arith, ap (λ (n : ℕ). length (head d.0 n)) c.count_used-used.ensures, todo-room d.1)
 
-put-entry-requires : tie.Need-put-entry-requires
+put-entry-requires : tie.Need-put_entry-requires
 put-entry-requires c κs =
-    omega (arith, ap length (bytes-line (line end_key (text "page"))), todo-room (after-5 c.before.before.before.before.before).1)
+    omega (arith, ap length (bytes-line (line end_key (text "page"))), todo-room (after-5 c.before.before.before.before.before.before.before).1)
 
-pub put-page-spec : {M : Type 1} → statement M
-put-page-spec =
-    tie.close
-    (tie.spec (λ c κs. search rules) put-heading-requires (λ c κs. todo-room (after-1 c.before.before.before).1)
-    (λ c κs. todo-room (after-2 c.before.before.before).1)
-    (λ c κs. let d = after-3 c.before.before.before in (d.0.pre.tracks, todo-room d.1))
-    (λ c κs. let d = after-4 c.before.before.before in (d.0.pre.numbers, todo-room d.1)) (λ c. search rules)
-    (λ c. search rules) put-entry-requires (λ c. todo-same (after-6 c.before.before).1)
-    (λ c. todo-end (after-6 c.before.before).1))
+pub put_page_spec : {M : Type 1} → statement M
+put_page_spec = tie.close (tie.spec (λ c κs. search rules) put-heading-requires (λ c κs. todo-room (after-1 c.before.before.before).1) (λ c κs. todo-room (after-2 c.before.before.before).1) (λ c κs. let d = after-3 c.before.before.before in (d.0.requires.tracks, todo-room d.1)) (λ c κs. let d = after-4 c.before.before.before in (d.0.requires.numbers, todo-room d.1)) put-entry-requires (λ c. todo-same (after-6 c.before.before).1) (λ c. todo-end (after-6 c.before.before).1))

@@ -13,96 +13,80 @@ use Rattle.blocks.proofs.Going.{Going, going_start, going-over, going-length, go
 use Rattle.blocks.proofs.turning.print_block.Statement.{statement}
 use Rattle.blocks.proofs.turning.print_block.Tie as tie
 
-abbrev invariant-loop : tie.invariant-loop
+abbrev invariant-loop : tie.invariant-loop-end
 invariant-loop block at out₀ last₀ from₀ used₀ end₀ out last from used end =
     (end ≡ line_end block from) × Going last₀.tables block at out₀ out last.tables from used
 
-abbrev decreases-loop : tie.decreases-loop
+abbrev decreases-loop : tie.decreases-loop-end
 decreases-loop block at out₀ last₀ from₀ used₀ end₀ out last from used end = length block - from
 
-abbrev S : tie.At-loop invariant-loop decreases-loop → tie.Start invariant-loop decreases-loop
-S c = c.before.before.before.before
+ends : (c : tie.At-loop-end invariant-loop decreases-loop) → LineEnd c.args.block.now c.loop-end.from c.loop-end.end
+ends c = subst (LineEnd c.args.block.now c.loop-end.from) (sym c.loop-end.invariant.0) (line-end c.args.block.now c.loop-end.from)
 
-ends : (c : tie.At-loop invariant-loop decreases-loop) → LineEnd (S c).args.block.now c.loop.from c.loop.end
-ends c = subst (LineEnd (S c).args.block.now c.loop.from) (sym c.loop.invariant.0) (line-end (S c).args.block.now c.loop.from)
+low : (c : tie.In-loop-end invariant-loop decreases-loop) → c.loop-end.from ≤ c.loop-end.end
+low c = ((ends c.before).line (line-within (ends c.before) c.loop-end-test.true)).low
 
-low : (c : tie.In-loop invariant-loop decreases-loop) → c.before.loop.from ≤ c.before.loop.end
-low c = ((ends c.before).line (line-within (ends c.before) c.loop-test.true)).low
+room-left : (c : tie.Else-out-used-lt-PAGE_ROOM invariant-loop decreases-loop) → page_room ≤ length c.args.out.now - c.loop-end.used
+room-left c = omega (arith, going-length c.loop-end.invariant.1)
 
-room-left : (c : tie.Else1 invariant-loop decreases-loop) → page_room ≤ length (S c.before.before).args.out.now - c.before.before.loop.used
-room-left c = omega (arith, going-length c.before.before.loop.invariant.1)
-
-small : (c : tie.After-slice-known invariant-loop decreases-loop) → length c.before.before.args.out.now < 18446744073709551616
+small : (c : tie.After-slice_known-1 invariant-loop decreases-loop) → length c.args.out.now < 18446744073709551616
 small c = search rules
 
-abbrev Entered : tie.After-bytes-printed invariant-loop decreases-loop → tie.Else1 invariant-loop decreases-loop
-Entered c = c.before.before.before.before.before.before
-
-fitting : (c : tie.After-bytes-printed invariant-loop decreases-loop)
-    → (Entered c).before.before.loop.used + c.bytes-printed.result ≤ length (S (Entered c).before.before).args.out.now
+fitting : (c : tie.After-bytes_printed-used invariant-loop decreases-loop)
+    → c.loop-end.used + c.bytes_printed-used.result ≤ length c.args.out.now
 fitting c =
-    let i = (Entered c).before in
-    let p = c.before.before.before in
-    going-fits i.before.loop.inv.1 i.before.loop.end (ends i.before) i.loop-test.taken (room-left (Entered c))
-    p.print-line.result p.print-line.new.1.1.0 (search rules) p.print-line.ensures c.bytes-printed.result
-    c.bytes-printed.ensures
+    going-fits c.loop-end.invariant.1 c.loop-end.end (ends c.before.before.before.before.before.before.before.before.before) c.loop-end-test.true (room-left c.before.before.before.before.before.before.before)
+    c.print_line-last.result c.print_line-last.new.out (search rules) c.print_line-last.ensures c.bytes_printed-used.result
+    c.bytes_printed-used.ensures
 
-loop-holds : tie.Need-loop-init invariant-loop decreases-loop
+loop-holds : tie.Need-loop-end-init invariant-loop decreases-loop
 loop-holds c =
-    let a = c.before.before.before.args in
-    (c.line-end.ensures, going_start a.tables a.block.now a.at a.out.now)
+    let a = c.args in
+    (c.line_end-end.ensures, going_start a.tables a.block.now a.at a.out.now)
 
-sub-if1 : tie.Need-overflow-sub-if1 invariant-loop decreases-loop
-sub-if1 c = omega (arith, going-length c.before.loop.invariant.1)
+sub-if1 : tie.Need-overflow_sub-out invariant-loop decreases-loop
+sub-if1 c = omega (arith, going-length c.loop-end.invariant.1)
 
-same_length : tie.Need-same-length invariant-loop decreases-loop
-same_length c = going-length c.before.before.before.loop.invariant.1
+same_length : tie.Need-shape_of-out-then-out-used-lt-PAGE_ROOM invariant-loop decreases-loop
+same_length c = going-length c.loop-end.invariant.1
 
-returns : tie.Need-returns invariant-loop decreases-loop
+returns : tie.Need-returns-then-out-used-lt-PAGE_ROOM invariant-loop decreases-loop
 returns c =
-    let l = c.before.before.before in
-    going-over l.loop.invariant.1 (turn-full l.loop.last.tables _ l.loop.from _ (omega (arith, going-length l.loop.invariant.1)))
+    going-over c.loop-end.invariant.1 (turn-full c.loop-end.last.tables _ c.loop-end.from _ (omega (arith, going-length c.loop-end.invariant.1)))
 
-sub-print-line : tie.Need-overflow-sub-print-line invariant-loop decreases-loop
-sub-print-line c = low c.before
+sub-print-line : tie.Need-slice_bounds-print_line-count invariant-loop decreases-loop
+sub-print-line c = low c.before.before
 
-part-print-line-start : tie.Need-slice-bounds-print-line-start invariant-loop decreases-loop
-part-print-line-start c = low c.before
+part-print-line-start : tie.Need-slice_bounds-print_line-start invariant-loop decreases-loop
+part-print-line-start c = low c.before.before
 
-sub-print-line-2 : tie.Need-overflow-sub-print-line-2 invariant-loop decreases-loop
-sub-print-line-2 c = omega (arith, going-length c.before.before.before.loop.invariant.1)
+sub-print-line-2 : tie.Need-slice_bounds-print_line-count-in-loop-end invariant-loop decreases-loop
+sub-print-line-2 c = omega (arith, going-length c.loop-end.invariant.1)
 
-part-print-line-start-2 : tie.Need-slice-bounds-print-line-start-2 invariant-loop decreases-loop
-part-print-line-start-2 c = omega (arith, going-length c.before.before.before.loop.invariant.1)
+part-print-line-start-2 : tie.Need-slice_bounds-print_line-start-in-loop-end invariant-loop decreases-loop
+part-print-line-start-2 c = omega (arith, going-length c.loop-end.invariant.1)
 
-add-used : tie.Need-overflow-add-used invariant-loop decreases-loop
-add-used c = record { fits = omega (arith, fitting c, small (Entered c).before.before.before.before) }
+add-used : tie.Need-overflow_add-used invariant-loop decreases-loop
+add-used c = record { fits = omega (arith, fitting c, small c.before.before.before.before.before.before.before.before.before.before.before) }
 
-loop-less : tie.Need-loop-smaller invariant-loop decreases-loop
-loop-less c = omega (arith, low (Entered c.before).before)
+loop-less : tie.Need-loop-end-smaller invariant-loop decreases-loop
+loop-less c = omega (arith, low c.before.before.before.before.before.before.before.before.before)
 
-loop-again : tie.Need-loop-preserved invariant-loop decreases-loop
-loop-again c =
-    let i = (Entered c.before).before in
-    let p = c.before.before.before.before in (
-      c.line-end2.ensures,
-      going-line i.before.loop.inv.1 i.before.loop.end (ends i.before) i.loop-test.taken (room-left (Entered c.before))
-          p.print-line.result p.print-line.new.1.1.0 (search rules) p.print-line.ensures c.before.bytes-printed.result
-          c.before.bytes-printed.ensures,
-    )
+loop-again : tie.Need-loop-end-preserved invariant-loop decreases-loop
+loop-again c = (
+  c.line_end-end-in-loop-end.ensures,
+  going-line c.loop-end.invariant.1 c.loop-end.end (ends c.before.before.before.before.before.before.before.before.before.before) c.loop-end-test.true (room-left c.before.before.before.before.before.before.before.before)
+      c.print_line-last.result c.print_line-last.new.out (search rules) c.print_line-last.ensures c.bytes_printed-used.result
+      c.bytes_printed-used.ensures,
+)
 
-same-length-2 : tie.Need-same-length-2 invariant-loop decreases-loop
-same-length-2 c = going-length c.before.before.loop.invariant.1
+same-length-2 : tie.Need-shape_of-out invariant-loop decreases-loop
+same-length-2 c = going-length c.loop-end.invariant.1
 
-returns-2 : tie.Need-returns-2 invariant-loop decreases-loop
+returns-2 : tie.Need-returns invariant-loop decreases-loop
 returns-2 c =
-    let l = c.before.before in
-    going-over l.loop.invariant.1 (turn-none l.loop.last.tables _ l.loop.from _
-    (no_lines (S l).args.block.now l.loop.from l.loop.end (ends l) (omega (arith, (ends l).high))))
+    going-over c.loop-end.invariant.1 (turn-none c.loop-end.last.tables _ c.loop-end.from _
+    (no_lines c.args.block.now c.loop-end.from c.loop-end.end (ends c.before.before) (omega (arith, (ends c.before.before).high))))
 
-pub print-block-spec : {M : Type 1} → statement M
-print-block-spec =
-    tie.close
-    (tie.spec invariant-loop decreases-loop (λ c κs. search rules) loop-holds sub-if1 same_length returns sub-print-line part-print-line-start
-    (λ c. search rules) sub-print-line-2 part-print-line-start-2 (λ c. search rules) (λ c κs. search rules) (λ c κs. search rules)
-    add-used (λ c. search rules) (λ c κs. search rules) loop-less loop-again same-length-2 returns-2)
+pub print_block_spec : {M : Type 1} → statement M
+print_block_spec = tie.close (tie.spec invariant-loop decreases-loop (λ c κs. search rules) loop-holds sub-if1 same_length returns sub-print-line part-print-line-start (λ c. search rules) sub-print-line-2 part-print-line-start-2 (λ c. search rules) (λ c κs. search rules) (λ c κs. search rules) add-used (λ c. search rules) (λ c κs. search rules) loop-less loop-again same-length-2 returns-2)

@@ -4,11 +4,9 @@ use Prim.Native.Nat.{ℕ, ◌≤◌}
 use mathlib.Core.Path.{◌≡◌, sym, ap, ◌∙◌}
 use mathlib.Core.Bool.{true}
 use mathlib.Core.List.{List}
-use lib.ListN.{length, length-map}
+use lib.ListN.{length}
 use borrow.Author.Rules.{rules}
 use Rattle.limits.specs.Limits.{page_room}
-use Rattle.records.specs.contracts.Program as program
-use Rattle.records.specs.contracts.Resource as resource
 use Rattle.tables.specs.Tables.{plain, Arrays}
 use Rattle.tables.specs.Sound.{sound}
 use Rattle.tables.specs.Calls.{told}
@@ -20,7 +18,6 @@ use Rattle.page.proofs.Room.{page-room}
 use Rattle.console.specs.Line.{PAGE, line_of}
 use Rattle.console.specs.Console.{keyed}
 use Rattle.console.specs.Inner.{obeys}
-use Rattle.console.proofs.AnswerLaws.{done-not}
 use Rattle.console.proofs.KeyLaws.{keyed-obeys, obeys-page}
 use Rattle.console.proofs.WordLaws.{page-line}
 use Rattle.console.proofs.OneLine.{printed-page, printed-room, printed-answer}
@@ -29,65 +26,48 @@ use Rattle.console.proofs.keying.print_page.Tie as tie
 
 arrays : (s : tie.Start) → Arrays s.args.tables
 arrays s = record {
-  programs = sym (length-map s.args.tables.ledger.programs (program.the_field).into) ∙ s.well-formed.0.1.1.0.1.1.0.1.0.1;
+  programs = search rules;
   links = search rules;
   holders = search rules;
-  resources = sym (length-map s.args.tables.ledger.numbers.resources (resource.the_field).into)
-      ∙ s.well-formed.0.1.1.0.1.1.1.1.1.0.1.1.1.0.1.0.1;
+  resources = search rules;
 }
 
 -- no page is longer than what is lent
 fits : (s : tie.Start) → sound s.args.tables ≡ true → length (page (plain s.args.tables)) ≤ page_room
 fits s e = let t = s.args.tables in page-room (plain t) (sound-plain t (arrays s) (sound-clauses t e))
 
-abbrev S : tie.After-write-page → tie.Start
-S w = w.before.before.before
-
-abbrev After : tie.After-write-page → List ℕ
-After w = w.write-page.new.1.0
+abbrev After : tie.After-write_page-outcome → List ℕ
+After w = w.write_page-outcome.new.buf
 
 -- what a line that asks for the page comes to
-same : (w : tie.After-write-page) (l : List ℕ) → line_of l ≡ PAGE
-    → beside (After w) (told w.write-page.result) ≡ keyed (S w).args.tables l (S w).args.out.now
+same : (w : tie.After-write_page-outcome) (l : List ℕ) → line_of l ≡ PAGE
+    → beside (After w) (told w.write_page-outcome.result) ≡ keyed w.args.tables l w.args.out.now
 same w l p =
-    let a = (S w).args in
-    w.write-page.ensures
+    let a = w.args in
+    w.write_page-outcome.ensures
     ∙ sym (obeys-page a.tables a.out.now)
     ∙ ap (obeys a.tables a.out.now) (sym p)
     ∙ sym (keyed-obeys a.tables l a.out.now)
 
--- back from where the answer is told apart
-abbrev Written : tie.After-after → tie.After-write-page
-Written k = k.before.before.before
-
-returns : tie.Need-returns
+returns : tie.Need-returns-in-Done
 returns c =
-    let w = Written c.before.before in
-    let a = (S w).args in
-    let d = c.enum_told.given in
+    let a = c.args in
     λ l p.
-    printed-page a.tables l a.out.now (S w).pre (λ q. fits (S w)) w.write-page.result (After w) (same w l p) d.0.0 p d.1
+    printed-page a.tables l a.out.now c.requires (λ q. fits c.before.before.before.before.before.before.before) c.write_page-outcome.result (After c.before.before.before.before) (same c.before.before.before.before l p) c.in-Done.field-0 p c.in-Done.is
 
-put-answer-requires : tie.Need-put-answer-requires
+put-answer-requires : tie.Need-put_answer-length-requires
 put-answer-requires c κs =
-    let k = c.before in
-    let w = Written k.before in
-    let a = (S w).args in
-    printed-room a.tables _ a.out.now (S w).pre (λ q. fits (S w)) w.write-page.result (After w) (same w _ page-line)
-    (λ q. done-not w.write-page.result.answer k.match.keys2)
+    let a = c.args in
+    printed-room a.tables _ a.out.now c.requires (λ q. fits c.before.before.before.before.before.before.before.before) c.write_page-outcome.result (After c.before.before.before.before.before) (same c.before.before.before.before.before _ page-line)
+    (λ q. c.in_default.not-Done)
 
-returns-2 : tie.Need-returns-2
+returns-2 : tie.Need-returns
 returns-2 c =
-    let u = c.before.before in
-    let k = u.before.before in
-    let w = Written k.before in
-    let a = (S w).args in
+    let a = c.args in
     λ l p.
-    printed-answer a.tables l a.out.now (S w).pre (λ q. fits (S w)) w.write-page.result (After w) (same w l p)
-    (λ q. done-not w.write-page.result.answer k.match.keys2)
-    u.put-answer.new.0 u.put-answer.result u.put-answer.ensures
+    printed-answer a.tables l a.out.now c.requires (λ q. fits c.before.before.before.before.before.before.before.before.before.before.before) c.write_page-outcome.result (After c.before.before.before.before.before.before.before.before) (same c.before.before.before.before.before.before.before.before l p)
+    (λ q. c.in_default.not-Done)
+    c.put_answer-length.new.buf c.put_answer-length.result c.put_answer-length.ensures
 
-pub print-page-spec : {M : Type 1} → statement M
-print-page-spec =
-    tie.close
-    (tie.spec (λ c κs. search rules) (λ c. search rules) (λ c. search rules) returns put-answer-requires (λ c. search rules) returns-2)
+pub print_page_spec : {M : Type 1} → statement M
+print_page_spec = tie.close (tie.spec (λ c κs. search rules) (λ c. search rules) (λ c. search rules) returns put-answer-requires (λ c. search rules) returns-2)

@@ -11,38 +11,30 @@ use Rattle.console.proofs.WordLaws.{ended-as}
 use Rattle.console.proofs.parse.end_of.Statement.{statement}
 use Rattle.console.proofs.parse.end_of.Tie as tie
 
-abbrev Fields : tie.After-word-of → List (List ℕ)
-Fields w = let a = w.before.before.args in fields_from a.s.now a.at
+abbrev Fields : tie.After-word_of-word → List (List ℕ)
+Fields w = let a = w.args in fields_from a.s.now a.at
 
 -- behind the name
-abbrev Behind : tie.After-word-of → List ℕ → Form
-Behind w nm = counted w.word_of.result.2 w.word_of.result.5 (request w.before.before.args.last nm)
+abbrev Behind : tie.After-word_of-word → List ℕ → Form
+Behind w nm = counted w.word_of-word.result.2 w.word_of-word.result.5 (request w.args.last nm)
 
 -- by the word's row
-ends : (w : tie.After-word-of) {named : Bool} → w.word_of.result.1 ≡ named
-    → ended w.before.before.args.last (Fields w) ≡ taking named w.word_of.result.2 w.word_of.result.5 w.before.before.args.last (Fields w)
-ends w h = ended-as w.before.before.args.last w.word_of.ensures h (Fields w)
+ends : (w : tie.After-word_of-word) {named : Bool} → w.word_of-word.result.1 ≡ named
+    → ended w.args.last (Fields w) ≡ taking named w.word_of-word.result.2 w.word_of-word.result.5 w.args.last (Fields w)
+ends w h = ended-as w.args.last w.word_of-word.ensures h (Fields w)
 
-returns : tie.Need-returns
+returns : tie.Need-returns-in_default
 returns c =
-    let n = c.before.before.before in
-    let w = n.before.before in
-    c.not-said.ensures
-    ∙ sym (ends w n.before.if1.true ∙ name-told n.name-field.ensures c.before.enum_told.given.1 (Behind w))
+    c.not_said.ensures
+    ∙ sym (ends c.before.before.before.before c.if-word.true ∙ name-told c.name_field.ensures c.in_default.is (Behind c.before.before.before.before))
 
-returns-2 : tie.Need-returns-2
+returns-2 : tie.Need-returns-then-word
 returns-2 c =
-    let k = c.before.before in
-    let n = k.before.before.before in
-    let w = n.before.before in
-    c.with-numbers.ensures
-    ∙ sym (ends w n.before.if1.true ∙ name-told n.name-field.ensures k.before.a.given.1 (Behind w))
+    c.with_numbers.ensures
+    ∙ sym (ends c.before.before.before.before.before c.if-word.true ∙ name-told c.name_field.ensures c.in-Is.is (Behind c.before.before.before.before.before))
 
-returns-3 : tie.Need-returns-3
-returns-3 c = c.with-numbers2.ensures ∙ sym (ends c.before.before.before c.before.before.if1.false)
+returns-3 : tie.Need-returns
+returns-3 c = c.with_numbers-2.ensures ∙ sym (ends c.before.before.before c.if-word.false)
 
-pub end-of-spec : {M : Type 1} → statement M
-end-of-spec =
-    tie.close
-    (tie.spec (λ c κs. search rules) (λ c κs. search rules) (λ c. search rules) (λ c. search rules) (λ c κs. search rules) returns
-    (λ c. search rules) (λ c κs. search rules) returns-2 (λ c. search rules) (λ c κs. search rules) returns-3)
+pub end_of_spec : {M : Type 1} → statement M
+end_of_spec = tie.close (tie.spec (λ c κs. search rules) (λ c κs. search rules) (λ c. search rules) (λ c. search rules) (λ c κs. search rules) returns (λ c. search rules) (λ c κs. search rules) returns-2 (λ c. search rules) (λ c κs. search rules) returns-3)

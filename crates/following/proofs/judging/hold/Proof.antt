@@ -28,81 +28,75 @@ use Rattle.following.proofs.judging.hold.Tie as tie
 
 arrays : (s : tie.Start) → Arrays s.args.tables
 arrays s = record {
-  programs = sym (length-map s.args.tables.ledger.programs (program.the_field).into) ∙ s.well-formed.0.1.1.0.1.1.0.1.0.1;
+  programs = search rules;
   links = search rules;
   holders = search rules;
-  resources = sym (length-map s.args.tables.ledger.numbers.resources (resource.the_field).into)
-      ∙ s.well-formed.0.1.1.0.1.1.1.1.1.0.1.1.1.0.1.0.1;
+  resources = search rules;
 }
 
 -- what the reading's number says
-abbrev Text : tie.After-number-of → List ℕ
-Text c = c.before.before.before.args.next.now
+abbrev Text : tie.After-number_of → List ℕ
+Text c = c.args.next.now
 
-number_is : (c : tie.After-number-of) → (reading (Text c)).number ≡ c.number_of.result
-number_is c = sym (c.number_of.ensures ∙ ap (λ (r : Result). r.number) c.before.read-page.ensures)
+number_is : (c : tie.After-number_of) → (reading (Text c)).number ≡ c.number_of.result
+number_is c = sym (c.number_of.ensures ∙ ap (λ (r : Result). r.number) c.read_page-given.ensures)
 
-not-read : (c : tie.Then1) → (reading (Text c.before)).number ≢ 0
-not-read c e = c.if1.true (sym (number_is c.before) ∙ e)
+not-read : (c : tie.Then-number_of-ne0) → (reading (Text c.before)).number ≢ 0
+not-read c e = c.if-number_of-ne0.true (sym (number_is c.before) ∙ e)
 
-is_read : (c : tie.Else1) → (reading (Text c.before)).number ≡ 0
-is_read c = omega (arith, number_is c.before, c.if1.false)
+is_read : (c : tie.Else-number_of-ne0) → (reading (Text c.before)).number ≡ 0
+is_read c = omega (arith, number_is c.before, c.if-number_of-ne0.false)
 
-fits : (c : tie.After-space) → CanPage c.before.before.before.before.before.args.tables (replicate {A = ℕ} page_room 0)
+fits : (c : tie.After-space-1) → CanPage c.args.tables (replicate {A = ℕ} page_room 0)
 fits c =
-    let s = c.before.before.before.before.before in
-    can-page s.args.tables (replicate {A = ℕ} page_room 0) (arrays s) s.requires
+    can-page c.args.tables (replicate {A = ℕ} page_room 0) (arrays c.before.before.before.before.before) c.requires
     (omega (arith, length-replicate {A = ℕ} page_room 0))
 
-within : (c : tie.After-put-page) → c.put-page.result ≤ length c.put-page.new.0
-within c = omega (arith, c.put-page.ensures.place, wrote-length c.put-page.ensures, (fits c.before).room)
+within : (c : tie.After-put_page-n) → c.put_page-n.result ≤ length c.put_page-n.new.buf
+within c = omega (arith, c.put_page-n.ensures.place, wrote-length c.put_page-n.ensures, (fits c.before).room)
 
-begins : (c : tie.After-put-page) → take c.put-page.result c.put-page.new.0
-    ≡ page (plain c.before.before.before.before.before.before.args.tables)
-begins c = wrote-take c.put-page.ensures (fits c.before).room
+begins : (c : tie.After-put_page-n) → take c.put_page-n.result c.put_page-n.new.buf
+    ≡ page (plain c.args.tables)
+begins c = wrote-take c.put_page-n.ensures (fits c.before).room
 
 -- what was compared
-alike_is : (c : tie.After-rest-is)
-    → let a = c.before.before.before.before.before.before.before.before.before.args in
-    alike a.next.now (page (plain a.tables)) ≡ c.rest-is.result
+alike_is : (c : tie.After-rest_is)
+    → let a = c.args in
+    alike a.next.now (page (plain a.tables)) ≡ c.rest_is.result
 alike_is c =
-    let a = c.before.before.before.before.before.before.before.before.before.args in
-    ap (alike a.next.now) (sym (begins c.before.before.before)) ∙ sym c.rest-is.ensures
+    let a = c.args in
+    ap (alike a.next.now) (sym (begins c.before.before.before)) ∙ sym c.rest_is.ensures
 
-returns : tie.Need-returns
+returns : tie.Need-returns-then-number_of-ne0
 returns c =
-    let s = c.before.before.before.before.before in
-    let next = s.args.next.now in
+    let next = c.args.next.now in
     let n = not-read c.before in
     let r = not-page next n in
-    let told = c.before.before.before.read-page.ensures ∙ r in
-    ap tell.NoNext (c.bad-line.ensures (refused_at (reading next)) (ap (λ (x : Result). x.number) told)
+    let told = c.read_page-given.ensures ∙ r in
+    ap tell.NoNext (c.bad_line.ensures (refused_at (reading next)) (ap (λ (x : Result). x.number) told)
     (ap (λ (x : Result). x.values) told))
-    ∙ sym (ap briefly (held-not s.args.tables next n))
+    ∙ sym (ap briefly (held-not c.args.tables next n))
 
-held : (c : tie.After-rest-is)
-    → let a = c.before.before.before.before.before.before.before.before.before.args in
+held : (c : tie.After-rest_is)
+    → let a = c.args in
     held_against a.tables a.next.now ≡ compared (page (plain a.tables)) a.next.now
 held c =
-    let a = c.before.before.before.before.before.before.before.before.before.args in
+    let a = c.args in
     held-is a.tables a.next.now (is_read c.before.before.before.before.before)
 
-returns-2 : tie.Need-returns-2
+returns-2 : tie.Need-returns-then-rest_is
 returns-2 c =
-    let a = c.before.before.before.before.before.before.before.before.before.before.args in
+    let a = c.args in
     sym (ap briefly (held c.before
     ∙ compared_same (page (plain a.tables)) a.next.now
-    (other_way a.next.now (page (plain a.tables)) true (alike_is c.before ∙ c.if2.true))))
+    (other_way a.next.now (page (plain a.tables)) true (alike_is c.before ∙ c.if-rest_is.true))))
 
-returns-3 : tie.Need-returns-3
+returns-3 : tie.Need-returns
 returns-3 c =
-    let a = c.before.before.before.before.before.before.before.before.before.before.args in
+    let a = c.args in
     sym (ap briefly (held c.before
     ∙ compared-other (page (plain a.tables)) a.next.now
-    (other_way a.next.now (page (plain a.tables)) false (alike_is c.before ∙ c.if2.false))))
+    (other_way a.next.now (page (plain a.tables)) false (alike_is c.before ∙ c.if-rest_is.false))))
 
-pub hold-spec : {M : Type 1} → statement M
-hold-spec =
-    tie.close
-    (tie.spec (λ c κs. search rules) (λ c κs. search rules) (λ c κs. search rules) returns (λ c. search rules) (λ c κs. fits c)
-    (λ c. within c.before) (λ c. sym (length-take-le _ _ (within c.before.before))) (λ c κs. search rules) returns-2 returns-3)
+pub hold_spec : {M : Type 1} → statement M
+hold_spec = tie.close (tie.spec (λ c κs. search rules) (λ c κs. search rules) (λ c κs. search rules) returns (λ c. search rules) (λ c κs. fits c) (λ c. within c.before) (λ c. sym (length-take-le _ _ (within c.before.before))) (λ c κs. search rules) returns-2 returns-3)

@@ -22,38 +22,33 @@ use Rattle.following.proofs.Judged.{not-page, first-not, first-is}
 use Rattle.following.proofs.judging.judge.Statement.{statement}
 use Rattle.following.proofs.judging.judge.Tie as tie
 
-abbrev Begun : tie.After-number-of → tie.Start
-Begun c = c.before.before.before.before.before
+number_is : (c : tie.After-number_of) → (reading c.args.first.now).number ≡ c.number_of.result
+number_is c = sym (c.number_of.ensures ∙ ap (λ (r : Result). r.number) c.read_page-read.ensures)
 
-number_is : (c : tie.After-number-of) → (reading (Begun c).args.first.now).number ≡ c.number_of.result
-number_is c = sym (c.number_of.ensures ∙ ap (λ (r : Result). r.number) c.before.read-page.ensures)
-
-is_read : (c : tie.Else1) → (reading (Begun c.before).args.first.now).number ≡ 0
-is_read c = omega (arith, number_is c.before, c.if1.false)
+is_read : (c : tie.Else-number_of-ne0) → (reading c.args.first.now).number ≡ 0
+is_read c = omega (arith, number_is c.before, c.if-number_of-ne0.false)
 
 -- the tables after the lines
-ended : (c : tie.After-key-lines)
-    → let a = (Begun c.before.before).args in
-    c.key-lines.result ≡ tables_after (reading a.first.now).tables (lines_of a.requests.now)
+ended : (c : tie.After-key_lines-after)
+    → let a = c.args in
+    c.key_lines-after.result ≡ tables_after (reading a.first.now).tables (lines_of a.requests.now)
 ended c =
-    let b = c.before.before in
-    let a = (Begun b).args in
-    c.key-lines.ensures ∙ ap (λ (r : Result). tables_after r.tables (lines_of a.requests.now)) b.before.read-page.ensures
+    let a = c.args in
+    c.key_lines-after.ensures ∙ ap (λ (r : Result). tables_after r.tables (lines_of a.requests.now)) c.read_page-read.ensures
 
-returns : tie.Need-returns
+returns : tie.Need-returns-then-number_of-ne0
 returns c =
-    let b = c.before.before in
-    let a = (Begun b).args in
-    let n : (reading a.first.now).number ≢ 0 = λ e. c.before.if1.true (sym (number_is b) ∙ e) in
-    let told = b.before.read-page.ensures ∙ not-page a.first.now n in
-    ap tell.NoFirst (c.bad-line.ensures (refused_at (reading a.first.now)) (ap (λ (x : Result). x.number) told)
+    let a = c.args in
+    let n : (reading a.first.now).number ≢ 0 = λ e. c.if-number_of-ne0.true (sym (number_is c.before.before) ∙ e) in
+    let told = c.read_page-read.ensures ∙ not-page a.first.now n in
+    ap tell.NoFirst (c.bad_line.ensures (refused_at (reading a.first.now)) (ap (λ (x : Result). x.number) told)
     (ap (λ (x : Result). x.values) told))
     ∙ sym (ap briefly (first-not a.first.now (lines_of a.requests.now) a.next.now n))
 
 hold-requires : tie.Need-hold-requires
 hold-requires c κs =
-    let a = (Begun c.before.before).args in
-    let e = is_read c.before in
+    let a = c.args in
+    let e = is_read c.before.before in
     subst (λ (t : Tables). sound t ≡ true) (sym (ended c))
     (after-good (lines_of a.requests.now) (reading a.first.now).tables
     (record {
@@ -61,15 +56,12 @@ hold-requires c κs =
       arrays = accepted-arrays a.first.now e;
     })).test
 
-returns-2 : tie.Need-returns-2
+returns-2 : tie.Need-returns
 returns-2 c =
-    let k = c.before in
-    let a = (Begun k.before.before).args in
+    let a = c.args in
     c.hold.ensures
-    ∙ ap briefly (ap (λ (t : Tables). held_against t a.next.now) (ended k)
-    ∙ sym (first-is a.first.now (lines_of a.requests.now) a.next.now (is_read k.before)))
+    ∙ ap briefly (ap (λ (t : Tables). held_against t a.next.now) (ended c.before)
+    ∙ sym (first-is a.first.now (lines_of a.requests.now) a.next.now (is_read c.before.before.before)))
 
-pub judge-spec : {M : Type 1} → statement M
-judge-spec =
-    tie.close
-    (tie.spec (λ c κs. search rules) (λ c κs. search rules) (λ c κs. search rules) returns (λ c κs. search rules) hold-requires returns-2)
+pub judge_spec : {M : Type 1} → statement M
+judge_spec = tie.close (tie.spec (λ c κs. search rules) (λ c κs. search rules) (λ c κs. search rules) returns (λ c κs. search rules) hold-requires returns-2)

@@ -16,30 +16,17 @@ key s = text chain_key ++ decimal s.args.state
 abbrev value : tie.Start → List ℕ
 value s = between 44 (map decimal (take s.args.chain.len s.args.chain.ids))
 
-opened : (k : tie.After-put-byte)
-    → let s = k.before.before.before.before.before.before.before.before.before in
-    Todo s.args.buf.now s.args.at (entry (key s) (value s)) k.put_byte.new.0 k.put_byte.result (value s ∷ (10 ∷ []) ∷ [])
+opened : (k : tie.After-put_byte-b)
+    → Todo k.args.buf.now k.args.at (entry (key k.before.before.before.before.before.before.before.before.before.before) (value k.before.before.before.before.before.before.before.before.before.before)) k.put_byte-b.new.buf k.put_byte-b.result (value k.before.before.before.before.before.before.before.before.before.before ∷ (10 ∷ []) ∷ [])
 opened k =
-    let s = k.before.before.before.before.before.before.before.before.before in
-    entry-todo (key s) (value s) s.requires.1 (wrote_then _ _ k.before.before.before.before.put-coded.ensures k.put_byte.ensures)
+    entry-todo (key k.before.before.before.before.before.before.before.before.before.before) (value k.before.before.before.before.before.before.before.before.before.before) k.requires.1 (wrote_then _ _ k.put_coded-a.ensures k.put_byte-b.ensures)
 
 returns : tie.Need-returns
 returns c =
-    let e = c.before.before in
-    let v = e.before.before.before.before in
-    todo-end (todo-step (todo-step (opened v.before.before.before.before) v.put-joined.ensures) e.put-byte2.ensures)
+    todo-end (todo-step (todo-step (opened c.before.before.before.before.before.before.before.before.before.before) c.put_joined-c.ensures) c.put_byte.ensures)
 
-pub put-chain-spec : {M : Type 1} → statement M
-put-chain-spec =
-    tie.close
-    (tie.spec (λ c. search rules)
-    (λ c κs. let s = c.before.before.before.before in omega (arith, entry_length (key s) (value s), s.requires.1))
-    (λ c κs. let s = c.before.before.before.before.before.before.before.before in
-    omega (arith, entry_length (key s) (value s), s.requires.1))
-    (λ c κs. (
-      c.before.before.before.before.before.before.before.before.before.before.before.before.requires.0,
-      todo-room (opened c.before.before.before),
-    ))
-    (λ c κs. let v = c.before.before.before in
-    todo-room (todo-step (opened v.before.before.before.before) v.put-joined.ensures))
-    (λ c. search rules) returns)
+pub put_chain_spec : {M : Type 1} → statement M
+put_chain_spec = tie.close (tie.spec (λ c κs. omega (arith, entry_length (key c.before.before.before.before.before) (value c.before.before.before.before.before), c.requires.1)) (λ c κs. omega (arith, entry_length (key c.before.before.before.before.before.before.before.before.before) (value c.before.before.before.before.before.before.before.before.before), c.requires.1)) (λ c κs. (
+  c.requires.0,
+  todo-room (opened c.before.before.before),
+)) (λ c κs. todo-room (todo-step (opened c.before.before.before.before.before.before.before) c.put_joined-c.ensures)) (λ c. search rules) returns)

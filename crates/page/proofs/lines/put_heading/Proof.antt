@@ -1,6 +1,5 @@
 -- `lines::put_heading` meets its contract: after each call the lines from the next on are left, among them what the year adds. Assumes nothing.
 use Prim.Native.Nat.{ℕ}
-use borrow.Author.Rules.{rules}
 use mathlib.Core.List.{List, [], ◌∷◌, ◌++◌, map}
 use lib.ListN.{drop}
 use Rattle.text.specs.Text.{text, decimal}
@@ -32,35 +31,26 @@ From k l at = (s : tie.Start) × Todo s.args.buf.now s.args.at (bytes (head s)) 
 abbrev after-0 : (s : tie.Start) → From 0 s.args.buf.now s.args.at
 after-0 s = (s, todo-start (all s) (lines-between (opening s) (year_line s.args.year) (sized s)) s.requires)
 
-abbrev after-1 : (c : tie.After-put-entry) → From 1 c.put-entry.new.0 c.put-entry.result
-after-1 c = let d = after-0 c.before.before.before.before.before in (d.0, todo-step d.1 c.put-entry.ensures)
+abbrev after-1 : (c : tie.After-put_entry-a) → From 1 c.put_entry-a.new.buf c.put_entry-a.result
+after-1 c = let d = after-0 c.before.before.before.before.before.before.before in (d.0, todo-step d.1 c.put_entry-a.ensures)
 
-abbrev after-2 : (c : tie.After-put-figure) → From 2 c.put-figure.new.0 c.put-figure.result
-after-2 c = let d = after-1 c.before.before.before.before.before in (d.0, todo-step d.1 c.put-figure.ensures)
+abbrev after-2 : (c : tie.After-put_figure-b) → From 2 c.put_figure-b.new.buf c.put_figure-b.result
+after-2 c = let d = after-1 c.before.before.before.before.before.before in (d.0, todo-step d.1 c.put_figure-b.ensures)
 
-abbrev after-3 : (c : tie.After-put-year-line) → From 3 c.put-year-line.new.0 c.put-year-line.result
-after-3 c = let d = after-2 c.before.before.before.before in (d.0, todo-step d.1 c.put-year-line.ensures)
+abbrev after-3 : (c : tie.After-put_year_line-c) → From 3 c.put_year_line-c.new.buf c.put_year_line-c.result
+after-3 c = let d = after-2 c.before.before.before.before in (d.0, todo-step d.1 c.put_year_line-c.ensures)
 
-abbrev after-4 : (c : tie.After-put-figure2) → From 4 c.put-figure2.new.0 c.put-figure2.result
-after-4 c = let d = after-3 c.before.before.before.before.before in (d.0, todo-step d.1 c.put-figure2.ensures)
+abbrev after-4 : (c : tie.After-put_figure-d) → From 4 c.put_figure-d.new.buf c.put_figure-d.result
+after-4 c = let d = after-3 c.before.before.before.before.before.before in (d.0, todo-step d.1 c.put_figure-d.ensures)
 
-abbrev after-5 : (c : tie.After-put-figure3) → From 5 c.put-figure3.new.0 c.put-figure3.result
-after-5 c = let d = after-4 c.before.before.before.before.before in (d.0, todo-step d.1 c.put-figure3.ensures)
+abbrev after-5 : (c : tie.After-put_figure-e) → From 5 c.put_figure-e.new.buf c.put_figure-e.result
+after-5 c = let d = after-4 c.before.before.before.before.before.before in (d.0, todo-step d.1 c.put_figure-e.ensures)
 
-abbrev after-6 : (c : tie.After-put-figure4) → From 6 c.put-figure4.new.0 c.put-figure4.result
-after-6 c = let d = after-5 c.before.before.before.before.before in (d.0, todo-step d.1 c.put-figure4.ensures)
+abbrev after-6 : (c : tie.After-put_figure-f) → From 6 c.put_figure-f.new.buf c.put_figure-f.result
+after-6 c = let d = after-5 c.before.before.before.before.before.before in (d.0, todo-step d.1 c.put_figure-f.ensures)
 
-abbrev after-7 : (c : tie.After-put-figure5) → From 7 c.put-figure5.new.0 c.put-figure5.result
-after-7 c = let d = after-6 c.before.before.before.before.before in (d.0, todo-step d.1 c.put-figure5.ensures)
+abbrev after-7 : (c : tie.After-put_figure) → From 7 c.put_figure.new.buf c.put_figure.result
+after-7 c = let d = after-6 c.before.before.before.before.before.before in (d.0, todo-step d.1 c.put_figure.ensures)
 
-pub put-heading-spec : {M : Type 1} → statement M
-put-heading-spec =
-    tie.close
-    (tie.spec (λ c. search rules) (λ c. search rules) (λ c κs. todo-room (after-0 c.before.before.before.before).1)
-    (λ c. search rules) (λ c κs. todo-room (after-1 c.before.before.before.before).1)
-    (λ c κs. todo-room (after-2 c.before.before.before).1) (λ c. search rules)
-    (λ c κs. todo-room (after-3 c.before.before.before.before).1) (λ c. search rules)
-    (λ c κs. todo-room (after-4 c.before.before.before.before).1) (λ c. search rules)
-    (λ c κs. todo-room (after-5 c.before.before.before.before).1) (λ c. search rules)
-    (λ c κs. todo-room (after-6 c.before.before.before.before).1) (λ c. todo-same (after-7 c.before.before).1)
-    (λ c. todo-end (after-7 c.before.before).1))
+pub put_heading_spec : {M : Type 1} → statement M
+put_heading_spec = tie.close (tie.spec (λ c κs. todo-room (after-0 c.before.before.before.before.before.before).1) (λ c κs. todo-room (after-1 c.before.before.before.before.before).1) (λ c κs. todo-room (after-2 c.before.before.before).1) (λ c κs. todo-room (after-3 c.before.before.before.before.before).1) (λ c κs. todo-room (after-4 c.before.before.before.before.before).1) (λ c κs. todo-room (after-5 c.before.before.before.before.before).1) (λ c κs. todo-room (after-6 c.before.before.before.before.before).1) (λ c. todo-same (after-7 c.before.before).1) (λ c. todo-end (after-7 c.before.before).1))

@@ -25,39 +25,29 @@ after-0 s =
     let r = s.args.program in
     (s, todo-start (all s) (lines_then (take 7 (recorded s.args.p r)) (mark_line r.suspend)) s.requires)
 
-abbrev after-1 : (c : tie.After-put-figure) → From 1 c.put-figure.new.0 c.put-figure.result
-after-1 c = let d = after-0 c.before.before.before.before.before.before in (d.0, todo-step d.1 c.put-figure.ensures)
+abbrev after-1 : (c : tie.After-put_figure-a) → From 1 c.put_figure-a.new.buf c.put_figure-a.result
+after-1 c = let d = after-0 c.before.before.before.before.before.before.before in (d.0, todo-step d.1 c.put_figure-a.ensures)
 
-abbrev after-2 : (c : tie.After-put-name-line) → From 2 c.put-name-line.new.0 c.put-name-line.result
-after-2 c = let d = after-1 c.before.before.before.before.before in (d.0, todo-step d.1 c.put-name-line.ensures)
+abbrev after-2 : (c : tie.After-put_name_line-b) → From 2 c.put_name_line-b.new.buf c.put_name_line-b.result
+after-2 c = let d = after-1 c.before.before.before.before.before.before in (d.0, todo-step d.1 c.put_name_line-b.ensures)
 
-abbrev after-3 : (c : tie.After-put-figure2) → From 3 c.put-figure2.new.0 c.put-figure2.result
-after-3 c = let d = after-2 c.before.before.before.before.before.before in (d.0, todo-step d.1 c.put-figure2.ensures)
+abbrev after-3 : (c : tie.After-put_figure-c) → From 3 c.put_figure-c.new.buf c.put_figure-c.result
+after-3 c = let d = after-2 c.before.before.before.before.before.before.before in (d.0, todo-step d.1 c.put_figure-c.ensures)
 
-abbrev after-4 : (c : tie.After-put-figure3) → From 4 c.put-figure3.new.0 c.put-figure3.result
-after-4 c = let d = after-3 c.before.before.before.before.before.before in (d.0, todo-step d.1 c.put-figure3.ensures)
+abbrev after-4 : (c : tie.After-put_figure-d) → From 4 c.put_figure-d.new.buf c.put_figure-d.result
+after-4 c = let d = after-3 c.before.before.before.before.before.before.before in (d.0, todo-step d.1 c.put_figure-d.ensures)
 
-abbrev after-5 : (c : tie.After-put-why-line) → From 5 c.put-why-line.new.0 c.put-why-line.result
-after-5 c = let d = after-4 c.before.before.before.before.before in (d.0, todo-step d.1 c.put-why-line.ensures)
+abbrev after-5 : (c : tie.After-put_why_line-e) → From 5 c.put_why_line-e.new.buf c.put_why_line-e.result
+after-5 c = let d = after-4 c.before.before.before.before.before.before in (d.0, todo-step d.1 c.put_why_line-e.ensures)
 
-abbrev after-6 : (c : tie.After-put-or-dash-line) → From 6 c.put-or-dash-line.new.0 c.put-or-dash-line.result
-after-6 c = let d = after-5 c.before.before.before.before.before in (d.0, todo-step d.1 c.put-or-dash-line.ensures)
+abbrev after-6 : (c : tie.After-put_or_dash_line-f) → From 6 c.put_or_dash_line-f.new.buf c.put_or_dash_line-f.result
+after-6 c = let d = after-5 c.before.before.before.before.before.before in (d.0, todo-step d.1 c.put_or_dash_line-f.ensures)
 
-abbrev after-7 : (c : tie.After-put-or-dash-line2) → From 7 c.put-or-dash-line2.new.0 c.put-or-dash-line2.result
-after-7 c = let d = after-6 c.before.before.before.before.before in (d.0, todo-step d.1 c.put-or-dash-line2.ensures)
+abbrev after-7 : (c : tie.After-put_or_dash_line-g) → From 7 c.put_or_dash_line-g.new.buf c.put_or_dash_line-g.result
+after-7 c = let d = after-6 c.before.before.before.before.before.before in (d.0, todo-step d.1 c.put_or_dash_line-g.ensures)
 
-abbrev after-8 : (c : tie.After-put-mark-line) → From 8 c.put-mark-line.new.0 c.put-mark-line.result
-after-8 c = let d = after-7 c.before.before.before.before in (d.0, todo-step d.1 c.put-mark-line.ensures)
+abbrev after-8 : (c : tie.After-put_mark_line) → From 8 c.put_mark_line.new.buf c.put_mark_line.result
+after-8 c = let d = after-7 c.before.before.before.before in (d.0, todo-step d.1 c.put_mark_line.ensures)
 
-pub put-record-spec : {M : Type 1} → statement M
-put-record-spec =
-    tie.close
-    (tie.spec (λ c. search rules) (λ c κs. todo-room (after-0 c.before.before.before.before.before).1) (λ c. search rules)
-    (λ c κs. todo-room (after-1 c.before.before.before.before).1) (λ c. search rules) (λ c. search rules)
-    (λ c κs. todo-room (after-2 c.before.before.before.before.before).1) (λ c. search rules) (λ c. search rules)
-    (λ c κs. todo-room (after-3 c.before.before.before.before.before).1) (λ c. search rules)
-    (λ c κs. todo-room (after-4 c.before.before.before.before).1) (λ c. search rules)
-    (λ c κs. todo-room (after-5 c.before.before.before.before).1) (λ c. search rules)
-    (λ c κs. todo-room (after-6 c.before.before.before.before).1)
-    (λ c κs. todo-room (after-7 c.before.before.before).1) (λ c. todo-same (after-8 c.before.before).1)
-    (λ c. todo-end (after-8 c.before.before).1))
+pub put_record_spec : {M : Type 1} → statement M
+put_record_spec = tie.close (tie.spec (λ c κs. todo-room (after-0 c.before.before.before.before.before.before).1) (λ c κs. todo-room (after-1 c.before.before.before.before.before).1) (λ c. search rules) (λ c κs. todo-room (after-2 c.before.before.before.before.before.before).1) (λ c. search rules) (λ c κs. todo-room (after-3 c.before.before.before.before.before.before).1) (λ c κs. todo-room (after-4 c.before.before.before.before.before).1) (λ c κs. todo-room (after-5 c.before.before.before.before.before).1) (λ c κs. todo-room (after-6 c.before.before.before.before.before).1) (λ c κs. todo-room (after-7 c.before.before.before).1) (λ c. todo-same (after-8 c.before.before).1) (λ c. todo-end (after-8 c.before.before).1))

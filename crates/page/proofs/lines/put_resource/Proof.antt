@@ -18,36 +18,27 @@ From k l at =
     × Todo s.args.buf.now s.args.at (bytes (number_line s.args.number s.args.x)) l at
     (drop k (number_pieces s.args.number s.args.x))
 
-abbrev after-0 : (c : tie.Else1) → let s = c.before.before.before in From 0 s.args.buf.now s.args.at
+abbrev after-0 : (c : tie.Else-x-eq0) → From 0 c.args.buf.now c.args.at
 after-0 c =
-    let s = c.before.before.before in
-    (s, todo-start (number_pieces s.args.number s.args.x) (number-some s.args.number s.args.x c.if1.false) s.requires)
+    (c.before.before.before, todo-start (number_pieces c.args.number c.args.x) (number-some c.args.number c.args.x c.if-x-eq0.false) c.requires)
 
-abbrev after-1 : (c : tie.After-put-key) → From 1 c.put-key.new.0 c.put-key.result
-after-1 c = let d = after-0 c.before.before.before in (d.0, todo-step d.1 c.put-key.ensures)
+abbrev after-1 : (c : tie.After-put_key-a) → From 1 c.put_key-a.new.buf c.put_key-a.result
+after-1 c = let d = after-0 c.before.before.before.before in (d.0, todo-step d.1 c.put_key-a.ensures)
 
-abbrev after-2 : (c : tie.After-put-marked) → From 2 c.put-marked.new.0 c.put-marked.result
-after-2 c = let d = after-1 c.before.before.before.before in (d.0, todo-step d.1 c.put-marked.ensures)
+abbrev after-2 : (c : tie.After-put_marked-b) → From 2 c.put_marked-b.new.buf c.put_marked-b.result
+after-2 c = let d = after-1 c.before.before.before.before in (d.0, todo-step d.1 c.put_marked-b.ensures)
 
-abbrev after-3 : (c : tie.After-put-party) → From 3 c.put-party.new.0 c.put-party.result
-after-3 c = let d = after-2 c.before.before.before.before in (d.0, todo-step d.1 c.put-party.ensures)
+abbrev after-3 : (c : tie.After-put_party-c) → From 3 c.put_party-c.new.buf c.put_party-c.result
+after-3 c = let d = after-2 c.before.before.before.before in (d.0, todo-step d.1 c.put_party-c.ensures)
 
-abbrev after-4 : (c : tie.After-put-byte) → From 4 c.put_byte.new.0 c.put_byte.result
-after-4 c = let d = after-3 c.before.before.before.before in (d.0, todo-step d.1 c.put_byte.ensures)
+abbrev after-4 : (c : tie.After-put_byte-d) → From 4 c.put_byte-d.new.buf c.put_byte-d.result
+after-4 c = let d = after-3 c.before.before.before.before in (d.0, todo-step d.1 c.put_byte-d.ensures)
 
-abbrev after-5 : (c : tie.After-put-or-dash) → From 5 c.put-or-dash.new.0 c.put-or-dash.result
-after-5 c = let d = after-4 c.before.before.before.before.before.before in (d.0, todo-step d.1 c.put-or-dash.ensures)
+abbrev after-5 : (c : tie.After-put_or_dash-e) → From 5 c.put_or_dash-e.new.buf c.put_or_dash-e.result
+after-5 c = let d = after-4 c.before.before.before.before.before.before in (d.0, todo-step d.1 c.put_or_dash-e.ensures)
 
-abbrev after-6 : (c : tie.After-put-byte2) → From 6 c.put-byte2.new.0 c.put-byte2.result
-after-6 c = let d = after-5 c.before.before.before.before in (d.0, todo-step d.1 c.put-byte2.ensures)
+abbrev after-6 : (c : tie.After-put_byte) → From 6 c.put_byte.new.buf c.put_byte.result
+after-6 c = let d = after-5 c.before.before.before.before in (d.0, todo-step d.1 c.put_byte.ensures)
 
-pub put-resource-spec : {M : Type 1} → statement M
-put-resource-spec =
-    tie.close
-    (tie.spec (λ c. let s = c.before.before.before.args in wrote_as (number-none s.number s.x c.if1.true) wrote_none)
-    (λ c. search rules) (λ c κs. omega (arith, todo-room (after-0 c.before.before).1))
-    (λ c κs. todo-room (after-1 c.before.before.before).1) (λ c κs. todo-room (after-2 c.before.before.before).1)
-    (λ c κs. todo-room (after-3 c.before.before.before).1) (λ c. search rules)
-    (λ c κs. todo-room (after-4 c.before.before.before.before.before).1)
-    (λ c κs. todo-room (after-5 c.before.before.before).1) (λ c. todo-same (after-6 c.before.before).1)
-    (λ c. todo-end (after-6 c.before.before).1))
+pub put_resource_spec : {M : Type 1} → statement M
+put_resource_spec = tie.close (tie.spec (λ c. let s = c.args in wrote_as (number-none s.number s.x c.if-x-eq0.true) wrote_none) (λ c κs. omega (arith, todo-room (after-0 c.before.before.before).1)) (λ c κs. todo-room (after-1 c.before.before.before).1) (λ c κs. todo-room (after-2 c.before.before.before).1) (λ c κs. todo-room (after-3 c.before.before.before).1) (λ c. search rules) (λ c κs. todo-room (after-4 c.before.before.before.before.before).1) (λ c κs. todo-room (after-5 c.before.before.before).1) (λ c. todo-same (after-6 c.before.before).1) (λ c. todo-end (after-6 c.before.before).1))

@@ -2,7 +2,6 @@
 -- the next on are left. Assumes nothing.
 use Prim.Native.Nat.{ℕ}
 use native.Mathlib.Omega.{arith}
-use borrow.Author.Rules.{rules}
 use mathlib.Core.List.{List}
 use lib.ListN.{drop}
 use Rattle.text.proofs.Laws.{Todo, todo-start, todo-step, todo-room, todo-end, todo-same, wrote_none}
@@ -16,32 +15,24 @@ abbrev From : ℕ → List ℕ → ℕ → Type 0
 From k l at =
     (s : tie.Start) × Todo s.args.buf.now s.args.at (bytes (held_line s.args.run)) l at (drop k (held_pieces s.args.run))
 
-abbrev after-0 : (c : tie.Else2) → let s = c.before.before.before.before.before in From 0 s.args.buf.now s.args.at
+abbrev after-0 : (c : tie.Else-run-eq-SYSTEM) → From 0 c.args.buf.now c.args.at
 after-0 c =
-    let s = c.before.before.before.before.before in
-    (s, todo-start (held_pieces s.args.run) (held-some s.args.run c.before.before.if1.false c.if2.false) s.requires)
+    (c.before.before.before.before.before, todo-start (held_pieces c.args.run) (held-some c.args.run c.if-run-eq-FREE.false c.if-run-eq-SYSTEM.false) c.requires)
 
-abbrev after-1 : (c : tie.After-put-key) → From 1 c.put-key.new.0 c.put-key.result
-after-1 c = let d = after-0 c.before.before.before in (d.0, todo-step d.1 c.put-key.ensures)
+abbrev after-1 : (c : tie.After-put_key-a) → From 1 c.put_key-a.new.buf c.put_key-a.result
+after-1 c = let d = after-0 c.before.before.before.before in (d.0, todo-step d.1 c.put_key-a.ensures)
 
-abbrev after-2 : (c : tie.After-put-marked) → From 2 c.put-marked.new.0 c.put-marked.result
-after-2 c = let d = after-1 c.before.before.before.before in (d.0, todo-step d.1 c.put-marked.ensures)
+abbrev after-2 : (c : tie.After-put_marked-b) → From 2 c.put_marked-b.new.buf c.put_marked-b.result
+after-2 c = let d = after-1 c.before.before.before.before in (d.0, todo-step d.1 c.put_marked-b.ensures)
 
-abbrev after-3 : (c : tie.After-put-marked2) → From 3 c.put-marked2.new.0 c.put-marked2.result
-after-3 c = let d = after-2 c.before.before.before.before in (d.0, todo-step d.1 c.put-marked2.ensures)
+abbrev after-3 : (c : tie.After-put_marked-c) → From 3 c.put_marked-c.new.buf c.put_marked-c.result
+after-3 c = let d = after-2 c.before.before.before.before in (d.0, todo-step d.1 c.put_marked-c.ensures)
 
-abbrev after-4 : (c : tie.After-put-party) → From 4 c.put-party.new.0 c.put-party.result
-after-4 c = let d = after-3 c.before.before.before.before in (d.0, todo-step d.1 c.put-party.ensures)
+abbrev after-4 : (c : tie.After-put_party-d) → From 4 c.put_party-d.new.buf c.put_party-d.result
+after-4 c = let d = after-3 c.before.before.before.before in (d.0, todo-step d.1 c.put_party-d.ensures)
 
-abbrev after-5 : (c : tie.After-put-byte) → From 5 c.put_byte.new.0 c.put_byte.result
+abbrev after-5 : (c : tie.After-put_byte) → From 5 c.put_byte.new.buf c.put_byte.result
 after-5 c = let d = after-4 c.before.before.before.before in (d.0, todo-step d.1 c.put_byte.ensures)
 
-pub put-run-spec : {M : Type 1} → statement M
-put-run-spec =
-    tie.close
-    (tie.spec (λ c. wrote_as (held-free c.before.before.before.args.run c.if1.true) wrote_none)
-    (λ c. wrote_as (held-system c.before.before.before.before.before.args.run c.if2.true) wrote_none)
-    (λ c. search rules) (λ c κs. omega (arith, todo-room (after-0 c.before.before).1))
-    (λ c κs. todo-room (after-1 c.before.before.before).1) (λ c κs. todo-room (after-2 c.before.before.before).1)
-    (λ c κs. todo-room (after-3 c.before.before.before).1) (λ c κs. todo-room (after-4 c.before.before.before).1)
-    (λ c. todo-same (after-5 c.before.before).1) (λ c. todo-end (after-5 c.before.before).1))
+pub put_run_spec : {M : Type 1} → statement M
+put_run_spec = tie.close (tie.spec (λ c. wrote_as (held-free c.args.run c.if-run-eq-FREE.true) wrote_none) (λ c. wrote_as (held-system c.args.run c.if-run-eq-SYSTEM.true) wrote_none) (λ c κs. omega (arith, todo-room (after-0 c.before.before.before).1)) (λ c κs. todo-room (after-1 c.before.before.before).1) (λ c κs. todo-room (after-2 c.before.before.before).1) (λ c κs. todo-room (after-3 c.before.before.before).1) (λ c κs. todo-room (after-4 c.before.before.before).1) (λ c. todo-same (after-5 c.before.before).1) (λ c. todo-end (after-5 c.before.before).1))

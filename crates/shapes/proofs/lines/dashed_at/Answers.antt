@@ -1,0 +1,25 @@
+-- `lines::dashed_at` reads a line with a number or a dash: its key, then its value.
+-- Assumes nothing.
+use native.Mathlib.Omega.{arith}
+use mathlib.Core.Bool.{true}
+use mathlib.Core.Path.{refl, subst}
+use Rattle.shapes.specs.Shapes.{figure_or_dash}
+use Rattle.shapes.specs.Inner.{SaidIs, word_is, WordTo}
+use Rattle.shapes.proofs.MarkedFigures.{dashed-free, no-dash}
+use Rattle.shapes.proofs.MarkedLines.{line-no-key, figure-line}
+use Rattle.shapes.proofs.lines.dashed_at.Goals.{In-At}
+use Rattle.shapes.proofs.lines.dashed_at.Goals as goal
+
+found : (c : In-At)
+    → let a = c.args in SaidIs (word_is a.key.now) 61 a.s.now a.at true c.in-At.from
+found c = subst (WordTo _ _ _ _) c.in-At.is c.word_to.ensures
+
+pub returns-in_default : goal.returns-in_default
+returns-in_default c = line-no-key figure_or_dash (subst (WordTo _ _ _ _) c.in_default.is c.word_to.ensures)
+
+pub dashed_to-requires : goal.dashed_to-requires
+dashed_to-requires c = record { from_in_bounds = (found (goal.at.dashed_to-requires c).In-At).within; mark_value = refl }
+
+pub returns : goal.returns
+returns c = figure-line (found (goal.at.returns c).In-At) c.requires.key_value figure_or_dash (dashed-free 10 (λ h. omega arith) no-dash)
+    c.dashed_to.result c.dashed_to.ensures
