@@ -5,4 +5,5 @@ use Rattle.sheet.proofs.print_last.Goals as goal
 
 pub write_front-requires : goal.write_front-requires
 write_front-requires c =
-    omega (arith, printed-fits _ _ _ c.print_line-printed.new.out c.print_line-printed.result c.print_line-printed.ensures (search rules))
+    let p = c.print_line-printed in
+    omega (arith, printed-fits _ _ _ p.new.out p.result p.ensures (search rules))
