@@ -14,13 +14,13 @@ within {s} {from} {e} k h =
     let l = line-end s from in record { low = omega (arith, (l.line h).low, k); high = omega (arith, l.high, k) }
 
 pub slice_bounds-result-count : goal.slice_bounds-result-count
-slice_bounds-result-count c = (within c.line_end-end.ensures c.requires).low
+slice_bounds-result-count c = omega (arith, (within c.line_end-end.ensures c.requires).low)
 
 pub slice_bounds-result-start : goal.slice_bounds-result-start
-slice_bounds-result-start c = (within c.line_end-end.ensures c.requires).low
+slice_bounds-result-start c = omega (arith, (within c.line_end-end.ensures c.requires).low)
 
 pub slice_bounds-result-end : goal.slice_bounds-result-end
-slice_bounds-result-end c = (within c.line_end-end.ensures c.requires).high
+slice_bounds-result-end c = omega (arith, (within c.line_end-end.ensures c.requires).high)
 
 pub returns : goal.returns
 returns c =
