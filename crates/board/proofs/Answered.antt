@@ -7,18 +7,16 @@ use mathlib.Core.Bool.{Bool, cond}
 use mathlib.Core.List.{List, [], ◌∷◌, ◌++◌, map}
 use lib.ListN.{length, get_or, take, replicate}
 use borrow.Author.Tests.{le-leb, lt-leb}
-use denote.Enum.Declared.{tag_of}
-use types.Run.{OneOf, miss}
 use Rattle.lists.specs.Lists.{join}
 use Rattle.text.specs.Inner.{Wrote}
 use Rattle.text.proofs.Laws.{parts-start, parts-step, parts-end, wrote_then, wrote-front}
 use Rattle.rules.specs.Engine.{front}
 use Rattle.page.proofs.Writing.{wrote_as}
+use Rattle.clock.specs.declared.Time.{Time}
 use Rattle.rules.specs.declared.Answer.{Answer}
 use Rattle.rules.specs.declared.Answer.TheVariants.{Done, Told, Waits, NoCaller, NotAllowed, NoProgram, WrongState, NameInUse, AllUsed}
 use Rattle.rules.specs.declared.Answer.TheVariants.{NoRoom, NotHolder, NotAllocated, AtCeiling, TooShort, NotUnderstood, NotSound, NotRead, InNeither}
 use Rattle.rules.specs.Answers.{number, values}
-use Rattle.rules.specs.contracts.Answer.{the_type}
 use Rattle.packing.specs.Packed.{in_bytes}
 use Rattle.board.specs.Board.{figures, figures_length, answering}
 
@@ -26,41 +24,48 @@ use Rattle.board.specs.Board.{figures, figures_length, answering}
 abbrev pub six : Answer → List ℕ
 six a = take 6 (values a ++ replicate {A = ℕ} 6 0)
 
--- the places among all of the answers that hold nothing, and of those that are no time: the first have the value 0, the
--- others one value, and five 0 behind it
-abbrev bare : List ℕ
-bare = 3 ∷ 4 ∷ 5 ∷ 7 ∷ 8 ∷ 9 ∷ 10 ∷ 11 ∷ 12 ∷ 14 ∷ 15 ∷ 17 ∷ []
+-- an answer that holds nothing has the value 0, and one that is no time has one value, and five 0 behind it
+pub first-none : (a : Answer) → ((v : ℕ) → a ≡ Done v → ⊥) → ((t : Time) → a ≡ Told t → ⊥) → ((s : ℕ) → a ≡ Waits s → ⊥)
+    → ((s : ℕ) → a ≡ WrongState s → ⊥) → ((n : ℕ) → a ≡ TooShort n → ⊥) → ((n : ℕ) → a ≡ NotRead n → ⊥)
+    → 0 ≡ get_or (values a) 0 0
+first-none (Done v) d t w s h r = absurd (d v refl)
+first-none (Told x) d t w s h r = absurd (t x refl)
+first-none (Waits x) d t w s h r = absurd (w x refl)
+first-none NoCaller d t w s h r = refl
+first-none NotAllowed d t w s h r = refl
+first-none NoProgram d t w s h r = refl
+first-none (WrongState x) d t w s h r = absurd (s x refl)
+first-none NameInUse d t w s h r = refl
+first-none AllUsed d t w s h r = refl
+first-none NoRoom d t w s h r = refl
+first-none NotHolder d t w s h r = refl
+first-none NotAllocated d t w s h r = refl
+first-none AtCeiling d t w s h r = refl
+first-none (TooShort n) d t w s h r = absurd (h n refl)
+first-none NotUnderstood d t w s h r = refl
+first-none NotSound d t w s h r = refl
+first-none (NotRead n) d t w s h r = absurd (r n refl)
+first-none InNeither d t w s h r = refl
 
-abbrev timeless : List ℕ
-timeless = 0 ∷ 2 ∷ 3 ∷ 4 ∷ 5 ∷ 6 ∷ 7 ∷ 8 ∷ 9 ∷ 10 ∷ 11 ∷ 12 ∷ 13 ∷ 14 ∷ 15 ∷ 16 ∷ 17 ∷ []
-
-said : (a : Answer)
-    → (OneOf bare (tag_of the_type a) → 0 ≡ get_or (values a) 0 0)
-    × (OneOf timeless (tag_of the_type a) → six a ≡ get_or (values a) 0 0 ∷ 0 ∷ 0 ∷ 0 ∷ 0 ∷ 0 ∷ [])
-said (Done v) = (λ h. absurd (miss bare 0 tt h), λ h. refl)
-said (Told t) = (λ h. absurd (miss bare 1 tt h), λ h. absurd (miss timeless 1 tt h))
-said (Waits s) = (λ h. absurd (miss bare 2 tt h), λ h. refl)
-said NoCaller = (λ h. refl, λ h. refl)
-said NotAllowed = (λ h. refl, λ h. refl)
-said NoProgram = (λ h. refl, λ h. refl)
-said (WrongState s) = (λ h. absurd (miss bare 6 tt h), λ h. refl)
-said NameInUse = (λ h. refl, λ h. refl)
-said AllUsed = (λ h. refl, λ h. refl)
-said NoRoom = (λ h. refl, λ h. refl)
-said NotHolder = (λ h. refl, λ h. refl)
-said NotAllocated = (λ h. refl, λ h. refl)
-said AtCeiling = (λ h. refl, λ h. refl)
-said (TooShort n) = (λ h. absurd (miss bare 13 tt h), λ h. refl)
-said NotUnderstood = (λ h. refl, λ h. refl)
-said NotSound = (λ h. refl, λ h. refl)
-said (NotRead n) = (λ h. absurd (miss bare 16 tt h), λ h. refl)
-said InNeither = (λ h. refl, λ h. refl)
-
-pub first-none : (a : Answer) → OneOf bare (tag_of the_type a) → 0 ≡ get_or (values a) 0 0
-first-none a = (said a).0
-
-pub six-one : (a : Answer) → OneOf timeless (tag_of the_type a) → six a ≡ get_or (values a) 0 0 ∷ 0 ∷ 0 ∷ 0 ∷ 0 ∷ 0 ∷ []
-six-one a = (said a).1
+pub six-one : (a : Answer) → ((t : Time) → a ≡ Told t → ⊥) → six a ≡ get_or (values a) 0 0 ∷ 0 ∷ 0 ∷ 0 ∷ 0 ∷ 0 ∷ []
+six-one (Done v) h = refl
+six-one (Told t) h = absurd (h t refl)
+six-one (Waits s) h = refl
+six-one NoCaller h = refl
+six-one NotAllowed h = refl
+six-one NoProgram h = refl
+six-one (WrongState s) h = refl
+six-one NameInUse h = refl
+six-one AllUsed h = refl
+six-one NoRoom h = refl
+six-one NotHolder h = refl
+six-one NotAllocated h = refl
+six-one AtCeiling h = refl
+six-one (TooShort n) h = refl
+six-one NotUnderstood h = refl
+six-one NotSound h = refl
+six-one (NotRead n) h = refl
+six-one InNeither h = refl
 
 -- six writes, and those behind that of the answer's number
 pub six-wrote : {l₀ l₁ l₂ l₃ l₄ l₅ l₆ : List ℕ} {at₀ at₁ at₂ at₃ at₄ at₅ at₆ : ℕ} (a b c d e f : ℕ) → Wrote l₀ at₀ (in_bytes 8 a) l₁ at₁

@@ -1,13 +1,13 @@
 -- What is said of a difference: its pieces, and how long it is. And bytes that are put from a place on, or only counted, piece by piece.
 -- Assumes nothing.
-use Prim.Native.Nat.{ℕ, ◌+◌, ◌-◌, ◌≤◌, ◌<◌}
+use Prim.Native.Nat.{ℕ, ◌+◌, ◌≤◌, ◌<◌}
 use native.Mathlib.Nat.{add-zero}
 use native.Mathlib.Omega.{arith}
 use mathlib.Core.Path.{◌≡◌, refl, sym, ap, ap₂, subst, ◌∙◌}
 use mathlib.Core.Bool.{Bool, true, false, cond}
 use mathlib.Core.List.{List, [], ◌∷◌, ◌++◌, append-nil, append_assoc}
 use mathlib.Core.Option.{none}
-use lib.ListN.{length, take, length-append}
+use lib.ListN.{length, length-append}
 use lib.Seq.{length-slice, length-sets}
 use lib.Dec.{eqb, ltb}
 use borrow.Author.Tests.{eq-eqb, ne_eqb, lt-ltb, le-ltb}
@@ -15,7 +15,7 @@ use Rattle.limits.specs.Limits.{page_room}
 use Rattle.lists.specs.Lists.{join}
 use Rattle.text.specs.Text.{text, decimal}
 use Rattle.text.specs.Inner.{Wrote}
-use Rattle.text.proofs.Laws.{wrote_then, wrote-take, wrote-length, decimal-most}
+use Rattle.text.proofs.Laws.{wrote_then, wrote-length, decimal-most}
 use Rattle.console.specs.Sheet.{line_end}
 use Rattle.console.proofs.LineEnds.{line-end}
 use Rattle.comparing.specs.Verdicts.{side, sides}

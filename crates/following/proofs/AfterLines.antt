@@ -23,7 +23,7 @@ use Rattle.tables.specs.Sound.{sound}
 use Rattle.tables.specs.Calls.{laid, asked, many_ticks, served}
 use Rattle.tables.proofs.Agree.{sound-clauses}
 use Rattle.tables.proofs.Plain.{sound-plain, sound-asked}
-use Rattle.page.specs.Paging.{Written, paged}
+use Rattle.page.specs.Paging.{Written}
 use Rattle.reader.proofs.Lengths.{sized-arrays}
 use Rattle.console.specs.Line.{Line, bad, PAGE, asks, ticks, line_of}
 use Rattle.console.specs.Console.{obeyed, keyed}

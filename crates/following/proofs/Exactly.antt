@@ -17,14 +17,14 @@ use Rattle.tables.specs.Tables.{plain}
 use Rattle.tables.specs.Calls.{Result}
 use Rattle.tables.proofs.Agree.{sound-clauses, sound-test}
 use Rattle.page.specs.Page.{page}
-use Rattle.reader.specs.Reading.{was_read, not_read, reading}
+use Rattle.reader.specs.Reading.{not_read, reading}
 use Rattle.reader.specs.Lines.{WrittenBy}
 use Rattle.reader.proofs.Exact.{accepts-exactly, accepted, accepted-arrays, one-page}
 use Rattle.console.specs.Sheet.{lent}
 use Rattle.console.proofs.Refusing.{keyed-kept}
 use Rattle.blocks.specs.Blocks.{kept_after, tables_after}
 use Rattle.following.specs.Differences.{Difference, differences}
-use Rattle.following.specs.Following.{Follow, Verdict, no_first, no_next, follows, does_not_follow, refused_at, verdict}
+use Rattle.following.specs.Following.{Verdict, no_first, no_next, follows, does_not_follow, refused_at, verdict}
 use Rattle.following.specs.Promises.{FollowsExactly, IsFollow, Otherwise, TellsSome, Passes}
 use Rattle.following.proofs.AfterLines.{Good, after-good}
 use Rattle.following.proofs.Differing.{EndsTen, page-ends, some-difference}

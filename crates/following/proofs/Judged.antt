@@ -3,23 +3,20 @@
 use Prim.Native.Nat.{ℕ}
 use mathlib.Core.Path.{◌≡◌, refl, sym, ap, ◌∙◌}
 use mathlib.Core.Logic.{◌≢◌}
-use mathlib.Core.Bool.{Bool, true, false, cond}
-use mathlib.Core.List.{List, ◌∷◌, []}
-use lib.Dec.{eqb}
-use borrow.Author.Tests.{eqb-true, eqb-false, eq-eqb, ne_eqb}
+use mathlib.Core.Bool.{Bool, true, false}
+use mathlib.Core.List.{List}
+use borrow.Author.Tests.{eq-eqb, ne_eqb}
 use Rattle.lists.specs.Lists.{alike}
 use Rattle.lists.proofs.Tests.{clash, alike-true, alike_is}
 use Rattle.tables.specs.declared.Tables.{Tables}
 use Rattle.tables.specs.Tables.{plain}
 use Rattle.tables.specs.Calls.{Result}
 use Rattle.page.specs.Page.{page}
-use Rattle.reader.specs.Order.{page_ahead, first_bad}
 use Rattle.reader.specs.Reading.{not_read, reading}
 use Rattle.reader.proofs.Exact.{not-read}
-use Rattle.text.specs.Text.{parts}
 use Rattle.blocks.specs.Blocks.{tables_after}
 use Rattle.following.specs.Differences.{differences}
-use Rattle.following.specs.Following.{Verdict, no_first, no_next, follows, does_not_follow, refused_at, compared, held_against, verdict}
+use Rattle.following.specs.Following.{no_first, no_next, follows, does_not_follow, refused_at, compared, held_against, verdict}
 
 -- a page that is not read, and its value
 pub not-page : (s : List ℕ) → (reading s).number ≢ 0 → reading s ≡ not_read (refused_at (reading s))

@@ -21,7 +21,8 @@ use Rattle.text.specs.Inner.{Wrote}
 use Rattle.text.proofs.Laws.{wrote-front}
 use Rattle.records.specs.declared.Program.{Program}
 use Rattle.records.specs.declared.Why.TheVariants.{Nothing, Tracks, Son, Lock, Number}
-use Rattle.records.specs.contracts.Program.{the_field}
+use denote.Struct.Declared.{row}
+use Rattle.records.specs.contracts.Program.{the_type}
 use Rattle.tables.specs.declared.Tables.{Tables}
 use Rattle.tables.specs.Tables.{Arrays}
 use Rattle.packing.specs.Packed.{of_bytes, figure_at, why_of, pack_program, program_at, packed, unpacked, is_packed, programs_place, packed_length}
@@ -52,7 +53,7 @@ packed-length t A h =
 
 -- the names of an array of records are as long as their type says
 pub named-each : (xs : List Program) (us : List Val)
-    → shadow (each the_field.row.Denot the_field.row.own_val (map the_field.into xs) us) → Each Named xs
+    → shadow (each Program (row the_type).own_val xs us) → Each Named xs
 named-each [] us g = tt
 named-each (x ∷ xs) [] g = absurd g
 named-each (x ∷ xs) (u ∷ us) g = (named (x ∷ []) (u ∷ []) 0 x (g.0, tt) (omega arith), named-each xs us g.1)

@@ -1,7 +1,7 @@
 -- However a requests file comes in blocks, what is shown of its lines and the tables after them are those of the whole: of a line that goes
 -- on behind a block 73 bytes are enough, since 72 are shown, and that there are more.
 -- Assumes nothing.
-use Prim.Native.Nat.{ℕ, suc, ◌+◌, ◌≤◌, ◌<◌}
+use Prim.Native.Nat.{ℕ, suc, ◌<◌}
 use native.Mathlib.Decide.{dec_lt}
 use native.Mathlib.Omega.{arith}
 use mathlib.Core.Path.{◌≡◌, refl, sym, ap, ap₂, ◌∙◌}
@@ -17,10 +17,8 @@ use Rattle.text.specs.Text.{text, decimal}
 use Rattle.text.specs.Lines.{lines_of}
 use Rattle.tables.specs.declared.Tables.{Tables}
 use Rattle.page.specs.Paging.{Written}
-use Rattle.console.specs.Console.{keyed}
-use Rattle.console.specs.Sheet.{lent}
 use Rattle.console.proofs.LongLines.{cut_line}
-use Rattle.blocks.specs.Blocks.{most, Taken, kept_after, shown_for, taken, arriving, on_sheet, tables_after}
+use Rattle.blocks.specs.Blocks.{most, Taken, kept_after, tables_after}
 use Rattle.blocks.proofs.Arriving.{Cuts, sheet-cuts, keyed-says, whole_of}
 use Rattle.showing.specs.Showing.{shown_byte, shown_request, refusal, answer_text, request_bytes, Keying, on_follow, begun}
 use Rattle.showing.specs.Promises.{ArrivesWhole}

@@ -6,8 +6,6 @@ use native.Mathlib.Omega.{arith}
 use mathlib.Core.Path.{◌≡◌, refl, sym, ap, ◌∙◌}
 use mathlib.Core.Bool.{Bool, true, false, cond, ◌&&◌}
 use mathlib.Core.List.{List, [], ◌∷◌, ◌++◌, append_assoc, append-nil}
-use denote.Enum.Declared.{tag_of}
-use types.Run.{OneOf}
 use lib.Dec.{leb, eqb}
 use lib.ListN.{length, get_or, drop, length-append}
 use lib.Seq.{slice, length-slice}
@@ -19,14 +17,13 @@ use Rattle.text.specs.Lines.{lines_of}
 use Rattle.text.specs.Inner.{PartEnd, Wrote}
 use Rattle.text.proofs.Fields.{until, part_end}
 use Rattle.text.proofs.Lines.{lines_none, lines_next}
-use Rattle.rules.specs.contracts.Answer.{the_type}
 use Rattle.rules.specs.Answers.{number, values}
 use Rattle.rules.specs.declared.Answer.{Answer}
-use Rattle.rules.specs.declared.Answer.TheVariants.{NotAllowed}
+use Rattle.rules.specs.declared.Answer.TheVariants.{NotAllowed, NotRead}
 use Rattle.tables.specs.declared.Outcome.{Outcome}
 use Rattle.tables.specs.Calls.{Result, told}
 use Rattle.page.proofs.Writing.{wrote_as}
-use Rattle.following.proofs.Fifteen.{otherwise, not-fifteen}
+use Rattle.following.proofs.Fifteen.{not-fifteen}
 use Rattle.reader.specs.Reading.{reading}
 use Rattle.transcripts.specs.Listing.{Filled, answered}
 use Rattle.console.specs.Sheet.{answer_of}
@@ -88,7 +85,7 @@ wrote-from e f w = wrote_as f (rw e at w)
 abbrev shown_bad : List ℕ → List ℕ → Bool → List ℕ
 shown_bad s vs b = cond b (line_of_number (get_or vs 0 0) (lines_of s)) []
 
-pub bad-none : (s : List ℕ) (a : Answer) → OneOf otherwise (tag_of the_type a) → bad_text s (number a) (values a) ≡ []
+pub bad-none : (s : List ℕ) (a : Answer) → ((n : ℕ) → a ≡ NotRead n → ⊥) → bad_text s (number a) (values a) ≡ []
 bad-none s a h = ap (shown_bad s (values a)) (not-fifteen a h)
 
 bad-most : (s : List ℕ) (a : ℕ) (vs : List ℕ) → length (bad_text s a vs) ≤ length s + 1

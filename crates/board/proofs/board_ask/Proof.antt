@@ -4,12 +4,9 @@ use mathlib.Core.Bool.{not}
 use mathlib.Core.Path.{ap}
 use mathlib.Core.Path.{◌≡◌, sym, ◌∙◌}
 use mathlib.Core.Bool.{true, false}
-use lib.ListN.{length, length-map}
-use denote.Struct.Field.{u8-field}
+use lib.ListN.{length}
 use borrow.Author.Rules.{rules}
 use borrow.Author.Tests.{not-true, not-false}
-use Rattle.records.specs.contracts.Program as program
-use Rattle.records.specs.contracts.Resource as resource
 use Rattle.tables.specs.Tables.{Arrays}
 use Rattle.packing.specs.Packed.{packed_length, packed, is_packed}
 use Rattle.packing.proofs.OneForm.{named-each, packed-length, is-length}
@@ -46,18 +43,15 @@ returns-3 c =
 -- the tables after the line
 arrays : (c : tie.After-key_line-r) → Arrays c.key_line-r.result.tables
 arrays c = record {
-  programs = sym (length-map c.key_line-r.result.tables.ledger.programs (program.the_field).into)
-      ∙ c.key_line-r.type-inv.1.1.1.0.1.1.0.1.1.0.1.0.1;
+  programs = c.key_line-r.type_inv.1.1.1.0.1.1.0.1.1.0.1.0.1;
   links = search rules;
-  holders = sym (length-map c.key_line-r.result.tables.ledger.tracks.holders u8-field.into)
-      ∙ c.key_line-r.type-inv.1.1.1.0.1.1.0.1.1.1.1.0.1.1.1.1.0.1.0.1;
-  resources = sym (length-map c.key_line-r.result.tables.ledger.numbers.resources (resource.the_field).into)
-      ∙ c.key_line-r.type-inv.1.1.1.0.1.1.0.1.1.1.1.1.0.1.1.1.0.1.0.1;
+  holders = c.key_line-r.type_inv.1.1.1.0.1.1.0.1.1.1.1.0.1.1.1.1.0.1.0.1;
+  resources = c.key_line-r.type_inv.1.1.1.0.1.1.0.1.1.1.1.1.0.1.1.1.0.1.0.1;
 }
 
 long : (c : tie.After-key_line-r) → length (packed c.key_line-r.result.tables) ≡ packed_length
 long c =
-    let g = c.key_line-r.type-inv.1.1.1.0.1.1.0.1.1.0 in
+    let g = c.key_line-r.type_inv.1.1.1.0.1.1.0.1.1.0 in
     packed-length c.key_line-r.result.tables (arrays c) (named-each c.key_line-r.result.tables.ledger.programs g.0 g.1.1)
 
 put-tables-requires : tie.Need-put_tables-requires

@@ -1,11 +1,8 @@
 -- `board_read` meets its contract: too little room for the answer or for the tables is refused with nothing read; else the tables stand
 -- at the front of their buffer, since the arrays of tables are as long as their types say. Assumes nothing.
-use mathlib.Core.Path.{◌≡◌, sym, ◌∙◌}
-use lib.ListN.{length, length-map}
-use denote.Struct.Field.{u8-field}
+use mathlib.Core.Path.{◌≡◌}
+use lib.ListN.{length}
 use borrow.Author.Rules.{rules}
-use Rattle.records.specs.contracts.Program as program
-use Rattle.records.specs.contracts.Resource as resource
 use Rattle.tables.specs.Tables.{Arrays}
 use Rattle.packing.specs.Packed.{packed_length, packed}
 use Rattle.packing.proofs.OneForm.{named-each, packed-length}
@@ -27,18 +24,15 @@ returns-2 c =
 -- the tables read
 arrays : (c : tie.After-read_page-r) → Arrays c.read_page-r.result.tables
 arrays c = record {
-  programs = sym (length-map c.read_page-r.result.tables.ledger.programs (program.the_field).into)
-      ∙ c.read_page-r.type-inv.1.1.1.0.1.1.0.1.1.0.1.0.1;
+  programs = c.read_page-r.type_inv.1.1.1.0.1.1.0.1.1.0.1.0.1;
   links = search rules;
-  holders = sym (length-map c.read_page-r.result.tables.ledger.tracks.holders u8-field.into)
-      ∙ c.read_page-r.type-inv.1.1.1.0.1.1.0.1.1.1.1.0.1.1.1.1.0.1.0.1;
-  resources = sym (length-map c.read_page-r.result.tables.ledger.numbers.resources (resource.the_field).into)
-      ∙ c.read_page-r.type-inv.1.1.1.0.1.1.0.1.1.1.1.1.0.1.1.1.0.1.0.1;
+  holders = c.read_page-r.type_inv.1.1.1.0.1.1.0.1.1.1.1.0.1.1.1.1.0.1.0.1;
+  resources = c.read_page-r.type_inv.1.1.1.0.1.1.0.1.1.1.1.1.0.1.1.1.0.1.0.1;
 }
 
 long : (c : tie.After-read_page-r) → length (packed c.read_page-r.result.tables) ≡ packed_length
 long c =
-    let g = c.read_page-r.type-inv.1.1.1.0.1.1.0.1.1.0 in
+    let g = c.read_page-r.type_inv.1.1.1.0.1.1.0.1.1.0 in
     packed-length c.read_page-r.result.tables (arrays c) (named-each c.read_page-r.result.tables.ledger.programs g.0 g.1.1)
 
 returns-3 : tie.Need-returns

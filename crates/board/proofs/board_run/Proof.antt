@@ -7,7 +7,6 @@ use mathlib.Core.Path.{◌≡◌, sym, ap, subst, ◌∙◌}
 use mathlib.Core.Bool.{false}
 use mathlib.Core.List.{List, [], ◌∷◌}
 use mathlib.Core.Logic.{inl, inr}
-use borrow.Author.Tests.{not-true, not-false}
 use lib.ListN.{length, take, drop, length-replicate}
 use lib.Seq.{slice, length-take-le}
 use borrow.Author.Rules.{rules}
@@ -21,6 +20,7 @@ use Rattle.board.proofs.Running.{made-smallest, Shows, line-printed, Run, run-as
 use Rattle.board.proofs.Running.{needed-small, run-keep, put-room, run-put, run_end}
 use Rattle.board.proofs.board_run.Statement.{statement}
 use Rattle.board.proofs.board_run.Tie as tie
+use Rattle.board.proofs.board_run.Lts.{then-out-used, else-out-used, then-not-is_full, else-not-is_full}
 
 abbrev invariant-loop : tie.invariant-loop-from
 invariant-loop text out₀ answer tables₀ space₀ from₀ used₀ needed₀ is-full₀ out tables space from used needed is-full =
@@ -98,7 +98,7 @@ shows c =
 
 turn : (c : tie.After-bytes_printed-n invariant-loop decreases-loop)
     → Turn c.args.text.now c.args.out.now c.loop-from.out c.loop-from.tables c.loop-from.from
-    c.loop-from.used c.loop-from.needed c.loop-from.is-full
+    c.loop-from.used c.loop-from.needed c.loop-from.is_full
     c.line_end-end.result (N c) (After c) (Space c)
 turn c = record {
   run = c.loop-from.invariant.0;
@@ -112,20 +112,12 @@ sub-if3 : tie.Need-overflow_sub-out invariant-loop decreases-loop
 sub-if3 c = let r = c.loop-from.invariant.0 in omega (arith, r.fits, r.left.same)
 
 -- where the line is put there was room for it, and for all before it
-unfilled : (c : tie.Then-not-is_full invariant-loop decreases-loop) → c.loop-from.is-full ≡ false
-unfilled c =
-    elim c.if-out-used.branch [
-      | inl w ↦ clash w.1 (not-true c.if-out-used.is-full c.if-not-is_full.true)
-      | inr w ↦ sym w.1 ∙ not-true c.if-out-used.is-full c.if-not-is_full.true
-    ]
+unfilled : (c : tie.Joined-out-used invariant-loop decreases-loop) → c.if-out-used.is_full ≡ false → c.loop-from.is_full ≡ false
+unfilled c e = elim c.if-out-used.branch [ then-out-used w ↦ clash w.is_full-is e | else-out-used w ↦ sym w.is_full-is ∙ e ]
 
-fit : (c : tie.Then-not-is_full invariant-loop decreases-loop)
-    → N c.before.before ≤ length c.loop-from.out - c.loop-from.used
-fit c =
-    elim c.if-out-used.branch [
-      | inl w ↦ clash w.1 (not-true c.if-out-used.is-full c.if-not-is_full.true)
-      | inr w ↦ w.0.left
-    ]
+fit : (c : tie.Joined-out-used invariant-loop decreases-loop) → c.if-out-used.is_full ≡ false
+    → N c.before ≤ length c.loop-from.out - c.loop-from.used
+fit c e = elim c.if-out-used.branch [ then-out-used w ↦ clash w.is_full-is e | else-out-used w ↦ w.if-out-used.false ]
 
 array-share-prefix-space : tie.Need-slice_bounds-space-end invariant-loop decreases-loop
 array-share-prefix-space c = (shows c.before.before.before).within
@@ -135,7 +127,9 @@ slice-aggregate-put-bytes c =
     sym (length-take-le (N c.before.before.before.before) (Space c.before.before.before.before) (shows c.before.before.before.before).within)
 
 put-bytes-requires : tie.Need-put_bytes-used-requires invariant-loop decreases-loop
-put-bytes-requires c κs = put-room (turn c.before.before.before.before) (unfilled c.before.before) (fit c.before.before)
+put-bytes-requires c κs =
+    let e = c.if-not-is_full.true in
+    put-room (turn c.before.before.before.before) (unfilled c.before.before.before e) (fit c.before.before.before e)
 
 add-from : tie.Need-overflow_add-from invariant-loop decreases-loop
 add-from c =
@@ -146,16 +140,17 @@ loop-less c = omega (arith, low c.before.before.before.before.before.before.befo
 
 loop-again : tie.Need-loop-from-preserved invariant-loop decreases-loop
 loop-again c =
-    let full = c.if-out-used.is-full in (
+    let full = c.if-out-used.is_full in (
       elim c.if-not-is_full.branch [
-        | inl w ↦
-            let t : tie.Then4 invariant-loop decreases-loop = record { before = c.before; if4 = w.0 } in
-            run-as w.6 w.7 (run-put (turn c.before.before) (unfilled t) (fit t) full (not-true full w.0.taken) w.3.last.0
-            w.3.result w.3.ensures)
-        | inr w ↦
-            let is = not-false full w.0.left in
-            run-as w.1 w.2
-            (run-keep (turn c.before.before) full is (elim c.if-out-used.branch [ inl v ↦ inr v.0.taken | inr v ↦ inl (sym v.1 ∙ is) ]))
+        | then-not-is_full w ↦
+            let e = w.if-not-is_full.true in
+            run-as w.out-is w.used-is (run-put (turn c.before.before) (unfilled c.before e) (fit c.before e) full e
+            w.put_bytes-used.new.buf w.put_bytes-used.result w.put_bytes-used.ensures)
+        | else-not-is_full w ↦
+            let is = w.if-not-is_full.false in
+            run-as w.out-is w.used-is
+            (run-keep (turn c.before.before) full is
+            (elim c.if-out-used.branch [ then-out-used v ↦ inr v.if-out-used.true | else-out-used v ↦ inl (sym v.is_full-is ∙ is) ]))
       ],
       space-same c.before.before,
     )
@@ -167,7 +162,7 @@ returns-3 : tie.Need-returns invariant-loop decreases-loop
 returns-3 c =
     let l = c.loop-from in
     let a = c.args in
-    run_end a.text.now a.out.now a.answer.now l.out l.tables l.from l.used l.needed l.is-full l.invariant.0
+    run_end a.text.now a.out.now a.answer.now l.out l.tables l.from l.used l.needed l.is_full l.invariant.0
     c.loop-from-test.false
     c.put_counts.new.buf c.put_counts.result c.if-text-gt-LONGEST_TEXT.false c.if-answer-lt-FIGURES_LENGTH.false c.put_counts.ensures
 

@@ -12,4 +12,4 @@ pub returns : goal.returns
 returns c =
     let a = c.args in
     list_done a.original.now a.copy.now a.list.now a.answer.now c.list-told.result c.list-told.new.list
-    c.tell.new.buf c.tell.result c.if-answer-lt-FIGURES_LENGTH.false c.list-told.ensures c.tell.ensures.0 c.tell.ensures.1
+    c.tell.new.buf c.tell.result c.if-answer-lt-FIGURES_LENGTH.false c.list-told.ensures c.tell.ensures.value c.tell.ensures.buf_after

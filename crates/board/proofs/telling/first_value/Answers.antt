@@ -4,14 +4,10 @@ use mathlib.Core.Path.{sym, ap}
 use lib.ListN.{get_or}
 use Rattle.rules.specs.declared.Answer.{Answer}
 use Rattle.rules.specs.Answers.{values}
-use Rattle.board.proofs.Answered.{first-none}
 use Rattle.board.proofs.telling.first_value.Goals as goal
 
 abbrev value : Answer → ℕ
 value a = get_or (values a) 0 0
-
-pub returns-in-NoCaller : goal.returns-in-NoCaller
-returns-in-NoCaller c = first-none c.args.answer c.in-NoCaller.in-NoCaller-own.keys7
 
 pub returns-in-Done : goal.returns-in-Done
 returns-in-Done c = sym (ap value c.in-Done.is)

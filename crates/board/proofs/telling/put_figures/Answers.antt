@@ -14,5 +14,5 @@ returns-in-Told c =
 pub returns : goal.returns
 returns c =
     figures-wrote c.args.answer c.number_of.result _ c.number_of.ensures
-    (ap (λ (k : ℕ). k ∷ 0 ∷ 0 ∷ 0 ∷ 0 ∷ 0 ∷ []) c.first_value.ensures ∙ sym (six-one c.args.answer c.in_default.in_default-own.keys2))
+    (ap (λ (k : ℕ). k ∷ 0 ∷ 0 ∷ 0 ∷ 0 ∷ 0 ∷ []) c.first_value.ensures ∙ sym (six-one c.args.answer c.in_default.not-Told))
     c.put_long-at.ensures c.put_six-2.ensures

@@ -22,118 +22,90 @@ use Rattle.comparing.proofs.ListedLaws.{list_room, Ahead, Turn, ahead-start, ahe
 use Rattle.comparing.proofs.differing.put_all_listed.Statement.{statement}
 use Rattle.comparing.proofs.differing.put_all_listed.Tie as tie
 
-abbrev invariant-loop : tie.invariant-loop
+abbrev invariant-loop : tie.invariant-loop-left
 invariant-loop given original copy out₀ at writing list many piece₀ next₀ i₀ left₀ out piece next i left =
     (length piece ≡ piece_room) × Ahead given writing original copy list out₀ at out next i left
 
-abbrev decreases-loop : tie.decreases-loop
+abbrev decreases-loop : tie.decreases-loop-left
 decreases-loop given original copy out₀ at writing list many piece₀ next₀ i₀ left₀ out piece next i left = left
 
-abbrev start : tie.After-list-figures invariant-loop decreases-loop → tie.Start invariant-loop decreases-loop
-start c = c.before.before.before.before.before
-
-abbrev figured : tie.At-loop invariant-loop decreases-loop → tie.After-list-figures invariant-loop decreases-loop
-figured c = c.before.before.before.before.before
-
 -- the list was filled
-all : (c : tie.After-list-figures invariant-loop decreases-loop)
-    → let a = (start c).args in
-    (c.list-figures.result ≡ Done (length (listed_lines a.original.now a.copy.now)))
-    × (c.list-figures.new.1.1.0 ≡ front (figures_listed a.original.now a.copy.now) (replicate {A = ℕ} list_room 0))
+all : (c : tie.After-list_figures-answer invariant-loop decreases-loop)
+    → let a = c.args in
+    (c.list_figures-answer.result ≡ Done (length (listed_lines a.original.now a.copy.now)))
+    × (c.list_figures-answer.new.list ≡ front (figures_listed a.original.now a.copy.now) (replicate {A = ℕ} list_room 0))
 all c =
-    let s = start c in
-    all_listed s.args.original.now s.args.copy.now (replicate {A = ℕ} list_room 0) s.pre.0
-    (length-replicate {A = ℕ} list_room 0) c.list-figures.result c.list-figures.new.1.1.0 c.list-figures.ensures
+    all_listed c.args.original.now c.args.copy.now (replicate {A = ℕ} list_room 0) c.requires.0
+    (length-replicate {A = ℕ} list_room 0) c.list_figures-answer.result c.list_figures-answer.new.list c.list_figures-answer.ensures
 
 -- so the answer is no other
 abbrev others : List ℕ
 others = 1 ∷ 2 ∷ 3 ∷ 4 ∷ 5 ∷ 6 ∷ 7 ∷ 8 ∷ 9 ∷ 10 ∷ 11 ∷ 12 ∷ 13 ∷ 14 ∷ 15 ∷ 16 ∷ 17 ∷ []
 
-returns : tie.Need-returns invariant-loop decreases-loop
+returns : tie.Need-returns-in_default invariant-loop decreases-loop
 returns c =
-    absurd (miss others 0 tt (subst (λ (x : Answer). OneOf others (tag_of the_type x)) (all c.before.before).0 c.match.keys2))
+    absurd (miss others 0 tt (subst (λ (x : Answer). OneOf others (tag_of the_type x)) (all c.before.before).0 c.in_default.in_default-own.keys2))
 
-loop-holds : tie.Need-loop-init invariant-loop decreases-loop
-loop-holds c =
-    let f = c.before.before.before.before in (
-      length-replicate {A = ℕ} piece_room 0,
-      ahead-start (replicate {A = ℕ} list_room 0) (all f).1
-          (ap (λ (x : Answer). get_or (values x) 0 0) (sym c.before.answer.given.1 ∙ (all f).0)),
-    )
+loop-holds : tie.Need-loop-left-init invariant-loop decreases-loop
+loop-holds c = (
+  length-replicate {A = ℕ} piece_room 0,
+  ahead-start (replicate {A = ℕ} list_room 0) (all c.before.before).1
+      (ap (λ (x : Answer). get_or (values x) 0 0) (sym c.in-Done.is ∙ (all c.before.before).0)),
+)
 
 -- the line whose turn it is: its figures stand in the list, and there is room for what is said of it
-long : (c : tie.At-loop invariant-loop decreases-loop) → length (figured c).list-figures.new.1.1.0 ≡ list_room
+long : (c : tie.At-loop-left invariant-loop decreases-loop) → length c.list_figures-answer.new.list ≡ list_room
 long c = search rules
 
-turn : (c : tie.In-loop invariant-loop decreases-loop)
-    → let l = c.before in
-    let a = (start (figured l)).args in
-    Turn a.given a.writing a.original.now a.copy.now (figured l).list-figures.new.1.1.0 a.out.now a.at
-    l.loop.out l.loop.next l.loop.i l.loop.left
-turn c = ahead-next c.before.loop.invariant.1 c.loop-test.true
+turn : (c : tie.In-loop-left invariant-loop decreases-loop)
+    → let a = c.args in
+    Turn a.given a.writing a.original.now a.copy.now c.list_figures-answer.new.list a.out.now a.at
+    c.loop-left.out c.loop-left.next c.loop-left.i c.loop-left.left
+turn c = ahead-next c.loop-left.invariant.1 c.loop-left-test.true
 
-inside : (c : tie.In-loop invariant-loop decreases-loop) → c.before.loop.i + 3 ≤ list_room
+inside : (c : tie.In-loop-left invariant-loop decreases-loop) → c.loop-left.i + 3 ≤ list_room
 inside c = omega (arith, (turn c).inside, long c.before)
 
-abbrev said : (c : tie.In-loop invariant-loop decreases-loop) → List ℕ
+abbrev said : (c : tie.In-loop-left invariant-loop decreases-loop) → List ℕ
 said c =
-    let l = c.before in
-    let a = (start (figured l)).args in
-    let list = (figured l).list-figures.new.1.1.0 in
-    said_of a.given a.original.now a.copy.now (get_or list l.loop.i 0) (get_or list (l.loop.i + 1) 0)
-    (get_or list (l.loop.i + 2) 0)
+    let a = c.args in
+    let list = c.list_figures-answer.new.list in
+    said_of a.given a.original.now a.copy.now (get_or list c.loop-left.i 0) (get_or list (c.loop-left.i + 1) 0)
+    (get_or list (c.loop-left.i + 2) 0)
 
-short : (c : tie.In-loop invariant-loop decreases-loop) → length (said c) ≤ piece_room
+short : (c : tie.In-loop-left invariant-loop decreases-loop) → length (said c) ≤ piece_room
 short c =
-    let l = c.before in
-    let s = start (figured l) in
-    let list = (figured l).list-figures.new.1.1.0 in
-    listed-room s.args.original.now s.args.copy.now (get_or list l.loop.i 0) (get_or list (l.loop.i + 1) 0)
-    (get_or list (l.loop.i + 2) 0) s.args.given s.pre.0 s.pre.1.0
+    let list = c.list_figures-answer.new.list in
+    listed-room c.args.original.now c.args.copy.now (get_or list c.loop-left.i 0) (get_or list (c.loop-left.i + 1) 0)
+    (get_or list (c.loop-left.i + 2) 0) c.args.given c.requires.0 c.requires.1.0
 
-room : (c : tie.In-loop invariant-loop decreases-loop) → length (said c) ≤ length c.before.loop.piece
-room c = omega (arith, short c, c.before.loop.invariant.0)
+room : (c : tie.In-loop-left invariant-loop decreases-loop) → length (said c) ≤ length c.loop-left.piece
+room c = omega (arith, short c, c.loop-left.invariant.0)
 
-taken : (c : tie.After-put-listed invariant-loop decreases-loop)
-    → take (c.put-listed.result - 0) c.put-listed.new.0 ≡ (turn c.before.before).piece
-taken c = let i = c.before.before in front-part c.put-listed.ensures (room i) ∙ (turn i).said
+taken : (c : tie.After-put_listed-n invariant-loop decreases-loop)
+    → take (c.put_listed-n.result - 0) c.put_listed-n.new.out ≡ (turn c.before.before).piece
+taken c = front-part c.put_listed-n.ensures (room c.before.before) ∙ (turn c.before.before).said
 
-put-listed-requires : tie.Need-put-listed-requires invariant-loop decreases-loop
+put-listed-requires : tie.Need-put_listed-n-requires invariant-loop decreases-loop
 put-listed-requires c κs = let t = turn c.before in (t.begins, (t.other, room c.before))
 
-part-put-piece-end : tie.Need-slice-bounds-put-piece-end invariant-loop decreases-loop
+part-put-piece-end : tie.Need-slice_bounds-put_piece-end invariant-loop decreases-loop
 part-put-piece-end c =
-    let p = c.before.before.before in
-    omega (arith, front-within p.put-listed.ensures (room p.before.before))
+    omega (arith, front-within c.put_listed-n.ensures (room c.before.before.before.before))
 
-put-piece-requires : tie.Need-put-piece-requires invariant-loop decreases-loop
+put-piece-requires : tie.Need-put_piece-next-requires invariant-loop decreases-loop
 put-piece-requires c κs =
-    let p = c.before.before.before.before in
-    let i = p.before.before in
-    let s = start (figured i.before) in
-    let t = turn i in (
-      omega (arith, due-within t.due, s.pre.1.1.0),
+    let t = turn c.before.before.before.before.before in (
+      omega (arith, due-within t.due, c.requires.1.1.0),
       (
-        omega (arith, ap length (front-part p.put-listed.ensures (room i)), short i),
-        λ e. omega (arith, ap length (taken p), due-room t.due s.pre.1.1.1 e),
+        omega (arith, ap length (front-part c.put_listed-n.ensures (room c.before.before.before.before.before)), short c.before.before.before.before.before),
+        λ e. omega (arith, ap length (taken c.before.before.before), due-room t.due c.requires.1.1.1 e),
       ),
     )
 
-loop-again : tie.Need-loop-preserved invariant-loop decreases-loop
+loop-again : tie.Need-loop-left-preserved invariant-loop decreases-loop
 loop-again c =
-    let q = c.before.before in
-    let p = q.before.before.before.before.before in
-    let i = p.before.before in
-    (wrote-length p.put-listed.ensures ∙ i.before.loop.invariant.0, (turn i).after (puts-as (taken p) q.put-piece.ensures))
+    (wrote-length c.put_listed-n.ensures ∙ c.loop-left.invariant.0, (turn c.before.before.before.before.before.before.before.before).after (puts-as (taken c.before.before.before.before.before.before) c.put_piece-next.ensures))
 
-pub put-all-listed-spec : {M : Type 1} → statement M
-put-all-listed-spec =
-    tie.close
-    (tie.spec invariant-loop decreases-loop (λ c. search rules) (λ c κs. search rules) (λ c. search rules) returns loop-holds
-    (λ c. let h = inside c in search rules) (λ c. let h = inside c in search rules) (λ c. let h = inside c in search rules)
-    (λ c. let h = inside c in search rules) (λ c. let h = inside c in search rules) (λ c. let h = inside c in search rules)
-    (λ c. search rules) (λ c. let h = inside c.before in search rules) (λ c. let h = inside c.before in search rules)
-    put-listed-requires (λ c. search rules) (λ c. search rules) part-put-piece-end put-piece-requires
-    (λ c. let h = inside c.before.before.before.before.before.before.before.before.before in search rules) (λ c. search rules)
-    (λ c. search rules) loop-again (λ c. due-same c.before.loop.invariant.1.due)
-    (λ c. ahead-end c.before.loop.invariant.1 c.loop-test.false))
+pub put_all_listed_spec : {M : Type 1} → statement M
+put_all_listed_spec = tie.close (tie.spec invariant-loop decreases-loop (λ c. search rules) (λ c κs. search rules) (λ c. search rules) returns loop-holds (λ c. let h = (ahead-next c.loop-left.invariant.1 c.loop-left-test.true).inside in let k : length c.list_figures-answer.new.list ≡ list_room = search rules in omega arith) (λ c. let h = (ahead-next c.loop-left.invariant.1 c.loop-left-test.true).inside in let k : length c.list_figures-answer.new.list ≡ list_room = search rules in omega arith) (λ c. let h = (ahead-next c.loop-left.invariant.1 c.loop-left-test.true).inside in let k : length c.list_figures-answer.new.list ≡ list_room = search rules in omega arith) (λ c. let h = (ahead-next c.loop-left.invariant.1 c.loop-left-test.true).inside in let k : length c.list_figures-answer.new.list ≡ list_room = search rules in omega arith) (λ c. let h = (ahead-next c.loop-left.invariant.1 c.loop-left-test.true).inside in let k : length c.list_figures-answer.new.list ≡ list_room = search rules in omega arith) (λ c. let h = (ahead-next c.loop-left.invariant.1 c.loop-left-test.true).inside in let k : length c.list_figures-answer.new.list ≡ list_room = search rules in omega arith) (λ c. search rules) (λ c. let h = inside c.before in search rules) (λ c. let h = inside c.before in search rules) put-listed-requires (λ c. search rules) (λ c. search rules) part-put-piece-end put-piece-requires (λ c. let h = inside c.before.before.before.before.before.before.before.before in search rules) (λ c. search rules) (λ c. search rules) loop-again (λ c. due-same c.loop-left.invariant.1.due) (λ c. ahead-end c.loop-left.invariant.1 c.loop-left-test.false))

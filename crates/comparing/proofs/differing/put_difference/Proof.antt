@@ -1,5 +1,4 @@
 -- `differing::put_difference` meets its contract: after each call the pieces from the next on are left. Assumes nothing.
-use borrow.Author.Rules.{rules}
 use Prim.Native.Nat.{ℕ}
 use native.Mathlib.Omega.{arith}
 use mathlib.Core.List.{List, ◌++◌}
@@ -25,37 +24,29 @@ after-0 s =
           (omega (arith, s.requires)),
     )
 
-abbrev after-1 : (c : tie.After-put-bytes) → From 1 c.put-bytes.new.0 c.put-bytes.result
-after-1 c = let d = after-0 c.before.before.before.before.before.before in (d.0, todo-step d.1 c.put-bytes.ensures)
+abbrev after-1 : (c : tie.After-put_bytes-a) → From 1 c.put_bytes-a.new.buf c.put_bytes-a.result
+after-1 c = let d = after-0 c.before.before.before.before.before.before in (d.0, todo-step d.1 c.put_bytes-a.ensures)
 
-abbrev after-2 : (c : tie.After-put-number) → From 2 c.put-number.new.0 c.put-number.result
-after-2 c = let d = after-1 c.before.before.before.before in (d.0, todo-step d.1 c.put-number.ensures)
+abbrev after-2 : (c : tie.After-put_number-b) → From 2 c.put_number-b.new.buf c.put_number-b.result
+after-2 c = let d = after-1 c.before.before.before.before in (d.0, todo-step d.1 c.put_number-b.ensures)
 
-abbrev after-3 : (c : tie.After-put-bytes2) → From 3 c.put-bytes2.new.0 c.put-bytes2.result
-after-3 c = let d = after-2 c.before.before.before.before.before in (d.0, todo-step d.1 c.put-bytes2.ensures)
+abbrev after-3 : (c : tie.After-put_bytes-c) → From 3 c.put_bytes-c.new.buf c.put_bytes-c.result
+after-3 c = let d = after-2 c.before.before.before.before.before.before in (d.0, todo-step d.1 c.put_bytes-c.ensures)
 
-abbrev after-4 : (c : tie.After-put-bytes3) → From 4 c.put-bytes3.new.0 c.put-bytes3.result
-after-4 c = let d = after-3 c.before.before.before.before in (d.0, todo-step d.1 c.put-bytes3.ensures)
+abbrev after-4 : (c : tie.After-put_bytes-d) → From 4 c.put_bytes-d.new.buf c.put_bytes-d.result
+after-4 c = let d = after-3 c.before.before.before.before in (d.0, todo-step d.1 c.put_bytes-d.ensures)
 
-abbrev after-5 : (c : tie.After-put-bytes4) → From 5 c.put-bytes4.new.0 c.put-bytes4.result
-after-5 c = let d = after-4 c.before.before.before.before.before in (d.0, todo-step d.1 c.put-bytes4.ensures)
+abbrev after-5 : (c : tie.After-put_bytes-e) → From 5 c.put_bytes-e.new.buf c.put_bytes-e.result
+after-5 c = let d = after-4 c.before.before.before.before.before.before in (d.0, todo-step d.1 c.put_bytes-e.ensures)
 
-abbrev after-6 : (c : tie.After-put-bytes5) → From 6 c.put-bytes5.new.0 c.put-bytes5.result
-after-6 c = let d = after-5 c.before.before.before.before in (d.0, todo-step d.1 c.put-bytes5.ensures)
+abbrev after-6 : (c : tie.After-put_bytes-f) → From 6 c.put_bytes-f.new.buf c.put_bytes-f.result
+after-6 c = let d = after-5 c.before.before.before.before in (d.0, todo-step d.1 c.put_bytes-f.ensures)
 
-abbrev after-7 : (c : tie.After-put-bytes6) → From 7 c.put-bytes6.new.0 c.put-bytes6.result
-after-7 c = let d = after-6 c.before.before.before.before.before in (d.0, todo-step d.1 c.put-bytes6.ensures)
+abbrev after-7 : (c : tie.After-put_bytes-g) → From 7 c.put_bytes-g.new.buf c.put_bytes-g.result
+after-7 c = let d = after-6 c.before.before.before.before.before.before in (d.0, todo-step d.1 c.put_bytes-g.ensures)
 
-abbrev after-8 : (c : tie.After-put-byte) → From 8 c.put_byte.new.0 c.put_byte.result
+abbrev after-8 : (c : tie.After-put_byte) → From 8 c.put_byte.new.buf c.put_byte.result
 after-8 c = let d = after-7 c.before.before.before.before in (d.0, todo-step d.1 c.put_byte.ensures)
 
-pub put-difference-spec : {M : Type 1} → statement M
-put-difference-spec =
-    tie.close
-    (tie.spec (λ c κs. todo-room (after-0 c.before.before.before.before.before).1)
-    (λ c κs. todo-room (after-1 c.before.before.before).1) (λ c. search rules)
-    (λ c κs. todo-room (after-2 c.before.before.before.before).1) (λ c κs. todo-room (after-3 c.before.before.before).1)
-    (λ c. search rules) (λ c κs. todo-room (after-4 c.before.before.before.before).1)
-    (λ c κs. todo-room (after-5 c.before.before.before).1) (λ c. search rules)
-    (λ c κs. todo-room (after-6 c.before.before.before.before).1) (λ c κs. todo-room (after-7 c.before.before.before).1)
-    (λ c. todo-same (after-8 c.before.before).1) (λ c. todo-end (after-8 c.before.before).1))
+pub put_difference_spec : {M : Type 1} → statement M
+put_difference_spec = tie.close (tie.spec (λ c κs. todo-room (after-0 c.before.before.before.before.before).1) (λ c κs. todo-room (after-1 c.before.before.before).1) (λ c κs. todo-room (after-2 c.before.before.before.before.before).1) (λ c κs. todo-room (after-3 c.before.before.before).1) (λ c κs. todo-room (after-4 c.before.before.before.before.before).1) (λ c κs. todo-room (after-5 c.before.before.before).1) (λ c κs. todo-room (after-6 c.before.before.before.before.before).1) (λ c κs. todo-room (after-7 c.before.before.before).1) (λ c. todo-same (after-8 c.before.before).1) (λ c. todo-end (after-8 c.before.before).1))

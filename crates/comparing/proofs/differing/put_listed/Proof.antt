@@ -15,78 +15,60 @@ use Rattle.comparing.proofs.DifferenceLaws.{said-lacking, said-both, said-writte
 use Rattle.comparing.proofs.differing.put_listed.Statement.{statement}
 use Rattle.comparing.proofs.differing.put_listed.Tie as tie
 
-abbrev start : tie.After-line-at → tie.Start
-start c = c.before.before.before.before
-
 -- what is said of the line; and what is put on each path
-abbrev said : tie.After-line-at → List ℕ
-said c = let a = (start c).args in said_of a.given a.original.now a.copy.now a.number a.begins a.other
+abbrev said : tie.After-line_at-line → List ℕ
+said c = let a = c.args in said_of a.given a.original.now a.copy.now a.number a.begins a.other
 
-lacking : (c : tie.Then2)
-    → let l = c.before.before in
-    text "line " ++ sides (start l).args.number l.line_at_lem.result.now (side none) ≡ said l
+lacking : (c : tie.Then-other-copy)
+    → text "line " ++ sides c.args.number c.line_at-line.result.now (side none) ≡ said c.before.before
 lacking c =
-    let l = c.before.before in
-    let a = (start l).args in
-    said-lacking a.original.now a.copy.now a.number a.begins a.other a.given _ c.before.if1.true
-    l.line_at_lem.ensures c.if2.true
+    let a = c.args in
+    said-lacking a.original.now a.copy.now a.number a.begins a.other a.given _ c.if-given.true
+    c.line_at-line.ensures c.if-other-copy.true
 
-both : (c : tie.After-line-at2)
-    → let l = c.before.before.before.before.before in
-    text "line " ++ sides (start l).args.number l.line_at_lem.result.now c.line-at2.result.now ≡ said l
+both : (c : tie.After-line_at)
+    → text "line " ++ sides c.args.number c.line_at-line.result.now c.line_at.result.now ≡ said c.before.before.before.before.before.before
 both c =
-    let e = c.before.before.before in
-    let l = e.before.before in
-    let a = (start l).args in
-    said-both a.original.now a.copy.now a.number a.begins a.other a.given _ _ e.before.if1.true
-    l.line_at_lem.ensures c.line-at2.ensures e.if2.false
+    let a = c.args in
+    said-both a.original.now a.copy.now a.number a.begins a.other a.given _ _ c.if-given.true
+    c.line_at-line.ensures c.line_at.ensures c.if-other-copy.false
 
-written : (c : tie.Then3)
-    → let l = c.before.before in
-    text "written line " ++ sides (start l).args.number (side none) l.line_at_lem.result.now ≡ said l
+written : (c : tie.Then-other-copy-2)
+    → text "written line " ++ sides c.args.number (side none) c.line_at-line.result.now ≡ said c.before.before
 written c =
-    let l = c.before.before in
-    let a = (start l).args in
-    said-written a.original.now a.copy.now a.number a.begins a.other a.given _ c.before.if1.false
-    l.line_at_lem.ensures c.if3.true
+    let a = c.args in
+    said-written a.original.now a.copy.now a.number a.begins a.other a.given _ c.if-given.false
+    c.line_at-line.ensures c.if-other-copy-2.true
 
-nothing : (c : tie.Else3) → [] ≡ said c.before.before
+nothing : (c : tie.Else-other-copy-2) → [] ≡ said c.before.before
 nothing c =
-    let a = (start c.before.before).args in
-    said-nothing a.original.now a.copy.now a.number a.begins a.other a.given c.before.if1.false c.if3.false
+    let a = c.args in
+    said-nothing a.original.now a.copy.now a.number a.begins a.other a.given c.if-given.false c.if-other-copy-2.false
 
-put-difference-requires : tie.Need-put-difference-requires
+put-difference-requires : tie.Need-put_difference-requires
 put-difference-requires c κs =
-    let t = c.before.before.before in
-    omega (arith, ap length (lacking t), (start t.before.before).requires.1.1)
+    omega (arith, ap length (lacking c.before.before.before.before.before), c.requires.1.1)
 
-returns : tie.Need-returns
+returns : tie.Need-returns-then-other-copy
 returns c =
-    let p = c.before.before in
-    wrote_as (sym (lacking p.before.before.before.before)) p.put-difference.ensures
+    wrote_as (sym (lacking c.before.before.before.before.before.before.before.before)) c.put_difference.ensures
 
-put-difference-requires-2 : tie.Need-put-difference-requires-2
-put-difference-requires-2 c κs = omega (arith, ap length (both c), (start c.before.before.before.before.before).requires.1.1)
+put-difference-requires-2 : tie.Need-put_difference-requires-then-given
+put-difference-requires-2 c κs = omega (arith, ap length (both c), c.requires.1.1)
 
-returns-2 : tie.Need-returns-2
-returns-2 c = let p = c.before.before in wrote_as (sym (both p.before)) p.put-difference2.ensures
+returns-2 : tie.Need-returns-then-given
+returns-2 c = wrote_as (sym (both c.before.before.before)) c.put_difference-then-given.ensures
 
-put-difference-requires-3 : tie.Need-put-difference-requires-3
+put-difference-requires-3 : tie.Need-put_difference-requires-then-other-copy-2
 put-difference-requires-3 c κs =
-    let t = c.before.before.before in
-    omega (arith, ap length (written t), (start t.before.before).requires.1.1)
+    omega (arith, ap length (written c.before.before.before.before.before), c.requires.1.1)
 
-returns-3 : tie.Need-returns-3
+returns-3 : tie.Need-returns-then-other-copy-2
 returns-3 c =
-    let p = c.before.before in
-    wrote_as (sym (written p.before.before.before.before)) p.put-difference3.ensures
+    wrote_as (sym (written c.before.before.before.before.before.before.before.before)) c.put_difference-then-other-copy-2.ensures
 
-returns-4 : tie.Need-returns-4
+returns-4 : tie.Need-returns
 returns-4 c = wrote_as (sym (nothing c)) wrote_none
 
-pub put-listed-spec : {M : Type 1} → statement M
-put-listed-spec =
-    tie.close
-    (tie.spec (λ c κs. search rules) (λ c. search rules) (λ c. search rules) put-difference-requires (λ c. search rules) returns
-    (λ c. search rules) (λ c κs. search rules) put-difference-requires-2 (λ c. search rules) returns-2 (λ c. search rules)
-    (λ c. search rules) put-difference-requires-3 (λ c. search rules) returns-3 returns-4)
+pub put_listed_spec : {M : Type 1} → statement M
+put_listed_spec = tie.close (tie.spec (λ c κs. search rules) put-difference-requires (λ c. search rules) returns (λ c κs. search rules) put-difference-requires-2 (λ c. search rules) returns-2 put-difference-requires-3 (λ c. search rules) returns-3 returns-4)

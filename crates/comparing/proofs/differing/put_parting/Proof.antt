@@ -1,14 +1,14 @@
 -- `differing::put_parting` meets its contract. The invariant: the two are alike up to the lines at a and b (PartingLaws.antt); the measure
 -- is what is left of the sheet. Assumes nothing.
+use mathlib.Core.Bool.{not}
 use borrow.Author.Rules.{rules}
 use Prim.Native.Nat.{ℕ, ◌-◌, ◌≤◌, ◌<◌}
 use native.Mathlib.Omega.{arith}
 use mathlib.Core.Path.{◌≡◌, ap, ◌∙◌}
 use mathlib.Core.Bool.{false}
-use mathlib.Core.Logic.{inl, inr}
 use lib.ListN.{length, take, replicate, length-replicate}
 use lib.Seq.{slice}
-use borrow.Author.Tests.{not-true, not-false}
+use borrow.Author.Tests.{not-false}
 use Rattle.lists.specs.Lists.{alike}
 use Rattle.comparing.specs.Inner.{line_from, parted_at, parting_text, piece_room}
 use Rattle.comparing.proofs.DifferenceLaws.{parted-room, front-within, puts-as, puts-same}
@@ -16,119 +16,87 @@ use Rattle.showing.proofs.ShownLaws.{front-part}
 use Rattle.comparing.proofs.PartingLaws.{Together, together-start, together-on, held-alike, lines-there, together-end}
 use Rattle.comparing.proofs.differing.put_parting.Statement.{statement}
 use Rattle.comparing.proofs.differing.put_parting.Tie as tie
+use Rattle.comparing.proofs.differing.put_parting.Lts.{else-loop-a-test, then-loop-a-test+then-written-b, then-loop-a-test+else-written-b+then-not-is_word}
 
-abbrev invariant-loop : tie.invariant-loop
+abbrev invariant-loop : tie.invariant-loop-a
 invariant-loop sheet written out at writing a₀ b₀ n₀ a b n = Together sheet written a b n
 
-abbrev decreases-loop : tie.decreases-loop
+abbrev decreases-loop : tie.decreases-loop-a
 decreases-loop sheet written out at writing a₀ b₀ n₀ a b n = length sheet - a
 
-abbrev start : tie.At-loop invariant-loop decreases-loop → tie.Start invariant-loop decreases-loop
-start c = c.before.before.before.before
-
--- the two lines that were held against each other
-abbrev loop : tie.After-is-word invariant-loop decreases-loop → tie.At-loop invariant-loop decreases-loop
-loop c = c.before.before.before.before.before.before
-
-held : (c : tie.After-is-word invariant-loop decreases-loop)
-    → let p = c.before.before in
-    let l = loop c in
-    alike (slice l.loop.a p.before.part_end.result (start l).args.sheet.now)
-    (slice l.loop.b p.part-end2.result (start l).args.written.now) ≡ c.is_Is_word.result
+held : (c : tie.After-is_word invariant-loop decreases-loop)
+    → alike (slice c.loop-a.a c.part_end-end.result c.args.sheet.now)
+    (slice c.loop-a.b c.part_end-there.result c.args.written.now) ≡ c.is_word.result
 held c =
-    let p = c.before.before in
-    let l = loop c in
-    held-alike (start l).args.sheet.now (start l).args.written.now l.loop.a l.loop.b p.before.part_end.result
-    p.part-end2.result c.is_Is_word.result p.part-end2.ensures.low c.is_Is_word.ensures
+    held-alike c.args.sheet.now c.args.written.now c.loop-a.a c.loop-a.b c.part_end-end.result
+    c.part_end-there.result c.is_word.result c.part_end-there.ensures.low c.is_word.ensures
 
-loop-holds : tie.Need-loop-init invariant-loop decreases-loop
-loop-holds c = let a = c.before.before.before.args in together-start a.sheet.now a.written.now
+loop-holds : tie.Need-loop-a-init invariant-loop decreases-loop
+loop-holds c = let a = c.args in together-start a.sheet.now a.written.now
 
-loop-again : tie.Need-loop-preserved invariant-loop decreases-loop
+loop-again : tie.Need-loop-a-preserved invariant-loop decreases-loop
 loop-again c =
-    let w = c.before in
-    let p = w.before.before in
-    let e = p.before.before in
-    let l = loop w in
-    together-on (start l).args.sheet.now (start l).args.written.now l.loop.a l.loop.b l.loop.n l.loop.inv
-    e.before.loop-test.true e.if1.false p.before.part_end.ensures p.part-end2.ensures
-    (held w ∙ not-false w.is_Is_word.result c.if2.false)
+    together-on c.args.sheet.now c.args.written.now c.loop-a.a c.loop-a.b c.loop-a.n c.loop-a.invariant
+    c.loop-a-test.true c.if-written-b.false c.part_end-end.ensures c.part_end-there.ensures
+    (held c.before ∙ not-false c.is_word.result (ap not c.if-not-is_word.false))
 
-add-n : tie.Need-overflow-add-n invariant-loop decreases-loop
+add-n : tie.Need-overflow_add-n invariant-loop decreases-loop
 add-n c =
-    let l = loop c.before in
-    record { fits = omega (arith, l.loop.inv.count, l.loop.inv.past, (start l).pre.0) }
+    record { fits = omega (arith, c.loop-a.invariant.count, c.loop-a.invariant.past, c.requires.0) }
 
 -- behind the loop: what is said there is said of where the two part
-apart : (c : tie.Left-loop invariant-loop decreases-loop)
-    → let l = c.before in
-    let a = (start l).args in
-    l.loop.a < length a.sheet.now → l.loop.b < length a.written.now
-    → alike (line_from a.sheet.now l.loop.a) (line_from a.written.now l.loop.b) ≡ false
+apart : (c : tie.Left-loop-a invariant-loop decreases-loop)
+    → let a = c.args in
+    c.loop-a.a < length a.sheet.now → c.loop-a.b < length a.written.now
+    → alike (line_from a.sheet.now c.loop-a.a) (line_from a.written.now c.loop-a.b) ≡ false
 apart c h k =
-    let l = c.before in
-    let a = (start l).args in
-    elim c.loop-test.branch [
-      | inl v ↦ absurd (omega (arith, v.left))
-      | inr (inl v) ↦ absurd (omega (arith, v.1.taken))
-      | inr (inr v) ↦
-          lines-there a.sheet.now a.written.now l.loop.a l.loop.b v.2.result v.3.result h k v.2.ensures
-          v.3.ensures
-          ∙ held-alike a.sheet.now a.written.now l.loop.a l.loop.b v.2.result v.3.result v.5.result
-          v.3.ensures.low v.5.ensures
-          ∙ not-true v.5.result v.6.taken
+    let a = c.args in
+    elim c.loop-a-test.branch [
+      | else-loop-a-test v ↦ absurd (omega (arith, v.loop-a-test.false))
+      | then-loop-a-test+then-written-b v ↦ absurd (omega (arith, v.if-written-b.true))
+      | then-loop-a-test+else-written-b+then-not-is_word v ↦
+          let e = v.part_end-end in
+          let t = v.part_end-there in
+          lines-there a.sheet.now a.written.now c.loop-a.a c.loop-a.b e.result t.result h k e.ensures t.ensures
+          ∙ held-alike a.sheet.now a.written.now c.loop-a.a c.loop-a.b e.result t.result v.is_word.result t.ensures.low v.is_word.ensures
+          ∙ v.if-not-is_word.true
     ]
 
-short : (c : tie.After-piece invariant-loop decreases-loop)
-    → let l = c.before.before in
-    let a = (start l).args in
-    length (parted_at a.sheet.now l.loop.a a.written.now l.loop.b l.loop.n) ≤ piece_room
+short : (c : tie.After-piece-1 invariant-loop decreases-loop)
+    → let a = c.args in
+    length (parted_at a.sheet.now c.loop-a.a a.written.now c.loop-a.b c.loop-a.n) ≤ piece_room
 short c =
-    let l = c.before.before in
-    let s = start l in
-    parted-room s.args.sheet.now l.loop.a s.args.written.now l.loop.b l.loop.n s.pre.0 s.pre.1.0
+    parted-room c.args.sheet.now c.loop-a.a c.args.written.now c.loop-a.b c.loop-a.n c.requires.0 c.requires.1.0
 
-room : (c : tie.After-piece invariant-loop decreases-loop)
-    → let l = c.before.before in
-    let a = (start l).args in
-    length (parted_at a.sheet.now l.loop.a a.written.now l.loop.b l.loop.n) ≤ length (replicate {A = ℕ} piece_room 0)
+room : (c : tie.After-piece-1 invariant-loop decreases-loop)
+    → let a = c.args in
+    length (parted_at a.sheet.now c.loop-a.a a.written.now c.loop-a.b c.loop-a.n) ≤ length (replicate {A = ℕ} piece_room 0)
 room c = omega (arith, short c, length-replicate {A = ℕ} piece_room 0)
 
-said : (c : tie.After-put-parted invariant-loop decreases-loop)
-    → let a = (start c.before.before.before).args in
-    take (c.put-parted.result - 0) c.put-parted.new.0 ≡ parting_text a.sheet.now a.written.now
+said : (c : tie.After-put_parted-k invariant-loop decreases-loop)
+    → let a = c.args in
+    take (c.put_parted-k.result - 0) c.put_parted-k.new.out ≡ parting_text a.sheet.now a.written.now
 said c =
-    let e = c.before.before in
-    let l = e.before in
-    let a = (start l).args in
-    front-part c.put-parted.ensures (room c.before)
-    ∙ together-end a.sheet.now a.written.now l.loop.a l.loop.b l.loop.n l.loop.invariant (apart e)
+    let a = c.args in
+    front-part c.put_parted-k.ensures (room c.before)
+    ∙ together-end a.sheet.now a.written.now c.loop-a.a c.loop-a.b c.loop-a.n c.loop-a.invariant (apart c.before.before)
 
-part-put-piece-end : tie.Need-slice-bounds-put-piece-end invariant-loop decreases-loop
+part-put-piece-end : tie.Need-slice_bounds-put_piece-end invariant-loop decreases-loop
 part-put-piece-end c =
-    let p = c.before.before.before in
-    omega (arith, front-within p.put-parted.ensures (room p.before))
+    omega (arith, front-within c.put_parted-k.ensures (room c.before.before.before))
 
-put-piece-requires : tie.Need-put-piece-requires invariant-loop decreases-loop
-put-piece-requires c κs =
-    let p = c.before.before.before.before in
-    let s = start p.before.before.before in (
-      s.pre.1.1.0,
-      (
-        omega (arith, ap length (front-part p.put-parted.ensures (room p.before)), short p.before),
-        λ e. omega (arith, ap length (said p), s.pre.1.1.1 e),
-      ),
-    )
+put-piece-requires : tie.Need-put_piece-requires invariant-loop decreases-loop
+put-piece-requires c κs = (
+  c.requires.1.1.0,
+  (
+    omega (arith, ap length (front-part c.put_parted-k.ensures (room c.before.before.before.before)), short c.before.before.before.before),
+    λ e. omega (arith, ap length (said c.before.before.before), c.requires.1.1.1 e),
+  ),
+)
 
 returns : tie.Need-returns invariant-loop decreases-loop
 returns c =
-    let q = c.before.before in
-    puts-as (said q.before.before.before.before.before) q.put-piece.ensures
+    puts-as (said c.before.before.before.before.before.before) c.put_piece.ensures
 
-pub put-parting-spec : {M : Type 1} → statement M
-put-parting-spec =
-    tie.close
-    (tie.spec invariant-loop decreases-loop loop-holds (λ c κs. search rules) (λ c κs. search rules) (λ c. search rules) (λ c. search rules)
-    (λ c. search rules) (λ c κs. search rules) (λ c. search rules) (λ c. search rules) add-n (λ c. search rules) loop-again
-    (λ c. search rules) (λ c κs. room c) (λ c. search rules) (λ c. search rules) part-put-piece-end put-piece-requires
-    (λ c. puts-same _ (returns c)) returns)
+pub put_parting_spec : {M : Type 1} → statement M
+put_parting_spec = tie.close (tie.spec invariant-loop decreases-loop loop-holds (λ c κs. search rules) (λ c κs. search rules) (λ c. search rules) (λ c. search rules) (λ c. search rules) (λ c κs. search rules) (λ c. search rules) (λ c. search rules) add-n (λ c. search rules) loop-again (λ c. search rules) (λ c κs. room c) (λ c. search rules) (λ c. search rules) part-put-piece-end put-piece-requires (λ c. puts-same _ (returns c)) returns)

@@ -4,13 +4,11 @@ use native.Mathlib.Omega.{arith}
 use mathlib.Core.Path.{◌≡◌, sym, ap, ◌∙◌}
 use mathlib.Core.Bool.{true, false}
 use mathlib.Core.List.{List}
-use lib.ListN.{length, take, replicate, length-map, length-replicate}
+use lib.ListN.{length, take, replicate, length-replicate}
 use lib.Seq.{length-take-le}
 use borrow.Author.Rules.{rules}
 use Rattle.limits.specs.Limits.{page_room}
 use Rattle.lists.specs.Lists.{alike}
-use Rattle.records.specs.contracts.Program as program
-use Rattle.records.specs.contracts.Resource as resource
 use Rattle.text.proofs.Laws.{wrote-length, wrote-take}
 use Rattle.tables.specs.Tables.{plain, Arrays}
 use Rattle.page.specs.Page.{page}
@@ -25,72 +23,53 @@ use Rattle.comparing.proofs.verdicts.show_held.Tie as tie
 
 arrays : (s : tie.Start) → Arrays s.args.tables
 arrays s = record {
-  programs = sym (length-map s.args.tables.ledger.programs (program.the_field).into) ∙ s.well-formed.0.1.1.0.1.1.0.1.0.1;
+  programs = search rules;
   links = search rules;
   holders = search rules;
-  resources = sym (length-map s.args.tables.ledger.numbers.resources (resource.the_field).into)
-      ∙ s.well-formed.0.1.1.0.1.1.1.1.1.0.1.1.1.0.1.0.1;
+  resources = search rules;
 }
 
-fits : (c : tie.After-space) → CanPage c.before.before.before.before.args.tables (replicate {A = ℕ} page_room 0)
+fits : (c : tie.After-space-1) → CanPage c.args.tables (replicate {A = ℕ} page_room 0)
 fits c =
-    let s = c.before.before.before.before in
-    can-page s.args.tables (replicate {A = ℕ} page_room 0) (arrays s) s.requires.0
+    can-page c.args.tables (replicate {A = ℕ} page_room 0) (arrays c.before.before.before.before) c.requires.0
     (omega (arith, length-replicate {A = ℕ} page_room 0))
 
-within : (c : tie.After-put-page) → c.put-page.result ≤ length c.put-page.new.0
-within c = omega (arith, c.put-page.ensures.place, wrote-length c.put-page.ensures, (fits c.before).room)
+within : (c : tie.After-put_page-n) → c.put_page-n.result ≤ length c.put_page-n.new.buf
+within c = omega (arith, c.put_page-n.ensures.place, wrote-length c.put_page-n.ensures, (fits c.before).room)
 
-abbrev Begun : tie.After-put-page → tie.Start
-Begun c = c.before.before.before.before.before
-
-begins : (c : tie.After-put-page) → take c.put-page.result c.put-page.new.0 ≡ page (plain (Begun c).args.tables)
-begins c = wrote-take c.put-page.ensures (fits c.before).room
-
-abbrev Put : tie.After-rest-is → tie.After-put-page
-Put c = c.before.before.before
+begins : (c : tie.After-put_page-n) → take c.put_page-n.result c.put_page-n.new.buf ≡ page (plain c.args.tables)
+begins c = wrote-take c.put_page-n.ensures (fits c.before).room
 
 -- what was compared
-alike_is : (c : tie.After-rest-is)
-    → let a = (Begun (Put c)).args in
-    alike a.next.now (page (plain a.tables)) ≡ c.rest-is.result
-alike_is c = ap (alike (Begun (Put c)).args.next.now) (sym (begins (Put c))) ∙ sym c.rest-is.ensures
+alike_is : (c : tie.After-rest_is)
+    → let a = c.args in
+    alike a.next.now (page (plain a.tables)) ≡ c.rest_is.result
+alike_is c = ap (alike c.args.next.now) (sym (begins c.before.before.before)) ∙ sym c.rest_is.ensures
 
-returns : tie.Need-returns
+returns : tie.Need-returns-then-rest_is
 returns c =
-    let f = c.before.before in
-    let r = f.before.before.before in
-    let a = (Begun (Put r)).args in
-    f.show-follows.ensures
-    ∙ sym (ap (λ (x : List ℕ). shown_in x a.out.now) (text_same a.tables a.name.now a.next.now (Begun (Put r)).requires.1.1
-    (other_way a.next.now (page (plain a.tables)) true (alike_is r ∙ f.before.before.if1.true))))
+    let a = c.args in
+    c.show_follows.ensures
+    ∙ sym (ap (λ (x : List ℕ). shown_in x a.out.now) (text_same a.tables a.name.now a.next.now c.requires.1.1
+    (other_way a.next.now (page (plain a.tables)) true (alike_is c.before.before.before.before.before ∙ c.if-rest_is.true))))
 
-returns-2 : tie.Need-returns-2
+returns-2 : tie.Need-returns
 returns-2 c =
-    let f = c.before.before in
-    let e = f.before.before.before in
-    let r = e.before in
-    let a = (Begun (Put r)).args in
-    f.show-parts.ensures
-    ∙ ap (λ (x : List ℕ). shown_in (parts_text a.name.now a.next.now x) a.out.now) (begins (Put r))
-    ∙ sym (ap (λ (x : List ℕ). shown_in x a.out.now) (text-other a.tables a.name.now a.next.now (Begun (Put r)).requires.1.1
-    (other_way a.next.now (page (plain a.tables)) false (alike_is r ∙ e.if1.false))))
+    let a = c.args in
+    c.show_parts.ensures
+    ∙ ap (λ (x : List ℕ). shown_in (parts_text a.name.now a.next.now x) a.out.now) (begins c.before.before.before.before.before.before.before.before.before)
+    ∙ sym (ap (λ (x : List ℕ). shown_in x a.out.now) (text-other a.tables a.name.now a.next.now c.requires.1.1
+    (other_way a.next.now (page (plain a.tables)) false (alike_is c.before.before.before.before.before.before ∙ c.if-rest_is.false))))
 
-show-parts-requires : tie.Need-show-parts-requires
+show-parts-requires : tie.Need-show_parts-requires
 show-parts-requires c κs =
-    let p = Put c.before.before.before in
-    let s = Begun p in
-    let long = length-take-le p.put-page.result p.put-page.last.0 (within p) in (
-      s.pre.1.0,
+    let long = length-take-le c.put_page-n.result c.put_page-n.new.buf (within c.before.before.before.before.before.before) in (
+      c.requires.1.0,
       (
-        read-room s.args.next.now s.pre.1.1,
-        omega (arith, long, wrote-length p.put-page.ensures, within p, length-replicate {A = ℕ} page_room 0),
+        read-room c.args.next.now c.requires.1.1,
+        omega (arith, long, wrote-length c.put_page-n.ensures, within c.before.before.before.before.before.before, length-replicate {A = ℕ} page_room 0),
       ),
     )
 
-pub show-held-spec : {M : Type 1} → statement M
-show-held-spec =
-    tie.close
-    (tie.spec (λ c. search rules) (λ c κs. fits c) (λ c. within c.before) (λ c. sym (length-take-le _ _ (within c.before.before)))
-    (λ c κs. search rules) (λ c κs. search rules) (λ c. search rules) returns (λ c. within (Put c.before))
-    (λ c. sym (length-take-le _ _ (within (Put c.before.before)))) show-parts-requires (λ c. search rules) returns-2)
+pub show_held_spec : {M : Type 1} → statement M
+show_held_spec = tie.close (tie.spec (λ c. search rules) (λ c κs. fits c) (λ c. within c.before) (λ c. sym (length-take-le _ _ (within c.before.before))) (λ c κs. search rules) (λ c κs. search rules) (λ c. search rules) returns (λ c. within c.before.before.before.before) (λ c. sym (length-take-le _ _ (within c.before.before.before.before.before))) show-parts-requires (λ c. search rules) returns-2)

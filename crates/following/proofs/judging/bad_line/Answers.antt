@@ -1,4 +1,4 @@
--- `judging::bad_line` meets its contract: an answer 15 is at no other place among the answers. Assumes nothing.
+-- `judging::bad_line` meets its contract: no other answer has the number 15. Assumes nothing.
 use Prim.Native.Nat.{ℕ}
 use mathlib.Core.Path.{sym, ap, ◌∙◌}
 use mathlib.Core.List.{List}
@@ -15,4 +15,4 @@ returns-in-NotRead c n e v = ap (λ (vs : List ℕ). get_or vs 0 0) (sym (ap val
 pub returns-in_default : goal.returns-in_default
 returns-in_default c n e v =
     let a = c.args.answer in
-    clash (eq-eqb (number a) 15 e) (not-fifteen a c.in_default.in_default-own.keys2)
+    clash (eq-eqb (number a) 15 e) (not-fifteen a c.in_default.not-NotRead)

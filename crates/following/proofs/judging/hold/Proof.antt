@@ -1,26 +1,23 @@
 -- `judging::hold` meets its contract: the page that the tables write is compared, byte for byte, with one that is read. Assumes nothing.
 use Prim.Native.Nat.{ℕ, ◌≤◌}
 use native.Mathlib.Omega.{arith}
-use mathlib.Core.Path.{◌≡◌, refl, sym, ap, ◌∙◌}
+use mathlib.Core.Path.{◌≡◌, sym, ap, ◌∙◌}
 use mathlib.Core.Logic.{◌≢◌}
-use mathlib.Core.Bool.{Bool, true, false}
-use mathlib.Core.List.{List, [], ◌∷◌}
-use lib.ListN.{length, take, replicate, length-map, length-replicate}
+use mathlib.Core.Bool.{true, false}
+use mathlib.Core.List.{List}
+use lib.ListN.{length, take, replicate, length-replicate}
 use lib.Seq.{length-take-le}
 use borrow.Author.Rules.{rules}
 use Rattle.limits.specs.Limits.{page_room}
 use Rattle.lists.specs.Lists.{alike}
-use Rattle.records.specs.contracts.Program as program
-use Rattle.records.specs.contracts.Resource as resource
 use Rattle.text.proofs.Laws.{wrote-length, wrote-take}
-use Rattle.rules.specs.Answers as answers
 use Rattle.tables.specs.Tables.{plain, Arrays}
 use Rattle.tables.specs.Calls.{Result}
 use Rattle.page.specs.Page.{page}
 use Rattle.page.specs.Inner.{CanPage}
 use Rattle.page.proofs.Lending.{can-page}
 use Rattle.reader.specs.Reading.{reading}
-use Rattle.following.specs.Following.{Verdict, briefly, refused_at, compared, held_against}
+use Rattle.following.specs.Following.{briefly, refused_at, compared, held_against}
 use Rattle.following.specs.declared.judging.Verdict.TheVariants as tell
 use Rattle.following.proofs.Judged.{not-page, held-not, held-is, compared_same, compared-other, other_way}
 use Rattle.following.proofs.judging.hold.Statement.{statement}

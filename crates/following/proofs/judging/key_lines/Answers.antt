@@ -1,6 +1,6 @@
 -- `judging::key_lines` meets its contract. The invariant: the tables after the lines from `at` on are those after all lines.
 -- The measure is how much of the text is left. Assumes nothing.
-use Prim.Native.Nat.{ℕ, ◌-◌}
+use Prim.Native.Nat.{ℕ}
 use native.Mathlib.Omega.{arith}
 use mathlib.Core.Path.{refl, sym, ap, ◌∙◌}
 use mathlib.Core.List.{List}

@@ -32,38 +32,29 @@ after-0 s =
           (omega (arith, s.requires, page-room a.name.now a.s.now a.answer (omega (arith, s.requires)) (omega (arith, s.requires)))),
     )
 
-abbrev after-1 : (c : tie.After-put-bytes) → From 1 c.put-bytes.new.0 c.put-bytes.result
-after-1 c = let d = after-0 c.before.before.before.before.before in (d.0, todo-step d.1 c.put-bytes.ensures)
+abbrev after-1 : (c : tie.After-put_bytes-a) → From 1 c.put_bytes-a.new.buf c.put_bytes-a.result
+after-1 c = let d = after-0 c.before.before.before.before.before in (d.0, todo-step d.1 c.put_bytes-a.ensures)
 
-abbrev after-2 : (c : tie.After-put-bytes2) → From 2 c.put-bytes2.new.0 c.put-bytes2.result
-after-2 c = let d = after-1 c.before.before.before.before.before in (d.0, todo-step d.1 c.put-bytes2.ensures)
+abbrev after-2 : (c : tie.After-put_bytes-b) → From 2 c.put_bytes-b.new.buf c.put_bytes-b.result
+after-2 c = let d = after-1 c.before.before.before.before.before.before in (d.0, todo-step d.1 c.put_bytes-b.ensures)
 
-abbrev after-3 : (c : tie.After-put-bytes3) → From 3 c.put-bytes3.new.0 c.put-bytes3.result
+abbrev after-3 : (c : tie.After-put_bytes-c) → From 3 c.put_bytes-c.new.buf c.put_bytes-c.result
 after-3 c =
-    let p = c.before.before.before.before.before in
-    let d = after-2 p.before.before.before.before in
-    (d.0, todo-step d.1 (wrote_as (sym (printed-all d.0.args.answer p.print-answer.ensures)) c.put-bytes3.ensures))
+    let d = after-2 c.before.before.before.before.before.before.before.before in
+    (d.0, todo-step d.1 (wrote_as (sym (printed-all d.0.args.answer c.print_answer-n.ensures)) c.put_bytes-c.ensures))
 
-abbrev after-4 : (c : tie.After-put-bad) → From 4 c.put-bad.new.0 c.put-bad.result
-after-4 c = let d = after-3 c.before.before.before.before in (d.0, todo-step d.1 c.put-bad.ensures)
+abbrev after-4 : (c : tie.After-put_bad) → From 4 c.put_bad.new.out c.put_bad.result
+after-4 c = let d = after-3 c.before.before.before.before in (d.0, todo-step d.1 c.put_bad.ensures)
 
-part-put-bytes-end : tie.Need-slice-bounds-put-bytes-end
+part-put-bytes-end : tie.Need-slice_bounds-put_bytes-end-2
 part-put-bytes-end c =
-    let p = c.before.before.before in
-    let d = after-2 p.before.before.before.before in
-    omega (arith, printed-within d.0.args.answer p.print-answer.ensures)
+    let d = after-2 c.before.before.before.before.before.before in
+    omega (arith, printed-within d.0.args.answer c.print_answer-n.ensures)
 
-put-bytes-requires-3 : tie.Need-put-bytes-requires-3
+put-bytes-requires-3 : tie.Need-put_bytes-c-requires
 put-bytes-requires-3 c κs =
-    let p = c.before.before.before.before in
-    let d = after-2 p.before.before.before.before in
-    omega (arith, ap length (printed-all d.0.args.answer p.print-answer.ensures), todo-room d.1)
+    let d = after-2 c.before.before.before.before.before.before.before in
+    omega (arith, ap length (printed-all d.0.args.answer c.print_answer-n.ensures), todo-room d.1)
 
-pub put-text-spec : {M : Type 1} → statement M
-put-text-spec =
-    tie.close
-    (tie.spec (λ c κs. todo-room (after-0 c.before.before.before.before).1) (λ c. search rules)
-    (λ c κs. todo-room (after-1 c.before.before.before.before).1) (λ c. search rules) (λ c κs. search rules)
-    (λ c. search rules) (λ c. search rules) part-put-bytes-end put-bytes-requires-3
-    (λ c κs. todo-room (after-3 c.before.before.before).1) (λ c. todo-same (after-4 c.before.before).1)
-    (λ c. todo-end (after-4 c.before.before).1))
+pub put_text_spec : {M : Type 1} → statement M
+put_text_spec = tie.close (tie.spec (λ c κs. todo-room (after-0 c.before.before.before.before).1) (λ c κs. todo-room (after-1 c.before.before.before.before.before).1) (λ c. search rules) (λ c κs. search rules) (λ c. search rules) (λ c. search rules) part-put-bytes-end put-bytes-requires-3 (λ c κs. todo-room (after-3 c.before.before.before).1) (λ c. todo-same (after-4 c.before.before).1) (λ c. todo-end (after-4 c.before.before).1))

@@ -21,31 +21,24 @@ From k l at =
     (s : tie.Start) × let a : ℕ = number s.args.answer in
     Todo s.args.out.now s.args.at (refusal a) l at (drop k (text " (refused: " ∷ meant a ∷ text ")" ∷ []))
 
-abbrev after-0 : (c : tie.Else1) → let s = c.before.before.before in From 0 s.args.out.now s.args.at
+abbrev after-0 : (c : tie.Else-number_of-lt2) → From 0 c.args.out.now c.args.at
 after-0 c =
-    let n = c.before in
-    let s = n.before.before in
-    let a : ℕ = number s.args.answer in
-    let h : 2 ≤ a = omega (arith, n.number_of.ensures, c.if1.false) in
-    (s, todo-start (text " (refused: " ∷ meant a ∷ text ")" ∷ []) (refusal-pieces a h) s.requires)
+    let a : ℕ = number c.args.answer in
+    let h : 2 ≤ a = omega (arith, c.number_of.ensures, c.if-number_of-lt2.false) in
+    (c.before.before.before, todo-start (text " (refused: " ∷ meant a ∷ text ")" ∷ []) (refusal-pieces a h) c.requires)
 
-abbrev after-1 : (c : tie.After-put-bytes) → From 1 c.put-bytes.new.0 c.put-bytes.result
-after-1 c = let d = after-0 c.before.before.before in (d.0, todo-step d.1 c.put-bytes.ensures)
+abbrev after-1 : (c : tie.After-put_bytes-a) → From 1 c.put_bytes-a.new.buf c.put_bytes-a.result
+after-1 c = let d = after-0 c.before.before.before.before in (d.0, todo-step d.1 c.put_bytes-a.ensures)
 
-abbrev after-2 : (c : tie.After-put-meaning) → From 2 c.put-meaning.new.0 c.put-meaning.result
-after-2 c = let d = after-1 c.before.before.before.before in (d.0, todo-step d.1 c.put-meaning.ensures)
+abbrev after-2 : (c : tie.After-put_meaning-b) → From 2 c.put_meaning-b.new.out c.put_meaning-b.result
+after-2 c = let d = after-1 c.before.before.before.before in (d.0, todo-step d.1 c.put_meaning-b.ensures)
 
-abbrev after-3 : (c : tie.After-put-byte) → From 3 c.put_byte.new.0 c.put_byte.result
+abbrev after-3 : (c : tie.After-put_byte) → From 3 c.put_byte.new.buf c.put_byte.result
 after-3 c = let d = after-2 c.before.before.before.before in (d.0, todo-step d.1 c.put_byte.ensures)
 
-returns : tie.Need-returns
+returns : tie.Need-returns-then-number_of-lt2
 returns c =
-    let n = c.before in
-    wrote_as (refusal-none (number n.before.before.args.answer) (omega (arith, n.number_of.ensures, c.if1.true))) wrote_none
+    wrote_as (refusal-none (number c.args.answer) (omega (arith, c.number_of.ensures, c.if-number_of-lt2.true))) wrote_none
 
-pub put-refusal-spec : {M : Type 1} → statement M
-put-refusal-spec =
-    tie.close
-    (tie.spec (λ c κs. search rules) returns (λ c. search rules) (λ c κs. todo-room (after-0 c.before.before).1)
-    (λ c κs. todo-room (after-1 c.before.before.before).1) (λ c κs. todo-room (after-2 c.before.before.before).1)
-    (λ c. search rules) (λ c. todo-end (after-3 c.before.before).1))
+pub put_refusal_spec : {M : Type 1} → statement M
+put_refusal_spec = tie.close (tie.spec (λ c κs. search rules) returns (λ c κs. todo-room (after-0 c.before.before.before).1) (λ c κs. todo-room (after-1 c.before.before.before).1) (λ c κs. todo-room (after-2 c.before.before.before).1) (λ c. search rules) (λ c. todo-end (after-3 c.before.before).1))

@@ -1,7 +1,6 @@
 -- `requests::put_request` meets its contract: after each call the pieces from the next on are left. Assumes nothing.
 use Prim.Native.Nat.{ℕ}
 use native.Mathlib.Omega.{arith}
-use borrow.Author.Rules.{rules}
 use mathlib.Core.List.{List}
 use lib.ListN.{drop}
 use Rattle.text.proofs.Laws.{Todo, todo-start, todo-step, todo-room, todo-end, todo-same}
@@ -29,34 +28,26 @@ after-0 s =
           (omega (arith, s.requires, request-room a.count a.line.now a.answer)),
     )
 
-abbrev after-1 : (c : tie.After-put-number) → From 1 c.put-number.new.0 c.put-number.result
-after-1 c = let d = after-0 c.before.before.before.before in (d.0, todo-step d.1 c.put-number.ensures)
+abbrev after-1 : (c : tie.After-put_number-a) → From 1 c.put_number-a.new.buf c.put_number-a.result
+after-1 c = let d = after-0 c.before.before.before.before in (d.0, todo-step d.1 c.put_number-a.ensures)
 
-abbrev after-2 : (c : tie.After-put-bytes) → From 2 c.put-bytes.new.0 c.put-bytes.result
-after-2 c = let d = after-1 c.before.before.before.before.before in (d.0, todo-step d.1 c.put-bytes.ensures)
+abbrev after-2 : (c : tie.After-put_bytes-b) → From 2 c.put_bytes-b.new.buf c.put_bytes-b.result
+after-2 c = let d = after-1 c.before.before.before.before.before.before in (d.0, todo-step d.1 c.put_bytes-b.ensures)
 
-abbrev after-3 : (c : tie.After-put-line) → From 3 c.put-line.new.0 c.put-line.result
-after-3 c = let d = after-2 c.before.before.before.before in (d.0, todo-step d.1 c.put-line.ensures)
+abbrev after-3 : (c : tie.After-put_line-c) → From 3 c.put_line-c.new.out c.put_line-c.result
+after-3 c = let d = after-2 c.before.before.before.before in (d.0, todo-step d.1 c.put_line-c.ensures)
 
-abbrev after-4 : (c : tie.After-put-bytes2) → From 4 c.put-bytes2.new.0 c.put-bytes2.result
-after-4 c = let d = after-3 c.before.before.before.before.before in (d.0, todo-step d.1 c.put-bytes2.ensures)
+abbrev after-4 : (c : tie.After-put_bytes-d) → From 4 c.put_bytes-d.new.buf c.put_bytes-d.result
+after-4 c = let d = after-3 c.before.before.before.before.before.before in (d.0, todo-step d.1 c.put_bytes-d.ensures)
 
-abbrev after-5 : (c : tie.After-put-answer) → From 5 c.put-answer.new.0 c.put-answer.result
-after-5 c = let d = after-4 c.before.before.before.before in (d.0, todo-step d.1 c.put-answer.ensures)
+abbrev after-5 : (c : tie.After-put_answer-e) → From 5 c.put_answer-e.new.out c.put_answer-e.result
+after-5 c = let d = after-4 c.before.before.before.before in (d.0, todo-step d.1 c.put_answer-e.ensures)
 
-abbrev after-6 : (c : tie.After-put-refusal) → From 6 c.put-refusal.new.0 c.put-refusal.result
-after-6 c = let d = after-5 c.before.before.before.before in (d.0, todo-step d.1 c.put-refusal.ensures)
+abbrev after-6 : (c : tie.After-put_refusal-f) → From 6 c.put_refusal-f.new.out c.put_refusal-f.result
+after-6 c = let d = after-5 c.before.before.before.before in (d.0, todo-step d.1 c.put_refusal-f.ensures)
 
-abbrev after-7 : (c : tie.After-put-byte) → From 7 c.put_byte.new.0 c.put_byte.result
+abbrev after-7 : (c : tie.After-put_byte) → From 7 c.put_byte.new.buf c.put_byte.result
 after-7 c = let d = after-6 c.before.before.before.before in (d.0, todo-step d.1 c.put_byte.ensures)
 
-pub put-request-spec : {M : Type 1} → statement M
-put-request-spec =
-    tie.close
-    (tie.spec (λ c κs. todo-room (after-0 c.before.before.before).1) (λ c. search rules)
-    (λ c κs. todo-room (after-1 c.before.before.before.before).1)
-    (λ c κs. todo-room (after-2 c.before.before.before).1) (λ c. search rules)
-    (λ c κs. todo-room (after-3 c.before.before.before.before).1)
-    (λ c κs. todo-room (after-4 c.before.before.before).1) (λ c κs. todo-room (after-5 c.before.before.before).1)
-    (λ c κs. todo-room (after-6 c.before.before.before).1) (λ c. todo-same (after-7 c.before.before).1)
-    (λ c. todo-end (after-7 c.before.before).1))
+pub put_request_spec : {M : Type 1} → statement M
+put_request_spec = tie.close (tie.spec (λ c κs. todo-room (after-0 c.before.before.before).1) (λ c κs. todo-room (after-1 c.before.before.before.before.before).1) (λ c κs. todo-room (after-2 c.before.before.before).1) (λ c κs. todo-room (after-3 c.before.before.before.before.before).1) (λ c κs. todo-room (after-4 c.before.before.before).1) (λ c κs. todo-room (after-5 c.before.before.before).1) (λ c κs. todo-room (after-6 c.before.before.before).1) (λ c. todo-same (after-7 c.before.before).1) (λ c. todo-end (after-7 c.before.before).1))
