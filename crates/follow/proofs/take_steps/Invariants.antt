@@ -3,8 +3,8 @@ use Rattle.std.proofs.Common.{◌-◌, ◌≤◌}
 use Rattle.follow.specs.Inner.{output_space}
 use Rattle.follow.proofs.take_steps.Given as goal
 
-abbrev pub invariant-loop-last : goal.invariant-loop-last
-invariant-loop-last l = (l.i ≤ l.last) × (l.standing.waiting.count ≤ output_space)
+abbrev pub invariant-loop-i : goal.invariant-loop-i
+invariant-loop-i l = (l.i ≤ l.last) × (l.standing.waiting.count ≤ output_space)
 
-abbrev pub decreases-loop-last : goal.decreases-loop-last
-decreases-loop-last l = l.last - l.i
+abbrev pub decreases-loop-i : goal.decreases-loop-i
+decreases-loop-i l = l.last - l.i
