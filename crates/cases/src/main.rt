@@ -4,28 +4,37 @@
 
 ghost use Rattle.std.specs.Prelude.{◌≤◌, length};
 
-use libc::STDOUT_FILENO;
 use limits::{PAGE_ROOM, USUAL_YEAR};
 use rules::Answer;
 use tables::Tables;
 
+// Writes bytes to standard output. Of a write that fails nothing is said; what is printed is held against what is stored.
+fn write(rt: &HostRuntime, bytes: &[u8]) {
+    let _ = rt.stdout().write_all(bytes);
+}
+
+// Writes a number in decimal.
+fn write_number(rt: &HostRuntime, n: u64) {
+    let _ = print!(rt; "{n}");
+}
+
 // Writes the first n bytes of a buffer.
-fn write_front(buf: &[u8], n: usize)
+fn write_front(rt: &HostRuntime, buf: &[u8], n: usize)
     requires { n ≤ length buf.now }
 {
-    io::write_all(STDOUT_FILENO, &buf[..n]);
+    write(rt, &buf[..n]);
 }
 
 // Prints a line and what it comes to.
-fn show(tables: Tables, line: &[u8]) -> Tables {
+fn show(rt: &HostRuntime, tables: Tables, line: &[u8]) -> Tables {
     let mut out = [0u8; PAGE_ROOM];
-    io::write_all(STDOUT_FILENO, b"> ");
-    io::write_all(STDOUT_FILENO, line);
-    io::write_all(STDOUT_FILENO, b"\n");
+    write(rt, b"> ");
+    write(rt, line);
+    write(rt, b"\n");
     let printed = console::print_line(tables, line, &mut out);
     let answer = printed.answer;
     let n = console::bytes_printed(answer);
-    write_front(&out, n);
+    write_front(rt, &out, n);
     printed.tables
 }
 
@@ -52,71 +61,71 @@ fn with_head(tables: Tables, p: u8) -> Tables {
 }
 
 // Two programs, one of them scheduled.
-fn two_programs() -> Tables {
+fn two_programs(rt: &HostRuntime) -> Tables {
     let made = Tables::fresh(4, 1, 1, USUAL_YEAR as u64);
-    let a = show(made.tables, b"LOAD,A,10");
-    let b = show(a, b"LOAD,B,10");
-    show(b, b"RU,A")
+    let a = show(rt, made.tables, b"LOAD,A,10");
+    let b = show(rt, a, b"LOAD,B,10");
+    show(rt, b, b"RU,A")
 }
 
 // Bench 8: the last hundredth of the first day, and the tick behind it.
-fn day_end() {
-    let t = at_clock(two_programs(), 8639999);
-    let a = show(t, b"EXEC,11");
-    let b = show(a, b"TICK");
-    show(b, b"EXEC,11");
+fn day_end(rt: &HostRuntime) {
+    let t = at_clock(two_programs(rt), 8639999);
+    let a = show(rt, t, b"EXEC,11");
+    let b = show(rt, a, b"TICK");
+    show(rt, b, b"EXEC,11");
 }
 
 // The last ticks of a year's last day, with timers due at them.
-fn year_end() {
-    let t = at_clock(two_programs(), 3153599997);
-    let a = show(t, b"EXEC,12,A,1,1,2");
-    let b = show(a, b"EXEC,12,B,1,0,3");
-    let c = show(b, b"EXEC,11");
-    let d = show(c, b"EXEC,6");
-    let e = show(d, b"TICK");
-    let f = show(e, b"TICK");
-    let g = show(f, b"PAGE");
-    let h = show(g, b"EXEC,11");
-    let i = show(h, b"TICK");
-    let j = show(i, b"PAGE");
-    show(j, b"EXEC,11");
+fn year_end(rt: &HostRuntime) {
+    let t = at_clock(two_programs(rt), 3153599997);
+    let a = show(rt, t, b"EXEC,12,A,1,1,2");
+    let b = show(rt, a, b"EXEC,12,B,1,0,3");
+    let c = show(rt, b, b"EXEC,11");
+    let d = show(rt, c, b"EXEC,6");
+    let e = show(rt, d, b"TICK");
+    let f = show(rt, e, b"TICK");
+    let g = show(rt, f, b"PAGE");
+    let h = show(rt, g, b"EXEC,11");
+    let i = show(rt, h, b"TICK");
+    let j = show(rt, i, b"PAGE");
+    show(rt, j, b"EXEC,11");
 }
 
 // The clock's ceiling: a timer may be due beyond it, and no tick goes past it.
-fn ceiling() {
-    let t = at_clock(two_programs(), 999999999999);
-    let a = show(t, b"EXEC,12,B,4,4095,4095");
-    let b = show(a, b"TICK");
-    let c = show(b, b"TICK");
-    let d = show(c, b"EXEC,11");
-    show(d, b"PAGE");
+fn ceiling(rt: &HostRuntime) {
+    let t = at_clock(two_programs(rt), 999999999999);
+    let a = show(rt, t, b"EXEC,12,B,4,4095,4095");
+    let b = show(rt, a, b"TICK");
+    let c = show(rt, b, b"TICK");
+    let d = show(rt, c, b"EXEC,11");
+    show(rt, d, b"PAGE");
 }
 
 // The ceiling and many ticks at once: refused as a whole, or made up to the last one.
-fn ceiling_at_once() {
-    let t = at_clock(two_programs(), 999999999990);
-    let a = show(t, b"EXEC,12,A,1,3,1");
-    let b = show(a, b"EXEC,12,B,1,0,4");
-    let c = show(b, b"EXEC,6");
-    let d = show(c, b"TICK,11");
-    let e = show(d, b"TICK,0");
-    let f = show(e, b"PAGE");
-    let g = show(f, b"TICK,10");
-    let h = show(g, b"PAGE");
-    show(h, b"TICK,1");
+fn ceiling_at_once(rt: &HostRuntime) {
+    let t = at_clock(two_programs(rt), 999999999990);
+    let a = show(rt, t, b"EXEC,12,A,1,3,1");
+    let b = show(rt, a, b"EXEC,12,B,1,0,4");
+    let c = show(rt, b, b"EXEC,6");
+    let d = show(rt, c, b"TICK,11");
+    let e = show(rt, d, b"TICK,0");
+    let f = show(rt, e, b"PAGE");
+    let g = show(rt, f, b"TICK,10");
+    let h = show(rt, g, b"PAGE");
+    show(rt, h, b"TICK,1");
 }
 
 // Tables that are not sound: 14 comes before all else.
-fn unsound() {
-    let t = with_head(two_programs(), 2);
-    let r = show(t, b"RU,B");
-    let a = show(r, b"TICK,5");
-    let b = show(a, b"no line");
-    let c = show(b, b"FRESH,1,0,0");
-    let d = show(c, b"PAGE");
+fn unsound(rt: &HostRuntime) {
+    let t = with_head(two_programs(rt), 2);
+    let r = show(rt, t, b"RU,B");
+    let a = show(rt, r, b"TICK,5");
+    let b = show(rt, a, b"no line");
+    let c = show(rt, b, b"FRESH,1,0,0");
+    let d = show(rt, c, b"PAGE");
     let e = with_head(d, 1);
-    show(e, b"PAGE");
+    show(rt, e, b"PAGE");
 }
 
 // 1 for a byte that is not as it was lent, and else 0.
@@ -139,44 +148,44 @@ fn touched(buf: &[u8]) -> u64 {
 }
 
 // Bench 11: PAGE with a buffer of so many bytes.
-fn page_into(tables: Tables, buf: &mut [u8]) {
+fn page_into(rt: &HostRuntime, tables: Tables, buf: &mut [u8]) {
     let r = console::key_line(tables, b"PAGE", buf);
     let answer = r.answer;
     match answer {
         Answer::Done(n) => {
-            io::write_all(STDOUT_FILENO, b"done, bytes ");
-            io::print_decimal(STDOUT_FILENO, n);
+            write(rt, b"done, bytes ");
+            write_number(rt, n);
         }
         Answer::TooShort(n) => {
-            io::write_all(STDOUT_FILENO, b"too short, bytes needed ");
-            io::print_decimal(STDOUT_FILENO, n);
+            write(rt, b"too short, bytes needed ");
+            write_number(rt, n);
         }
         _ => {
-            io::write_all(STDOUT_FILENO, b"refused");
+            write(rt, b"refused");
         }
     }
-    io::write_all(STDOUT_FILENO, b", bytes touched ");
-    io::print_decimal(STDOUT_FILENO, touched(buf));
-    io::write_all(STDOUT_FILENO, b"\n");
+    write(rt, b", bytes touched ");
+    write_number(rt, touched(buf));
+    write(rt, b"\n");
 }
 
-fn short_buffer() {
-    let t = two_programs();
+fn short_buffer(rt: &HostRuntime) {
+    let t = two_programs(rt);
     let mut exact = [7u8; 209];
-    page_into(t, &mut exact);
+    page_into(rt, t, &mut exact);
     let mut short = [7u8; 208];
-    page_into(t, &mut short);
+    page_into(rt, t, &mut short);
     let mut long = [7u8; 300];
-    page_into(t, &mut long);
+    page_into(rt, t, &mut long);
     let mut none = [7u8; 0];
-    page_into(t, &mut none);
+    page_into(rt, t, &mut none);
 }
 
-fn main() {
-    day_end();
-    year_end();
-    ceiling();
-    ceiling_at_once();
-    unsound();
-    short_buffer();
+fn main(rt: HostRuntime) {
+    day_end(&rt);
+    year_end(&rt);
+    ceiling(&rt);
+    ceiling_at_once(&rt);
+    unsound(&rt);
+    short_buffer(&rt);
 }

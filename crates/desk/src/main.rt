@@ -11,8 +11,8 @@ mod showing;
 
 use text::Number;
 
-fn list_lines(original: &mut [u8], copy: &mut [u8]) {
-    let both = files::read_both(original, copy);
+fn list_lines(rt: &HostRuntime, original: &mut [u8], copy: &mut [u8]) {
+    let both = files::read_both(rt, original, copy);
     if both.is_failed {
         return;
     }
@@ -20,20 +20,20 @@ fn list_lines(original: &mut [u8], copy: &mut [u8]) {
     let m = both.copy;
     let mut list = [0u64; showing::LISTED];
     let mut out = [0u8; output::SPACE];
-    showing::show_list(&mut out, &original[0..n], &copy[0..m], &mut list);
+    showing::show_list(rt, &mut out, &original[0..n], &copy[0..m], &mut list);
 }
 
 // What is wrong with the arguments themselves is said before a file is opened.
-fn find_line(original: &mut [u8], copy: &mut [u8]) {
+fn find_line(rt: &HostRuntime, original: &mut [u8], copy: &mut [u8]) {
     let mut key = [0u8; arguments::LONGEST];
-    let taken = arguments::take(3, b"KEY", &mut key);
+    let taken = arguments::take(rt, 3, b"KEY", &mut key);
     if taken.is_failed {
         return;
     }
-    let Number::Is(occurrence) = arguments::take_occurrence() else {
+    let Number::Is(occurrence) = arguments::take_occurrence(rt) else {
         return;
     };
-    let both = files::read_both(original, copy);
+    let both = files::read_both(rt, original, copy);
     if both.is_failed {
         return;
     }
@@ -42,6 +42,7 @@ fn find_line(original: &mut [u8], copy: &mut [u8]) {
     let k = taken.count;
     let mut out = [0u8; output::SPACE];
     showing::show_found(
+        rt,
         &mut out,
         &original[0..n],
         &copy[0..m],
@@ -52,21 +53,21 @@ fn find_line(original: &mut [u8], copy: &mut [u8]) {
 
 // The rooms come as arrays, whose lengths their type tells: as slices they would be counted in the proof, place by place. The system counts
 // the program's own name among the arguments.
-fn run(original: &mut [u8; files::ROOM], copy: &mut [u8; files::ROOM]) {
-    let count = os::arg_count();
+fn run(rt: &HostRuntime, original: &mut [u8; files::ROOM], copy: &mut [u8; files::ROOM]) {
+    let count = arguments::count(rt);
     if count == 3 {
-        list_lines(original, copy);
+        list_lines(rt, original, copy);
         return;
     }
     if count == 5 {
-        find_line(original, copy);
+        find_line(rt, original, copy);
         return;
     }
-    saying::say(b"desk: usage: desk ORIGINAL COPY [KEY OCCURRENCE]\n");
+    saying::say(rt, b"desk: usage: desk ORIGINAL COPY [KEY OCCURRENCE]\n");
 }
 
-fn main() {
+fn main(rt: HostRuntime) {
     let mut original = [0u8; files::ROOM];
     let mut copy = [0u8; files::ROOM];
-    run(&mut original, &mut copy);
+    run(&rt, &mut original, &mut copy);
 }

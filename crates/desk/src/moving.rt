@@ -4,8 +4,10 @@ ghost use Rattle.std.specs.Prelude.{◌+◌, ◌<◌, ◌≤◌, length};
 ghost use Rattle.desk.specs.Inner.{longest_argument};
 
 use super::saying;
-use libc::types::timespec;
-use libc::{EAGAIN, EINTR, STDERR_FILENO, STDOUT_FILENO};
+use std::fs::File;
+use std::io::{ErrorKind, Read, Write};
+use std::time::Duration;
+use std::{io, thread};
 
 // What a read comes to: how many bytes; none at the end of the file, and none where it failed, and why was said.
 #[derive(Drop)]
@@ -15,44 +17,43 @@ pub struct Got {
 }
 
 // Sleeps for a millisecond.
-fn pause() {
-    let asked = timespec {
-        tv_sec: 0,
-        tv_nsec: 1000000,
-    };
-    let mut left = timespec {
-        tv_sec: 0,
-        tv_nsec: 0,
-    };
-    libc::nanosleep(&asked, &mut left);
+fn pause(rt: &HostRuntime) {
+    thread::sleep(rt, Duration::from_millis(1));
 }
 
 // Whether a call that failed may succeed when it is tried again.
-fn is_passing(error: i32) -> bool {
-    error == EINTR || error == EAGAIN
+fn is_passing(error: &io::Error) -> bool {
+    matches!(error.kind(), ErrorKind::Interrupted | ErrorKind::WouldBlock)
 }
 
 // Reads from an open file behind the first `have` bytes of the block. A read that fails is not the end of the file.
-pub fn read_behind(file: i32, name: &[u8], block: &mut [u8], have: usize) -> Got
+pub fn read_behind(
+    rt: &HostRuntime,
+    file: &mut File,
+    name: &[u8],
+    block: &mut [u8],
+    have: usize,
+) -> Got
     requires name_len_bound { length name.now ≤ longest_argument }
     requires have_in_bounds { have < length block.old }
     ensures { have + result.count ≤ length block.old }
 {
-    let mut tries = u64::MAX;
-    while tries > 0 {
-        let got = libc::read(file, &mut block[have..]);
-        if got >= 0 {
-            return Got {
-                count: io::count(got, &block[have..]),
-                is_failed: false,
-            };
+    for _ in 0..u64::MAX {
+        match file.read(&mut block[have..]) {
+            Ok(count) => {
+                return Got {
+                    count,
+                    is_failed: false,
+                };
+            }
+            Err(error) => {
+                if !is_passing(&error) {
+                    saying::say_failed(rt, name, &error);
+                    break;
+                }
+                pause(rt);
+            }
         }
-        if !is_passing(os::errno()) {
-            saying::say_failed(name);
-            break;
-        }
-        pause();
-        tries -= 1;
     }
     Got {
         count: 0,
@@ -62,32 +63,29 @@ pub fn read_behind(file: i32, name: &[u8], block: &mut [u8], have: usize) -> Got
 
 // Writes the first n bytes to standard output, and answers whether all went out. After a write that fails nothing more is written, so what
 // went out is a front of the whole; and so after one that takes no byte and does not fail.
-pub fn write_front(bytes: &[u8], n: usize) -> bool
+pub fn write_front(rt: &HostRuntime, bytes: &[u8], n: usize) -> bool
     requires { n ≤ length bytes.now }
 {
-    let mut from: usize = 0;
-    let mut tries = u64::MAX;
-    while from < n {
-        if tries == 0 {
-            return false;
+    let mut output = rt.stdout();
+    let mut rest = &bytes[..n];
+    for _ in 0..u64::MAX {
+        if rest.is_empty() {
+            return true;
         }
-        tries -= 1;
-        let put = libc::write(STDOUT_FILENO, &bytes[from..n]);
-        if put == 0 {
-            io::write_all(
-                STDERR_FILENO,
-                b"desk: output stopped: a write took no byte\n",
-            );
-            return false;
-        }
-        if put < 0 {
-            if !is_passing(os::errno()) {
-                os::fail(b"desk: output stopped");
+        match output.write(rest) {
+            Ok(0) => {
+                saying::say(rt, b"desk: output stopped: a write took no byte\n");
                 return false;
             }
-            pause();
+            Ok(put) => rest = &rest[put..],
+            Err(error) => {
+                if !is_passing(&error) {
+                    saying::say_why(rt, b"desk: output stopped", &error);
+                    return false;
+                }
+                pause(rt);
+            }
         }
-        from += io::count(put, &bytes[from..n]);
     }
-    true
+    false
 }

@@ -34,7 +34,7 @@ pub fn closed() -> Waiting
 }
 
 // Takes a piece. One that is longer than the buffer goes out by itself.
-pub fn put(out: &mut [u8], waiting: Waiting, piece: &[u8]) -> Waiting
+pub fn put(rt: &HostRuntime, out: &mut [u8], waiting: Waiting, piece: &[u8]) -> Waiting
     requires { waiting.count ≤ length out.old }
     ensures { result.count ≤ length out.old }
 {
@@ -48,7 +48,7 @@ pub fn put(out: &mut [u8], waiting: Waiting, piece: &[u8]) -> Waiting
             is_open: true,
         };
     }
-    if !moving::write_front(out, used) {
+    if !moving::write_front(rt, out, used) {
         return closed();
     }
     if piece.len() <= out.len() {
@@ -59,26 +59,26 @@ pub fn put(out: &mut [u8], waiting: Waiting, piece: &[u8]) -> Waiting
     }
     Waiting {
         count: 0,
-        is_open: moving::write_front(piece, piece.len()),
+        is_open: moving::write_front(rt, piece, piece.len()),
     }
 }
 
 // A number in decimal.
-pub fn put_number(out: &mut [u8], waiting: Waiting, n: u64) -> Waiting
+pub fn put_number(rt: &HostRuntime, out: &mut [u8], waiting: Waiting, n: u64) -> Waiting
     requires { waiting.count ≤ length out.old }
     ensures { result.count ≤ length out.old }
 {
     let mut digits = [0u8; 20];
-    let many = io::decimal(n, &mut digits);
-    put(out, waiting, &digits[..many])
+    let many = text::put_number(&mut digits, 0, n);
+    put(rt, out, waiting, &digits[..many])
 }
 
 // Lets out what waits.
-pub fn finish(out: &[u8], waiting: Waiting)
+pub fn finish(rt: &HostRuntime, out: &[u8], waiting: Waiting)
     requires { waiting.count ≤ length out.now }
 {
     if waiting.is_open {
         let used = waiting.count;
-        moving::write_front(out, used);
+        moving::write_front(rt, out, used);
     }
 }

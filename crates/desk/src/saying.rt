@@ -3,7 +3,7 @@ ghost use Rattle.std.specs.Prelude.{◌≡◌, ◌+◌, ◌≤◌, length};
 ghost use Rattle.desk.specs.Inner.{longest_argument, longest_reason};
 
 use super::arguments::LONGEST;
-use libc::STDERR_FILENO;
+use std::io;
 
 // The bytes of `desk: `, of the longest name, and of what is said of it.
 const LINE: usize = 6 + LONGEST + 64;
@@ -24,35 +24,49 @@ fn put_name(line: &mut [u8], name: &[u8]) -> usize
     requires { 6 + length name.now ≤ length line.old }
     ensures { result ≡ 6 + length name.now }
 {
-    let mut at = text::put_bytes(line, 0, b"desk: ");
+    let at = text::put_bytes(line, 0, b"desk: ");
     for i in 0..name.len() {
-        line[at] = shown(name[i]);
-        at += 1;
+        line[at + i] = shown(name[i]);
     }
-    at
+    at + name.len()
 }
 
-// Says why a call upon a file failed. It comes right after that call, whose error number the system keeps until the next.
-pub fn say_failed(name: &[u8])
+// Says what failed, and why: in the system's words, without the number that the library puts behind them.
+pub fn say_why(rt: &HostRuntime, what: &[u8], error: &io::Error) {
+    say(rt, what);
+    let Ok(said) = format!(in rt.alloc(); "{error}") else {
+        let _ = eprintln!(rt; ": {error}");
+        return;
+    };
+    let words = said.as_str();
+    let why = match words.split_once(" (os error ") {
+        Some((why, _)) => why,
+        None => words,
+    };
+    let _ = eprintln!(rt; ": {why}");
+}
+
+// Says why a call upon a file failed.
+pub fn say_failed(rt: &HostRuntime, name: &[u8], error: &io::Error)
     requires { length name.now ≤ longest_argument }
 {
     let mut line = [0u8; LINE];
     let n = put_name(&mut line, name);
-    os::fail(&line[0..n]);
+    say_why(rt, &line[0..n], error);
 }
 
 // Says of a file or an argument what is wrong with it.
-pub fn say_of(name: &[u8], reason: &[u8])
+pub fn say_of(rt: &HostRuntime, name: &[u8], reason: &[u8])
     requires name_len_bound { length name.now ≤ longest_argument }
     requires reason_len_bound { length reason.now ≤ longest_reason }
 {
     let mut line = [0u8; LINE];
     let n = put_name(&mut line, name);
     let end = text::put_bytes(&mut line, n, reason);
-    say(&line[0..end]);
+    say(rt, &line[0..end]);
 }
 
 // Says a whole line.
-pub fn say(line: &[u8]) {
-    io::write_all(STDERR_FILENO, line);
+pub fn say(rt: &HostRuntime, line: &[u8]) {
+    let _ = rt.stderr().write_all(line);
 }

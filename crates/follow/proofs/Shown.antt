@@ -18,7 +18,7 @@ use Rattle.transcripts.specs.Listing.{Filled}
 use Rattle.console.specs.Console.{keyed}
 use Rattle.console.specs.Sheet.{lent}
 use Rattle.console.proofs.LineEnds.{LineEnd, line-within}
-use Rattle.blocks.specs.Blocks.{kept_after, tables_after}
+use Rattle.blocks.specs.Blocks.{kept_after}
 use Rattle.blocks.proofs.Cuts.{last_bytes-next}
 use Rattle.blocks.proofs.Arriving.{after-append}
 use Rattle.blocks.proofs.Going.{one_line}

@@ -18,6 +18,7 @@ use pages::Standing;
 
 // Takes step after step, from the page that argument 1 names to the one that the last names, while all goes out.
 fn take_steps(
+    rt: &HostRuntime,
     last: usize,
     first: Standing,
     out: &mut [u8; output::SPACE],
@@ -35,45 +36,47 @@ fn take_steps(
         if !waiting.written {
             return standing;
         }
-        standing = steps::take_step(i + 1, i + 2, standing, out, shown, room);
+        standing = steps::take_step(rt, i + 1, i + 2, standing, out, shown, room);
         i += 2;
     }
     standing
 }
 
 // Says how the program is called, where the arguments are not a page and pairs behind it.
-fn say_usage(out: &mut [u8; output::SPACE]) {
+fn say_usage(rt: &HostRuntime, out: &mut [u8; output::SPACE]) {
     let usage = output::put(
+        rt,
         out,
         output::nothing(),
         b"usage: follow FIRST.page [REQUESTS NEXT.page ...]\n",
     );
-    output::finish(out, usage);
+    output::finish(rt, out, usage);
 }
 
 // The rooms come as arrays, whose lengths their type tells. The system counts the program's own name among the arguments.
 fn run(
+    rt: &HostRuntime,
     out: &mut [u8; output::SPACE],
     shown: &mut [u8; output::SHOWN],
     room: &mut [u8; pages::ROOM],
 ) {
-    let count = os::arg_count();
+    let count = arguments::count(rt);
     if count < 2 {
-        say_usage(out);
+        say_usage(rt, out);
         return;
     }
     if count % 2 == 1 {
-        say_usage(out);
+        say_usage(rt, out);
         return;
     }
-    let first = pages::show(1, output::nothing(), out, shown, room);
-    let last = take_steps(count - 1, first, out, shown, room);
-    output::finish(out, last.waiting);
+    let first = pages::show(rt, 1, output::nothing(), out, shown, room);
+    let last = take_steps(rt, count - 1, first, out, shown, room);
+    output::finish(rt, out, last.waiting);
 }
 
-fn main() {
+fn main(rt: HostRuntime) {
     let mut out = [0u8; output::SPACE];
     let mut shown = [0u8; output::SHOWN];
     let mut room = [0u8; pages::ROOM];
-    run(&mut out, &mut shown, &mut room);
+    run(&rt, &mut out, &mut shown, &mut room);
 }

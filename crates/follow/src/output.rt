@@ -3,7 +3,6 @@ ghost use Rattle.std.specs.Prelude.{◌≡◌, ◌≤◌, false};
 ghost use Rattle.follow.specs.Inner.{output_space, Took};
 
 use super::moving;
-use libc::STDERR_FILENO;
 use rules::Answer;
 
 // The bytes of the buffer.
@@ -14,7 +13,7 @@ pub const SPACE: usize = 65536;
 pub const SHOWN: usize = 262144;
 
 // How many bytes wait at the front of the buffer, and whether all before them was written. Where it was not, nothing more is taken.
-#[derive(Drop)]
+#[derive(Clone, Copy)]
 pub struct Waiting {
     pub count: usize,
     pub written: bool,
@@ -42,7 +41,7 @@ fn closed() -> Waiting
 }
 
 // Takes a piece. One that is longer than the buffer goes out by itself.
-pub fn put(out: &mut [u8; SPACE], waiting: Waiting, piece: &[u8]) -> Waiting
+pub fn put(rt: &HostRuntime, out: &mut [u8; SPACE], waiting: Waiting, piece: &[u8]) -> Waiting
     requires { waiting.count ≤ output_space }
     ensures { result.count ≤ output_space }
 {
@@ -56,7 +55,7 @@ pub fn put(out: &mut [u8; SPACE], waiting: Waiting, piece: &[u8]) -> Waiting
             written: true,
         };
     }
-    if !moving::write_front(out, used) {
+    if !moving::write_front(rt, out, used) {
         return closed();
     }
     if piece.len() <= out.len() {
@@ -67,53 +66,56 @@ pub fn put(out: &mut [u8; SPACE], waiting: Waiting, piece: &[u8]) -> Waiting
     }
     Waiting {
         count: 0,
-        written: moving::write_front(piece, piece.len()),
+        written: moving::write_front(rt, piece, piece.len()),
     }
 }
 
 // A number in decimal.
-pub fn put_number(out: &mut [u8; SPACE], waiting: Waiting, n: u64) -> Waiting
+pub fn put_number(rt: &HostRuntime, out: &mut [u8; SPACE], waiting: Waiting, n: u64) -> Waiting
     requires { waiting.count ≤ output_space }
     ensures { result.count ≤ output_space }
 {
     let mut digits = [0u8; 20];
-    let many = io::decimal(n, &mut digits);
-    put(out, waiting, &digits[..many])
+    let many = text::put_number(&mut digits, 0, n);
+    put(rt, out, waiting, &digits[..many])
 }
 
 // What is shown fits its room. Were it not so, this would be said, and nothing wrong printed.
-fn stop() -> Waiting
+fn stop(rt: &HostRuntime) -> Waiting
     ensures count_bound { result.count ≤ 0 }
     ensures written_value { result.written ≡ false }
 {
-    io::write_all(
-        STDERR_FILENO,
-        b"follow: output stopped: it does not fit its room\n",
-    );
+    let _ = eprintln!(rt; "follow: output stopped: it does not fit its room");
     closed()
 }
 
 // Takes what was put at the front of `shown`, by the answer of the call that put it.
-pub fn put_shown(out: &mut [u8; SPACE], waiting: Waiting, shown: &[u8], answer: Answer) -> Waiting
+pub fn put_shown(
+    rt: &HostRuntime,
+    out: &mut [u8; SPACE],
+    waiting: Waiting,
+    shown: &[u8],
+    answer: Answer,
+) -> Waiting
     requires { waiting.count ≤ output_space }
     ensures { Took answer result }
 {
     let Answer::Done(many) = answer else {
-        return stop();
+        return stop(rt);
     };
     let n = many as usize;
     if shown.len() < n {
-        return stop();
+        return stop(rt);
     }
-    put(out, waiting, &shown[0..n])
+    put(rt, out, waiting, &shown[0..n])
 }
 
 // Lets out what waits.
-pub fn finish(out: &[u8; SPACE], waiting: Waiting)
+pub fn finish(rt: &HostRuntime, out: &[u8; SPACE], waiting: Waiting)
     requires { waiting.count ≤ output_space }
 {
     if waiting.written {
         let used = waiting.count;
-        moving::write_front(out, used);
+        moving::write_front(rt, out, used);
     }
 }

@@ -7,6 +7,7 @@ use super::output::{SHOWN, SPACE, Waiting};
 use super::{arguments, moving, output, saying};
 use limits::USUAL_YEAR;
 use showing::{LONGEST_NAME, LONGEST_PAGE};
+use std::fs::File;
 use tables::Tables;
 
 // The room for a page has a byte more than the longest: a file that fills it is longer. Requests come into it block by block.
@@ -14,7 +15,7 @@ pub const ROOM: usize = LONGEST_PAGE + 1;
 
 // A page that was shown, from which the next step goes on: whether it is one, its tables, how many bytes of the room it has; and what waits
 // to go out.
-#[derive(Drop)]
+#[derive(Clone, Copy)]
 pub struct Standing {
     pub taken: bool,
     pub tables: Tables,
@@ -38,12 +39,12 @@ fn none(waiting: Waiting) -> Standing
 }
 
 // Reads an open file to its end, or until the room is full.
-fn read_all(file: i32, room: &mut [u8]) -> Got
+fn read_all(rt: &HostRuntime, file: &mut File, room: &mut [u8]) -> Got
     ensures { result.count ≤ length room.old }
 {
     let mut have: usize = 0;
     while have < room.len() {
-        let more = moving::read_behind(file, room, have);
+        let more = moving::read_behind(rt, file, room, have);
         if more.is_failed {
             return moving::failed(more.error);
         }
@@ -57,21 +58,19 @@ fn read_all(file: i32, room: &mut [u8]) -> Got
 }
 
 // Reads the file that argument i names.
-fn read_file(i: usize, room: &mut [u8]) -> Got
+fn read_file(rt: &HostRuntime, i: usize, room: &mut [u8]) -> Got
     ensures { result.count ≤ length room.old }
 {
-    let opened = arguments::open(i);
-    let file = opened.file;
-    if file < 0 {
-        return moving::failed(opened.error);
+    let opened = arguments::open(rt, i);
+    match opened.file {
+        Some(mut file) => read_all(rt, &mut file, room),
+        None => moving::failed(opened.error),
     }
-    let read = read_all(file, room);
-    libc::close(file);
-    read
 }
 
 // Shows the text of the page that argument i names, and whether it is one.
 fn show_text(
+    rt: &HostRuntime,
     i: usize,
     page: &[u8],
     waiting: Waiting,
@@ -82,10 +81,10 @@ fn show_text(
     ensures { Reads page.now result }
 {
     let mut name = [0u8; LONGEST_NAME];
-    let n = arguments::name_of(i, &mut name);
+    let n = arguments::name_of(rt, i, &mut name);
     let sheet = showing::show_page(&name[0..n], page, shown);
     let told = sheet.shown;
-    let all = output::put_shown(out, waiting, shown, told);
+    let all = output::put_shown(rt, out, waiting, shown, told);
     let read = sheet.read;
     let answer = read.answer;
     let t = read.tables;
@@ -99,6 +98,7 @@ fn show_text(
 
 // Reads and shows the page that argument i names, or says why it cannot be read.
 pub fn show(
+    rt: &HostRuntime,
     i: usize,
     waiting: Waiting,
     out: &mut [u8; SPACE],
@@ -108,13 +108,13 @@ pub fn show(
     requires { waiting.count ≤ output_space }
     ensures { Shows (length room.old) result }
 {
-    let read = read_file(i, room);
+    let read = read_file(rt, i, room);
     if read.is_failed {
-        return none(saying::put_failed(out, waiting, i, read.error));
+        return none(saying::put_failed(rt, out, waiting, i, read.error));
     }
     let n = read.count;
     if n == room.len() {
-        return none(saying::put_of(out, waiting, i, b": longer than 65536 bytes\n"));
+        return none(saying::put_of(rt, out, waiting, i, b": longer than 65536 bytes\n"));
     }
-    show_text(i, &room[0..n], waiting, out, shown)
+    show_text(rt, i, &room[0..n], waiting, out, shown)
 }

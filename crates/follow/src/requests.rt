@@ -7,8 +7,9 @@ use super::moving::Got;
 use super::output::{SHOWN, SPACE, Waiting};
 use super::pages::{ROOM, Standing};
 use super::{arguments, moving, output, saying};
-use libc::STDERR_FILENO;
 use showing::LONGEST_NAME;
+use std::fs::File;
+use std::io::IsTerminal;
 use tables::Tables;
 
 // After so many lines it is said how far a file is keyed in.
@@ -16,7 +17,7 @@ const MANY: u64 = 1000000;
 
 // How far a file is keyed in: the tables, the number of the next line, how many bytes of it are held at the block's front, and what waits
 // to go out; and whether the file was read to its end.
-#[derive(Drop)]
+#[derive(Clone, Copy)]
 pub struct Keying {
     pub tables: Tables,
     pub count: u64,
@@ -33,24 +34,24 @@ pub struct Passed {
 }
 
 // Says at a terminal how far the file that argument i names is keyed in.
-fn tell_progress(i: usize, count: u64) {
+fn tell_progress(rt: &HostRuntime, i: usize, count: u64) {
     if count % MANY != 0 {
         return;
     }
-    if libc::isatty(STDERR_FILENO) != 1 {
+    let terminal = rt.stderr();
+    if !terminal.is_terminal() {
         return;
     }
     let mut name = [0u8; LONGEST_NAME];
-    let n = arguments::name_of(i, &mut name);
-    io::write_all(STDERR_FILENO, b"follow: ");
-    io::write_all(STDERR_FILENO, &name[0..n]);
-    io::write_all(STDERR_FILENO, b": ");
-    io::print_decimal(STDERR_FILENO, count);
-    io::write_all(STDERR_FILENO, b" lines\n");
+    let n = arguments::name_of(rt, i, &mut name);
+    let _ = eprint!(rt; "follow: ");
+    let _ = terminal.write_all(&name[0..n]);
+    let _ = eprintln!(rt; ": {count} lines");
 }
 
 // Keys in a line and takes what is shown for it. No file has so many lines that their number would begin anew.
 fn key_line(
+    rt: &HostRuntime,
     i: usize,
     keying: Keying,
     line: &[u8],
@@ -63,12 +64,12 @@ fn key_line(
     let count = keying.count;
     let outcome = showing::show_request(keying.tables, count, line, shown);
     let answer = outcome.answer;
-    let waiting = output::put_shown(out, keying.waiting, shown, answer);
-    tell_progress(i, count);
+    let waiting = output::put_shown(rt, out, keying.waiting, shown, answer);
+    tell_progress(rt, i, count);
     let t = outcome.tables;
     Keying {
         tables: t,
-        count: std::num::wrapping_add_u64(count, 1),
+        count: count.wrapping_add(1),
         held: 0,
         waiting: waiting,
         whole: false,
@@ -77,6 +78,7 @@ fn key_line(
 
 // Keys in the lines that end in the block, while all goes out.
 fn key_block(
+    rt: &HostRuntime,
     i: usize,
     begun: Keying,
     block: &[u8],
@@ -90,7 +92,7 @@ fn key_block(
     let mut from: usize = 0;
     let mut end = console::line_end(block, from);
     while end < block.len() {
-        keying = key_line(i, keying, &block[from..end], out, shown);
+        keying = key_line(rt, i, keying, &block[from..end], out, shown);
         let waiting = keying.waiting;
         if !waiting.written {
             break;
@@ -106,6 +108,7 @@ fn key_block(
 
 // Keys in the lines that end in the first `end` bytes of the block. What is left of these goes to the front.
 fn pass_block(
+    rt: &HostRuntime,
     i: usize,
     begun: Keying,
     end: usize,
@@ -117,7 +120,7 @@ fn pass_block(
     requires end_in_bounds { end ≤ length block.old }
     ensures { Holds result }
 {
-    let passed = key_block(i, begun, &block[0..end], out, shown);
+    let passed = key_block(rt, i, begun, &block[0..end], out, shown);
     let from = passed.place;
     let mut keying = passed.keying;
     keying.held = blocks::carry(block, from, end);
@@ -125,11 +128,11 @@ fn pass_block(
 }
 
 // The file could not be read to its end.
-fn leave_off(i: usize, begun: Keying, error: i32, out: &mut [u8; SPACE]) -> Keying
+fn leave_off(rt: &HostRuntime, i: usize, begun: Keying, error: i32, out: &mut [u8; SPACE]) -> Keying
     requires { begun.waiting.count ≤ output_space }
     ensures { result.waiting.count ≤ output_space }
 {
-    let waiting = saying::put_failed(out, begun.waiting, i, error);
+    let waiting = saying::put_failed(rt, out, begun.waiting, i, error);
     let mut keying = begun;
     keying.waiting = waiting;
     keying
@@ -137,6 +140,7 @@ fn leave_off(i: usize, begun: Keying, error: i32, out: &mut [u8; SPACE]) -> Keyi
 
 // A read got no byte. Unless it failed, the file ends here, and a last line without byte 10 is keyed in, where there is one.
 fn key_last(
+    rt: &HostRuntime,
     i: usize,
     begun: Keying,
     got: Got,
@@ -148,11 +152,11 @@ fn key_last(
     ensures { result.waiting.count ≤ output_space }
 {
     if got.is_failed {
-        return leave_off(i, begun, got.error, out);
+        return leave_off(rt, i, begun, got.error, out);
     }
     let mut keying = begun;
     if 0 < line.len() {
-        keying = key_line(i, keying, line, out, shown);
+        keying = key_line(rt, i, keying, line, out, shown);
     }
     keying.whole = true;
     keying
@@ -161,8 +165,9 @@ fn key_last(
 // Keys in the lines of an open file, which is read into the block, while all goes out. A proved loop has to end, and nothing says that the
 // file does: it counts down from a number that no run uses up.
 fn key_file(
+    rt: &HostRuntime,
     i: usize,
-    file: i32,
+    file: &mut File,
     begun: Keying,
     out: &mut [u8; SPACE],
     shown: &mut [u8; SHOWN],
@@ -180,12 +185,12 @@ fn key_file(
             break;
         }
         let have = keying.held;
-        let got = moving::read_behind(file, block, have);
+        let got = moving::read_behind(rt, file, block, have);
         let n = got.count;
         if n == 0 {
-            return key_last(i, keying, got, &block[0..have], out, shown);
+            return key_last(rt, i, keying, got, &block[0..have], out, shown);
         }
-        keying = pass_block(i, keying, have + n, out, shown, block);
+        keying = pass_block(rt, i, keying, have + n, out, shown, block);
         left -= 1;
     }
     keying
@@ -193,6 +198,7 @@ fn key_file(
 
 // Keys in the file that argument i names, from the tables of the page before it; or says why not.
 pub fn key_in(
+    rt: &HostRuntime,
     i: usize,
     first: Standing,
     out: &mut [u8; SPACE],
@@ -212,16 +218,13 @@ pub fn key_in(
         whole: false,
     };
     if !first.taken {
-        let waiting = saying::put_of(out, w, i, b": not keyed in, without a first page\n");
+        let waiting = saying::put_of(rt, out, w, i, b": not keyed in, without a first page\n");
         keying.waiting = waiting;
         return keying;
     }
-    let opened = arguments::open(i);
-    let file = opened.file;
-    if file < 0 {
-        return leave_off(i, keying, opened.error, out);
+    let opened = arguments::open(rt, i);
+    match opened.file {
+        Some(mut file) => key_file(rt, i, &mut file, keying, out, shown, room),
+        None => leave_off(rt, i, keying, opened.error, out),
     }
-    let keyed = key_file(i, file, keying, out, shown, room);
-    libc::close(file);
-    keyed
 }

@@ -11,6 +11,7 @@ use tables::Tables;
 // Shows whether the page that argument i names follows: the first n bytes of the room, held against what the tables write. The next step
 // goes on from the page given, never from these tables.
 fn judge(
+    rt: &HostRuntime,
     i: usize,
     tables: Tables,
     room: &[u8],
@@ -24,10 +25,10 @@ fn judge(
     ensures { GoesOn (take n room.now) result }
 {
     let mut name = [0u8; LONGEST_NAME];
-    let m = arguments::name_of(i, &mut name);
+    let m = arguments::name_of(rt, i, &mut name);
     let outcome = comparing::show_verdict(tables, &name[0..m], &room[..n], shown);
     let answer = outcome.answer;
-    let all = output::put_shown(out, waiting, shown, answer);
+    let all = output::put_shown(rt, out, waiting, shown, answer);
     let t = outcome.tables;
     Standing {
         taken: true,
@@ -38,11 +39,11 @@ fn judge(
 }
 
 // Says of a page that it has no verdict, since its requests were not read.
-fn say_without(i: usize, next: Standing, out: &mut [u8; SPACE]) -> Standing
+fn say_without(rt: &HostRuntime, i: usize, next: Standing, out: &mut [u8; SPACE]) -> Standing
     requires { next.waiting.count ≤ output_space }
     ensures { result.waiting.count ≤ output_space }
 {
-    let waiting = saying::put_of(out, next.waiting, i, b": without its requests\n");
+    let waiting = saying::put_of(rt, out, next.waiting, i, b": without its requests\n");
     let mut standing = next;
     standing.waiting = waiting;
     standing
@@ -50,6 +51,7 @@ fn say_without(i: usize, next: Standing, out: &mut [u8; SPACE]) -> Standing
 
 // Takes the step from a page on, with the arguments that name its requests and its next page.
 pub fn take_step(
+    rt: &HostRuntime,
     requests: usize,
     next: usize,
     first: Standing,
@@ -60,15 +62,16 @@ pub fn take_step(
     requires { first.waiting.count ≤ output_space }
     ensures { result.waiting.count ≤ output_space }
 {
-    let keyed = requests::key_in(requests, first, out, shown, room);
-    let page = pages::show(next, keyed.waiting, out, shown, room);
+    let keyed = requests::key_in(rt, requests, first, out, shown, room);
+    let page = pages::show(rt, next, keyed.waiting, out, shown, room);
     if !first.taken || !page.taken {
         return page;
     }
     if !keyed.whole {
-        return say_without(next, page, out);
+        return say_without(rt, next, page, out);
     }
     judge(
+        rt,
         next,
         keyed.tables,
         room,

@@ -25,7 +25,7 @@ struct Printed {
 
 // Prints for the lines that end in the block: turn after turn, until one prints nothing. Each turn but the last prints for a line,
 // so there are no more turns than bytes.
-fn print_turns(tables: Tables, block: &[u8], out: &mut [u8]) -> Printed
+fn print_turns(rt: &HostRuntime, tables: Tables, block: &[u8], out: &mut [u8]) -> Printed
     requires { page_room ≤ length out.old }
     ensures { Through tables block.now result }
 {
@@ -40,7 +40,7 @@ fn print_turns(tables: Tables, block: &[u8], out: &mut [u8]) -> Printed
         if used == 0 {
             break;
         }
-        if !moving::write_front(out, used) {
+        if !moving::write_front(rt, out, used) {
             return Printed {
                 tables: t,
                 place: from,
@@ -57,18 +57,18 @@ fn print_turns(tables: Tables, block: &[u8], out: &mut [u8]) -> Printed
 }
 
 // Prints for a last line without byte 10, where there is one.
-fn print_last(tables: Tables, line: &[u8], out: &mut [u8]) {
+fn print_last(rt: &HostRuntime, tables: Tables, line: &[u8], out: &mut [u8]) {
     if 0 < line.len() {
         let printed = console::print_line(tables, line, out);
         let answer = printed.answer;
         let n = console::bytes_printed(answer);
-        moving::write_front(out, n);
+        moving::write_front(rt, out, n);
     }
 }
 
 // Prints for all of the input, which is read into the block. A proved loop has to end, and nothing says that the input does: it counts
 // down from a number that no run uses up.
-fn print_all(block: &mut [u8], out: &mut [u8])
+fn print_all(rt: &HostRuntime, block: &mut [u8], out: &mut [u8])
     requires most_in_bounds { most < length block.old }
     requires page_room_in_bounds { page_room ≤ length out.old }
 {
@@ -77,16 +77,16 @@ fn print_all(block: &mut [u8], out: &mut [u8])
     let mut have: usize = 0;
     let mut left = u64::MAX;
     while left > 0 {
-        let got = moving::read_behind(block, have);
+        let got = moving::read_behind(rt, block, have);
         let n = got.count;
         if n == 0 {
             if !got.is_failed {
-                print_last(tables, &block[..have], out);
+                print_last(rt, tables, &block[..have], out);
             }
             return;
         }
         let end = have + n;
-        let printed = print_turns(tables, &block[..end], out);
+        let printed = print_turns(rt, tables, &block[..end], out);
         if !printed.written {
             return;
         }
@@ -97,8 +97,8 @@ fn print_all(block: &mut [u8], out: &mut [u8])
     }
 }
 
-fn main() {
+fn main(rt: HostRuntime) {
     let mut block = [0u8; SPACE];
     let mut out = [0u8; SPACE];
-    print_all(&mut block, &mut out);
+    print_all(&rt, &mut block, &mut out);
 }

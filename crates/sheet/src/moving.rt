@@ -2,8 +2,9 @@
 // ready, is tried again after a short sleep.
 ghost use Rattle.std.specs.Prelude.{◌+◌, ◌<◌, ◌≤◌, length};
 
-use libc::types::timespec;
-use libc::{EAGAIN, EINTR, STDERR_FILENO, STDIN_FILENO, STDOUT_FILENO};
+use std::io::{ErrorKind, Read, Write};
+use std::time::Duration;
+use std::{io, thread};
 
 // What a read comes to: how many bytes; none at the end of the input, and where it failed.
 #[derive(Drop)]
@@ -13,43 +14,51 @@ pub struct Got {
 }
 
 // Sleeps for a millisecond.
-fn pause() {
-    let asked = timespec {
-        tv_sec: 0,
-        tv_nsec: 1000000,
-    };
-    let mut left = timespec {
-        tv_sec: 0,
-        tv_nsec: 0,
-    };
-    libc::nanosleep(&asked, &mut left);
+fn pause(rt: &HostRuntime) {
+    thread::sleep(rt, Duration::from_millis(1));
 }
 
 // Whether a call that failed may succeed when it is tried again.
-fn is_passing(error: i32) -> bool {
-    error == EINTR || error == EAGAIN
+fn is_passing(error: &io::Error) -> bool {
+    matches!(error.kind(), ErrorKind::Interrupted | ErrorKind::WouldBlock)
+}
+
+// Says on standard error what failed, and why: in the system's words, without the number that the library puts behind them.
+fn fail(rt: &HostRuntime, what: &str, error: &io::Error) {
+    let Ok(said) = format!(in rt.alloc(); "{error}") else {
+        let _ = eprintln!(rt; "{what}: {error}");
+        return;
+    };
+    let words = said.as_str();
+    let why = match words.split_once(" (os error ") {
+        Some((why, _)) => why,
+        None => words,
+    };
+    let _ = eprintln!(rt; "{what}: {why}");
 }
 
 // Reads behind the first `have` bytes of the block. A read that fails is not the end of the input.
-pub fn read_behind(block: &mut [u8], have: usize) -> Got
+pub fn read_behind(rt: &HostRuntime, block: &mut [u8], have: usize) -> Got
     requires { have < length block.old }
     ensures { have + result.count ≤ length block.old }
 {
-    let mut tries = u64::MAX;
-    while tries > 0 {
-        let got = libc::read(STDIN_FILENO, &mut block[have..]);
-        if got >= 0 {
-            return Got {
-                count: io::count(got, &block[have..]),
-                is_failed: false,
-            };
+    let mut input = rt.stdin();
+    for _ in 0..u64::MAX {
+        match input.read(&mut block[have..]) {
+            Ok(count) => {
+                return Got {
+                    count,
+                    is_failed: false,
+                };
+            }
+            Err(error) => {
+                if !is_passing(&error) {
+                    fail(rt, "sheet: input stopped", &error);
+                    break;
+                }
+                pause(rt);
+            }
         }
-        if !is_passing(os::errno()) {
-            os::fail(b"sheet: input stopped");
-            break;
-        }
-        pause();
-        tries -= 1;
     }
     Got {
         count: 0,
@@ -59,32 +68,29 @@ pub fn read_behind(block: &mut [u8], have: usize) -> Got
 
 // Writes the first n bytes of the output, and answers whether all went out. After a write that fails nothing more is written, so what went
 // out is a front of the whole; and so after one that takes no byte and does not fail.
-pub fn write_front(out: &[u8], n: usize) -> bool
+pub fn write_front(rt: &HostRuntime, out: &[u8], n: usize) -> bool
     requires { n ≤ length out.now }
 {
-    let mut from: usize = 0;
-    let mut tries = u64::MAX;
-    while from < n {
-        if tries == 0 {
-            return false;
+    let mut output = rt.stdout();
+    let mut rest = &out[..n];
+    for _ in 0..u64::MAX {
+        if rest.is_empty() {
+            return true;
         }
-        tries -= 1;
-        let put = libc::write(STDOUT_FILENO, &out[from..n]);
-        if put == 0 {
-            io::write_all(
-                STDERR_FILENO,
-                b"sheet: output stopped: a write took no byte\n",
-            );
-            return false;
-        }
-        if put < 0 {
-            if !is_passing(os::errno()) {
-                os::fail(b"sheet: output stopped");
+        match output.write(rest) {
+            Ok(0) => {
+                let _ = eprintln!(rt; "sheet: output stopped: a write took no byte");
                 return false;
             }
-            pause();
+            Ok(put) => rest = &rest[put..],
+            Err(error) => {
+                if !is_passing(&error) {
+                    fail(rt, "sheet: output stopped", &error);
+                    return false;
+                }
+                pause(rt);
+            }
         }
-        from += io::count(put, &out[from..n]);
     }
-    true
+    false
 }

@@ -1,0 +1,6 @@
+-- `blocks` carries at most 73 bytes.
+use Rattle.blocks.proofs.Copying.{held-few}
+use Rattle.follow.proofs.requests.pass_block.Goals as goal
+
+pub returns : goal.returns
+returns c = record { fits = c.key_block-passed.ensures.fits; held = held-few _ _ _ _ c.carry.ensures }
