@@ -9,6 +9,7 @@ use crate::report::{front, outputs_near};
 use crate::sheets::{Content, Run, Runs, Sheet};
 use crate::shrink::shrink;
 use crate::verdicts::Count;
+use engine::follow::NOT_UTF8;
 use engine::tables::{shown_name, FREE_NUMBER, RECORDS, USUAL_YEAR};
 use engine::{Engine, File, Holder};
 use faults::{Follow, Given};
@@ -53,8 +54,20 @@ pub fn fetch(path: &OsStr) -> (Vec<u8>, Option<i32>) {
     }
 }
 
+/// The same of a program that opens no file whose name is not in UTF-8: Rattle's library opens none.
+fn fetch_by_text(path: &OsStr) -> (Vec<u8>, Option<i32>) {
+    match path.to_str() {
+        Some(_) => fetch(path),
+        None => (Vec::new(), Some(NOT_UTF8)),
+    }
+}
+
 /// The engine as a `follow` program.
 pub fn after(arguments: &[OsString]) -> Vec<u8> {
+    prints_of(arguments, fetch)
+}
+
+fn prints_of(arguments: &[OsString], fetch: fn(&OsStr) -> (Vec<u8>, Option<i32>)) -> Vec<u8> {
     let read: Vec<_> = arguments.iter().map(|name| (name.as_bytes(), fetch(name))).collect();
     let given: Vec<Given> =
         read.iter().map(|(name, (text, failed))| (*name, &text[..], *failed)).collect();
@@ -89,7 +102,7 @@ impl Program {
             Program::Command { command, limit, folder } => {
                 let arguments = put(folder.path(), run)?;
                 // From the files themselves: who may read everything reads what nobody may.
-                let right = after(&arguments);
+                let right = prints_of(&arguments, fetch_by_text);
                 let words = command.iter().map(OsString::from).chain(arguments);
                 let got = other::run(&words.collect::<Vec<_>>(), *limit, b"")?;
                 Ok(Prints { right, got })

@@ -21,6 +21,8 @@ const LONGEST_PAGE: usize = 8_704;
 const NO_SUCH_FILE: i32 = 2;
 const NO_PERMISSION: i32 = 13;
 const A_DIRECTORY: i32 = 21;
+/// In place of the system's number, of a program that opens no file whose name is not in UTF-8.
+pub const NOT_UTF8: i32 = -2;
 
 /// A file, and what came of reading it.
 #[derive(Clone, Copy, Debug, PartialEq, Eq)]
@@ -84,6 +86,7 @@ fn say_failed(output: &mut Vec<u8>, name: &[u8], error: i32) {
         NO_SUCH_FILE => String::from("no such file"),
         A_DIRECTORY => String::from("a directory"),
         NO_PERMISSION => String::from("no permission"),
+        NOT_UTF8 => String::from("the name is not in UTF-8"),
         _ => format!("error {}", error),
     };
     say(output, name, &format!("cannot be read: {}", why));
