@@ -1,6 +1,5 @@
-// A line handed back as a part of one of the two lent texts, with the answer and the mark beside it in one struct. The borrow checker
-// covers no function over a struct that holds a part, so this one is proved by hand; `locate` and `part` are its two steps, for callers
-// that are covered.
+// A line handed back as a part of one of the two lent texts, with the answer and the mark beside it in one struct; `locate` and `part` are
+// its two steps.
 ghost use Rattle.std.specs.Prelude.{◌≡◌};
 ghost use Rattle.transcripts.specs.Finding.{Finds};
 

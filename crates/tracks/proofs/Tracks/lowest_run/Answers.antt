@@ -1,13 +1,12 @@
 -- `tracks::Tracks::lowest_run` meets its contract. The loop's invariant: what one pass knows before it looks at a
 -- track (`Sought`). The measure is the tracks left.
 -- Assumes nothing.
-use Prim.Native.Nat.{◌+◌}
 use native.Mathlib.Omega.{arith}
 use mathlib.Core.Path.{sym}
 use lib.Seq.{get_or-take}
 use Rattle.tracks.specs.Tracks.{nobody, holders}
-use Rattle.tracks.proofs.OnePass.{Sought, sought-first, sought-held, sought-free, sought-found}
-use Rattle.tracks.proofs.OnePass.{sought-none, lowest-empty, lowest-zero}
+use Rattle.tracks.proofs.RunLengths.{sought-first, sought-held, sought-free, sought-found}
+use Rattle.tracks.proofs.RunLengths.{sought-none, lowest-empty, lowest-zero}
 use Rattle.tracks.proofs.Tracks.lowest_run.Goals as goal
 
 pub returns-then-end-eq0 : goal.returns-then-end-eq0

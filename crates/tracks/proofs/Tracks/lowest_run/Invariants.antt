@@ -3,7 +3,7 @@
 -- Assumes nothing.
 use Prim.Native.Nat.{◌-◌, ◌<◌}
 use Rattle.tracks.specs.Tracks.{holders}
-use Rattle.tracks.proofs.OnePass.{Sought}
+use Rattle.tracks.proofs.RunLengths.{Sought}
 use Rattle.tracks.proofs.Tracks.lowest_run.Given as goal
 
 abbrev pub invariant-loop-track : goal.invariant-loop-track
