@@ -1,9 +1,10 @@
-// Reads and writes that wait for the other end. A call that was interrupted, or found the other end not ready, is tried again when others
-// had their turn.
+// Reads and writes that wait for the other end. A call that was interrupted, or found the other end not ready, is tried again after a
+// short sleep.
 ghost use Rattle.std.specs.Prelude.{◌+◌, ◌<◌, ◌≤◌, length};
 
 use std::fs::File;
 use std::io::{ErrorKind, Read, Write};
+use std::time::Duration;
 use std::{io, thread};
 
 // The system's number of a call that was interrupted.
@@ -44,13 +45,18 @@ pub fn number_of(error: &io::Error) -> i32 {
     error.raw_os_error().unwrap_or(0)
 }
 
+// Sleeps for a millisecond.
+fn pause(rt: &HostRuntime) {
+    thread::sleep(rt, Duration::from_millis(1));
+}
+
 // Whether a call that failed may succeed when it is tried again.
 fn is_passing(error: &io::Error) -> bool {
     matches!(error.kind(), ErrorKind::Interrupted | ErrorKind::WouldBlock)
 }
 
 // Reads from an open file behind the first `have` bytes of the block. A read that fails is not the end of the file.
-pub fn read_behind(file: &mut File, block: &mut [u8], have: usize) -> Got
+pub fn read_behind(rt: &HostRuntime, file: &mut File, block: &mut [u8], have: usize) -> Got
     requires { have < length block.old }
     ensures { have + result.count ≤ length block.old }
 {
@@ -61,7 +67,7 @@ pub fn read_behind(file: &mut File, block: &mut [u8], have: usize) -> Got
                 if !is_passing(&error) {
                     return failed(number_of(&error));
                 }
-                thread::yield_now();
+                pause(rt);
             }
         }
     }
@@ -104,7 +110,7 @@ pub fn write_front(rt: &HostRuntime, bytes: &[u8], n: usize) -> bool
                     say_stopped(rt, &error);
                     return false;
                 }
-                thread::yield_now();
+                pause(rt);
             }
         }
     }

@@ -39,12 +39,12 @@ fn none(waiting: Waiting) -> Standing
 }
 
 // Reads an open file to its end, or until the room is full.
-fn read_all(file: &mut File, room: &mut [u8]) -> Got
+fn read_all(rt: &HostRuntime, file: &mut File, room: &mut [u8]) -> Got
     ensures { result.count ≤ length room.old }
 {
     let mut have: usize = 0;
     while have < room.len() {
-        let more = moving::read_behind(file, room, have);
+        let more = moving::read_behind(rt, file, room, have);
         if more.is_failed {
             return moving::failed(more.error);
         }
@@ -63,7 +63,7 @@ fn read_file(rt: &HostRuntime, i: usize, room: &mut [u8]) -> Got
 {
     let opened = arguments::open(rt, i);
     match opened.file {
-        Some(mut file) => read_all(&mut file, room),
+        Some(mut file) => read_all(rt, &mut file, room),
         None => moving::failed(opened.error),
     }
 }

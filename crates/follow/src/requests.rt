@@ -185,7 +185,7 @@ fn key_file(
             break;
         }
         let have = keying.held;
-        let got = moving::read_behind(file, block, have);
+        let got = moving::read_behind(rt, file, block, have);
         let n = got.count;
         if n == 0 {
             return key_last(rt, i, keying, got, &block[0..have], out, shown);
