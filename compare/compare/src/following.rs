@@ -102,9 +102,13 @@ impl Program {
             Program::Command { command, limit, folder } => {
                 let arguments = put(folder.path(), run)?;
                 // From the files themselves: who may read everything reads what nobody may.
-                let right = prints_of(&arguments, fetch_by_text);
+                let mut right = after(&arguments);
+                let by_text = prints_of(&arguments, fetch_by_text);
                 let words = command.iter().map(OsString::from).chain(arguments);
                 let got = other::run(&words.collect::<Vec<_>>(), *limit, b"")?;
+                if got == by_text {
+                    right = by_text;
+                }
                 Ok(Prints { right, got })
             }
         }
