@@ -10,9 +10,13 @@ use mathlib.Core.Logic.{◌≢◌}
 use mathlib.Core.Bool.{Bool, true, false, cond, ◌&&◌}
 use mathlib.Core.List.{List, [], ◌∷◌, ◌++◌}
 use lib.Dec.{eqb, eqb-zero-suc, eqb-suc-suc}
+use Rattle.std.specs.Prelude.{Option, Some, None}
+use Rattle.std.specs.List.{position, position_or_len}
+use Rattle.std.proofs.lemmas.List.Recursion.{is_position_or_len}
 use lib.ListN.{length, get_or, take, drop, length-drop, drop_of_length-le}
 use lib.Seq.{slice, slice-cons, slice_empty, drop-cons, take-nil, drop-drop, take-add, drop-append-le, length-take-le}
-use borrow.Author.Tests.{eq-eqb, ne_eqb}
+use Rattle.std.proofs.lemmas.List.{take_all}
+use borrow.Author.Tests.{eq-eqb, ne_eqb, ltb-false}
 use Rattle.lists.specs.Lists.{alike}
 use Rattle.lists.proofs.Tests.{alike-true}
 use Rattle.text.specs.Text.{on_first, parts}
@@ -89,14 +93,39 @@ part_end d s from h =
           ∙ rw (ne_eqb (until d r) (length r) (omega arith), drop-take from (until d r) s, drop-drop (suc (until d r)) from s, at);
     }
 
--- the code's search for it
-pub until-hit : (d : ℕ) (s : List ℕ) (i : ℕ) → i < length s → get_or s i 0 ≡ d → until d (drop i s) ≡ 0
+-- the search for it
+until-position : (d : ℕ) (s : List ℕ) → until d s ≡ position_or_len (λ b. eqb b d) s
 unfolding until
-until-hit d s i h e = ap (until d) (drop-cons s i 0 h) ∙ simp (eq-eqb (get_or s i 0) d e)
+until-position d s = is_position_or_len (until d) (λ b. eqb b d) refl (λ x xs. ap (cond (eqb x d) 0) (omega arith)) s
 
-pub until-miss : (d : ℕ) (s : List ℕ) (i : ℕ) → i < length s → (get_or s i 0 ≡ d → ⊥) → until d (drop i s) ≡ suc (until d (drop (i + 1) s))
-unfolding until
-until-miss d s i h e = rw (add-one i) (ap (until d) (drop-cons s i 0 h) ∙ simp (ne_eqb (get_or s i 0) d e))
+-- where it is found, and where it is not; the code's slice is as long as it can be
+module _ (d : ℕ) (s : List ℕ) (from n : ℕ) (h : from ≤ length s) where
+  there : take (length s - from) (drop from s) ≡ drop from s
+  there = take_all (length s - from) (drop from s) (omega (arith, length-drop from s))
+
+  found : (o : Option ℕ) → position (λ b. eqb b d) (drop from s) ≡ o → o ≡ Some n → from + until d (drop from s) ≡ from + n
+  found o e q = go _ (e ∙ q)
+    where
+      go : (t : Bool) → cond t (Some (position_or_len (λ b. eqb b d) (drop from s))) None ≡ Some n → from + until d (drop from s) ≡ from + n
+      go true e = let k : position_or_len (λ b. eqb b d) (drop from s) ≡ n = cc in ap (λ (k : ℕ). from + k) (until-position d (drop from s) ∙ k)
+      go false e = let z : ◌≡◌ {A = ℕ} 0 1 = cc in absurd (omega arith)
+
+  pub found_end : position (λ b. eqb b d) (take (length s - from) (drop from s)) ≡ Some n → PartEnd d s from (from + n)
+  found_end e = subst (PartEnd d s from) (found _ refl (ap (position (λ b. eqb b d)) (sym there) ∙ e)) (part_end d s from h)
+
+  missed : (t : Bool) → cond t (Some (position_or_len (λ b. eqb b d) (drop from s))) None ≡ None → t ≡ false
+  missed true e = let z : ◌≡◌ {A = ℕ} 0 1 = cc in absurd (omega arith)
+  missed false e = refl
+
+  pub none_end : position (λ b. eqb b d) (take (length s - from) (drop from s)) ≡ None → PartEnd d s from (length s)
+  none_end e = subst (PartEnd d s from) (omega (
+    arith,
+    until-position d (drop from s),
+    until-le d (drop from s),
+    length-drop from s,
+    ltb-false (position_or_len (λ b. eqb b d) (drop from s)) (length (drop from s))
+        (missed _ (ap (position (λ b. eqb b d)) (sym there) ∙ e)),
+  )) (part_end d s from h)
 
 pub until_end : (d : ℕ) (s : List ℕ) (i : ℕ) → length s ≤ i → until d (drop i s) ≡ 0
 unfolding until

@@ -215,6 +215,11 @@ millions-length n h b =
       ap (λ (k : ℕ). length (decimal k)) (millions n),
     )
 
+-- how the digits of a number come: one by one below 1,000, and three at a time
+pub ruleset few_digits = (decimal-small, decimal-two, decimal-three)
+
+pub ruleset many_digits = (decimal-thousands, thousands-length, decimal-millions, millions-length, append_assoc, length-append)
+
 -- a number below 10 ^ (f + 1) has at most f + 1 digits, whatever the fuel
 pub digits-length : (f g n : ℕ) → n < ten (suc f) → length (digits g n) ≤ suc f
 unfolding digits
@@ -243,6 +248,8 @@ digits-most (suc g) n = go (digits-most g (n / 10)) (ltb n 10)
 pub decimal-most : (n : ℕ) → length (decimal n) ≤ 20
 unfolding decimal
 decimal-most n = digits-most 20 n
+
+pub ruleset all_digits = (decimal-most)
 
 -- there is a first digit
 pub digits-pos : (f n : ℕ) → 0 < length (digits (suc f) n)

@@ -1,21 +1,24 @@
 -- Laws of a word that a text begins with, and of a line that a text begins with.
 -- Assumes nothing.
-use Prim.Native.Nat.{ℕ, ◌+◌, ◌<◌, ◌≤◌}
+use Prim.Native.Nat.{ℕ, ◌+◌, ◌-◌, ◌≤◌}
 use native.Mathlib.Omega.{arith}
 use mathlib.Core.Path.{◌≡◌, refl, sym, ap, ap₂, subst, ◌∙◌}
 use mathlib.Core.Bool.{Bool, true, false, cond, not}
 use mathlib.Core.List.{List, [], ◌∷◌, ◌++◌}
 use mathlib.Core.Option.{Option, none, some}
 use lib.Dec.{eqb}
-use lib.ListN.{length, get_or, drop}
-use lib.Seq.{slice}
-use borrow.Author.Tests.{eq-eqb, ne_eqb, eqb-true, not-true}
+use lib.ListN.{length, take, drop, length-take, take-append-drop}
+use lib.Seq.{slice, take_at, drop-drop, length-slice}
+use borrow.Author.Tests.{eq-eqb, eqb-true, not-true}
 use Rattle.lists.specs.Lists.{every}
 use Rattle.lists.proofs.Tests.{both}
-use Rattle.text.specs.declared.Place.TheVariants.{At, Not}
+use Rattle.std.specs.Prelude.{Some, None}
+use Rattle.std.specs.Cmp.Lexicographic.{same_text, other_text}
+use Rattle.std.proofs.Common.{nat_eq}
+use lib.Pointwise.{pointwise}
 use Rattle.text.specs.Text.{on_first, parts, behind}
 use Rattle.text.specs.Inner.{Behind, BehindAt}
-use Rattle.text.proofs.Fields.{drop-next, slice-next}
+use Rattle.text.proofs.Fields.{drop-take}
 
 -- the next byte of both
 abbrev next : List ℕ → List ℕ → Bool → Option (List ℕ)
@@ -41,44 +44,52 @@ behind-exact (x ∷ w) (c ∷ s) v e = go (eqb x c) refl e (behind-exact w s v)
     go true t h ih = ap₂ ◌∷◌ (sym (eqb-true x c t)) (ih h)
     go false t h ih = let z : ◌≡◌ {A = ℕ} 0 1 = cc in absurd (omega arith)
 
-pub behind-short : (w s : List ℕ) → length s < length w → behind w s ≡ none
-unfolding behind
-behind-short [] s h = absurd (omega arith)
-behind-short (x ∷ w) [] h = refl
-behind-short (x ∷ w) (c ∷ s) h = go (eqb x c) (behind-short w s (omega arith))
+-- a text begins with a word, or nothing stands behind it
+pub behind-begins : (w s : List ℕ) → true ≡ pointwise nat_eq w (take (length w) s) → behind w s ≡ some (drop (length w) s)
+behind-begins w s e =
+    let b : w ≡ take (length w) s = same_text w (take (length w) s) e in
+    ap (behind w) (sym (ap (λ (l : List ℕ). l ++ drop (length w) s) b ∙ take-append-drop (length w) s))
+    ∙ behind-append w (drop (length w) s)
+
+pub behind-none : (w s : List ℕ) → false ≡ pointwise nat_eq w (take (length w) s) → behind w s ≡ none
+behind-none w s e = go (behind w s) refl
   where
-    go : (b : Bool) → behind w s ≡ none → next w s b ≡ none
-    go true ih = ih
-    go false ih = refl
-
-pub behind-nothing : (w s : List ℕ) → w ≡ [] → behind w s ≡ some s
-unfolding behind
-behind-nothing w s e = ap (λ (x : List ℕ). behind x s) e
-
--- the word from i on, and the text from o on
-module _ (s w : List ℕ) (o i t : ℕ) (h : o < t) (k : t ≤ length s) (l : i < length w) where
-  both-next : (b : Bool) → eqb (get_or w i 0) (get_or s o 0) ≡ b
-      → behind (drop i w) (slice o t s) ≡ next (drop (i + 1) w) (slice (o + 1) t s) b
-  both-next b e =
-      ap₂ behind (drop-next w i l) (slice-next s o t h k)
-      ∙ behind-next (get_or w i 0) (get_or s o 0) (drop (i + 1) w) (slice (o + 1) t s) b e
-
-  pub behind-on : get_or s o 0 ≡ get_or w i 0 → behind (drop i w) (slice o t s) ≡ behind (drop (i + 1) w) (slice (o + 1) t s)
-  behind-on e = both-next true (eq-eqb (get_or w i 0) (get_or s o 0) (sym e))
-
-  pub behind-differ : (get_or s o 0 ≡ get_or w i 0 → ⊥) → behind (drop i w) (slice o t s) ≡ none
-  behind-differ n = both-next false (ne_eqb (get_or w i 0) (get_or s o 0) (λ e. n (sym e)))
+    go : (o : Option (List ℕ)) → behind w s ≡ o → o ≡ none
+    go none h = refl
+    go (some v) h = absurd (other_text w (take (length w) s) e
+        (sym (ap (take (length w)) (behind-exact w s v h) ∙ take_at w v (length w) refl)))
 
 -- what is told
 module _ {w s : List ℕ} {from to : ℕ} where
-  pub behind-at : {i : ℕ} → BehindAt w s from to i → Behind w s from to (At i)
+  pub behind-at : {i : ℕ} → BehindAt w s from to i → Behind w s from to (Some i)
   behind-at {i} h = record {
     at = λ j e. let q : i ≡ j = cc in subst (BehindAt w s from to) q h;
     not = λ e. let z : ◌≡◌ {A = ℕ} 0 1 = cc in absurd (omega arith);
   }
 
-  pub behind-not : behind w (slice from to s) ≡ none → Behind w s from to Not
+  pub behind-not : behind w (slice from to s) ≡ none → Behind w s from to None
   behind-not h = record { at = λ j e. let z : ◌≡◌ {A = ℕ} 0 1 = cc in absurd (omega arith); not = λ e. h }
+
+-- what `starts_with` tells of a part of a text
+module _ (w s : List ℕ) (from to : ℕ) (h : from ≤ to) where
+  part : take (to - from) (drop from s) ≡ slice from to s
+  part =
+      let e : from + (to - from) ≡ to = omega arith in
+      sym (drop-take from (to - from) s) ∙ ap (λ (k : ℕ). slice from k s) e
+
+  pub begins : to ≤ length s → true ≡ pointwise nat_eq w (take (length w) (take (to - from) (drop from s)))
+      → Behind w s from to (Some (from + length w))
+  begins k e =
+      let b : w ≡ take (length w) (slice from to s) = same_text w (take (length w) (slice from to s)) (rw part at e) in
+      behind-at (record {
+        place = refl;
+        high = omega (arith, ap length b, length-take (length w) (slice from to s), length-slice from to s k);
+        rest = behind-begins w (slice from to s) (rw part at e) ∙ ap some (drop-drop (length w) from (take to s)
+            ∙ ap (λ (n : ℕ). slice n to s) (omega arith));
+      })
+
+  pub begins_not : false ≡ pointwise nat_eq w (take (length w) (take (to - from) (drop from s))) → Behind w s from to None
+  begins_not e = behind-not (behind-none w (slice from to s) (rw part at e))
 
 -- a text whose first part is l, which has no d
 pub parts-line : (d : ℕ) (l r : List ℕ) → every (λ c. not (eqb c d)) l ≡ true → parts d (l ++ (d ∷ r)) ≡ l ∷ parts d r

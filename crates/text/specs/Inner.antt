@@ -6,16 +6,14 @@ use Rattle.std.proofs.lemmas.List.Edits.{sets}
 use Rattle.std.proofs.Math.Seq.{slice}
 use Rattle.lists.specs.Lists.{up_to}
 use Rattle.text.specs.declared.Digits.{Digits}
-use Rattle.text.specs.declared.Number.{Number}
-use Rattle.text.specs.declared.Number.TheVariants.{Is, Not}
-use Rattle.text.specs.declared.Place.{Place}
-use Rattle.text.specs.declared.Place.TheVariants as place
+use Rattle.std.specs.Prelude as option
+use Rattle.std.specs.Prelude.{Some, None}
 use Rattle.text.specs.Text.{horner, parts, behind}
 
 -- a number that was read, or none
-abbrev pub read : Number → Option ℕ
-read (Is n) = some n
-read Not = none
+abbrev pub read : option.Option ℕ → Option ℕ
+read (Some n) = some n
+read None = none
 
 -- the three digits of a number below 1,000, zeros in front of it too
 abbrev pub three_digits : ℕ → List ℕ
@@ -40,9 +38,9 @@ pub record BehindAt (w s : List ℕ) (from to i : ℕ) : Type 0 where
   pub rest : behind w (slice from to s) ≡ some (slice i to s)
 
 -- r is the place behind w, or none where they do not begin with it
-pub record Behind (w s : List ℕ) (from to : ℕ) (r : Place) : Type 0 where
-  pub at : (i : ℕ) → r ≡ place.At i → BehindAt w s from to i
-  pub not : r ≡ place.Not → behind w (slice from to s) ≡ none
+pub record Behind (w s : List ℕ) (from to : ℕ) (r : option.Option ℕ) : Type 0 where
+  pub at : (i : ℕ) → r ≡ Some i → BehindAt w s from to i
+  pub not : r ≡ None → behind w (slice from to s) ≡ none
 
 -- the digits that stand from a place on, `most` of them at most: what they say, and where they end
 pub record DigitsFrom (s : List ℕ) (from most : ℕ) (r : Digits) : Type 0 where

@@ -1,7 +1,10 @@
 // Text as bytes: put at a place of a lent buffer, and read: fields, words and numbers.
 #![tactic(auto)]
 
-ghost use Rattle.std.specs.Prelude.{◌≡◌, [], ◌∷◌, ◌++◌, ◌+◌, ◌≤◌, ◌<◌, length, drop};
+pub mod writing;
+
+ghost use Rattle.std.specs.Prelude.{◌≡◌, [], ◌∷◌, ◌++◌, ◌+◌, ◌≤◌, ◌<◌, ◌==◌, length, drop};
+ghost use Rattle.std.specs.List.{position};
 ghost use Rattle.std.proofs.Math.Seq.{slice};
 ghost use Rattle.lists.specs.Lists.{alike};
 ghost use Rattle.text.specs.Text.{decimal, number_of, entry};
@@ -112,17 +115,22 @@ pub fn put_figure(buf: &mut [u8], at: usize, key: &[u8], n: u64) -> usize
     put_byte(buf, b, 10)
 }
 
+// The place of the first byte d.
+fn first_of(s: &[u8], d: u8) -> Option<usize>
+    ensures { result ≡ position (λ b. b == d) s.now }
+{
+    s.iter().position(|b| *b == d)
+}
+
 // Where the part that begins at `from` ends: the place of the next byte d, or the length.
 pub fn part_end(s: &[u8], from: usize, d: u8) -> usize
     requires { from ≤ length s.now }
     ensures { PartEnd d s.now from result }
 {
-    for i in from..s.len() {
-        if s[i] == d {
-            return i;
-        }
+    match first_of(&s[from..], d) {
+        Some(n) => from + n,
+        None => s.len(),
     }
-    s.len()
 }
 
 // Whether s[from..to] is w.
@@ -161,37 +169,17 @@ pub fn rest_is(s: &[u8], from: usize, w: &[u8]) -> bool
     same
 }
 
-// The place behind a word, or none.
-#[derive(Clone, Copy)]
-pub enum Place {
-    At(usize),
-    Not,
-}
-
 // The place behind w, where s[from..to] begins with it.
-pub fn behind(s: &[u8], from: usize, to: usize, w: &[u8]) -> Place
+pub fn behind(s: &[u8], from: usize, to: usize, w: &[u8]) -> Option<usize>
     requires from_le_to { from ≤ to }
     requires to_in_bounds { to ≤ length s.now }
     ensures { Behind w.now s.now from to result }
 {
-    if to - from < w.len() {
-        return Place::Not;
+    if s[from..to].starts_with(w) {
+        Some(from + w.len())
+    } else {
+        None
     }
-    let mut o = from;
-    for i in 0..w.len() {
-        if s[o] != w[i] {
-            return Place::Not;
-        }
-        o += 1;
-    }
-    Place::At(o)
-}
-
-// A number, or none where the bytes are not one.
-#[derive(Clone, Copy)]
-pub enum Number {
-    Is(u64),
-    Not,
 }
 
 // What digits say, and the place behind them.
@@ -207,49 +195,32 @@ pub fn digits_from(s: &[u8], from: usize, most: usize) -> Digits
     requires most_bound { most ≤ 19 }
     ensures { DigitsFrom s.now from most result }
 {
-    let mut limit = s.len();
-    if most < limit - from {
-        limit = from + most;
-    }
-    let mut a: u64 = 0;
+    let limit = s.len().min(from + most);
+    let mut value: u64 = 0;
     for i in from..limit {
-        let b = s[i] as u64;
-        if b < 48 {
-            return Digits { value: a, end: i };
+        if !s[i].is_ascii_digit() {
+            return Digits { value, end: i };
         }
-        if 57 < b {
-            return Digits { value: a, end: i };
-        }
-        a = a * 10 + (b - 48);
+        value = value * 10 + (s[i] - b'0') as u64;
     }
-    Digits {
-        value: a,
-        end: limit,
-    }
+    Digits { value, end: limit }
 }
 
-// s[from..to] as a number of 1 to `most` digits without leading zeros.
-pub fn read_number(s: &[u8], from: usize, to: usize, most: usize) -> Number
-    requires from_le_to { from ≤ to }
-    requires to_in_bounds { to ≤ length s.now }
-    requires most_bound { most ≤ 19 }
-    ensures { read result ≡ number_of most (slice from to s.now) }
+// The text as a number of 1 to `most` digits without leading zeros.
+pub fn read_number(s: &[u8], most: usize) -> Option<u64>
+    requires { most ≤ 19 }
+    ensures { read result ≡ number_of most s.now }
 {
-    let n = to - from;
-    if n == 0 {
-        return Number::Not;
+    let n = s.len();
+    if n == 0 || most < n {
+        return None;
     }
-    if most < n {
-        return Number::Not;
+    if 1 < n && s[0] == b'0' {
+        return None;
     }
-    if 1 < n {
-        if s[from] == 48 {
-            return Number::Not;
-        }
+    let digits = digits_from(s, 0, n);
+    if digits.end < n {
+        return None;
     }
-    let d = digits_from(s, from, n);
-    if d.end < to {
-        return Number::Not;
-    }
-    Number::Is(d.value)
+    Some(digits.value)
 }
