@@ -1,4 +1,4 @@
-// Text as bytes: put at a place of a lent buffer, and read: fields, words and numbers.
+// Text as bytes: put behind what is there (`writing`), and read: fields, words and numbers.
 #![tactic(auto)]
 
 pub mod writing;
@@ -9,111 +9,6 @@ ghost use Rattle.std.proofs.Math.Seq.{slice};
 ghost use Rattle.lists.specs.Lists.{alike};
 ghost use Rattle.text.specs.Text.{decimal, number_of, entry};
 ghost use Rattle.text.specs.Inner.{Wrote, PartEnd, Behind, read, three_digits, DigitsFrom};
-
-// Puts b at `at`. Each function that puts bytes hands back the place behind them.
-pub fn put_byte(buf: &mut [u8], at: usize, b: u8) -> usize
-    requires { at + 1 ≤ length buf.old }
-    ensures { Wrote buf.old at (b ∷ []) buf.new result }
-{
-    buf[at] = b;
-    at + 1
-}
-
-pub fn put_bytes(buf: &mut [u8], at: usize, s: &[u8]) -> usize
-    requires { at + length s.now ≤ length buf.old }
-    ensures { Wrote buf.old at s.now buf.new result }
-{
-    let mut o = at;
-    for i in 0..s.len() {
-        buf[o] = s[i];
-        o += 1;
-    }
-    o
-}
-
-// The three digits of a number below 1,000, zeros in front of it too.
-fn put_three(buf: &mut [u8], at: usize, n: u64) -> usize
-    requires n_bound { n < 1000 }
-    requires at_in_bounds { at + 3 ≤ length buf.old }
-    ensures { Wrote buf.old at (three_digits n) buf.new result }
-{
-    let a = put_byte(buf, at, 48 + (n / 100) as u8);
-    let b = put_byte(buf, a, 48 + (n / 10 % 10) as u8);
-    put_byte(buf, b, 48 + (n % 10) as u8)
-}
-
-// A number below 1,000 in decimal.
-fn put_small(buf: &mut [u8], at: usize, n: u64) -> usize
-    requires n_bound { n < 1000 }
-    requires n_in_bounds { at + length (decimal n) ≤ length buf.old }
-    ensures { Wrote buf.old at (decimal n) buf.new result }
-{
-    if n < 10 {
-        return put_byte(buf, at, 48 + n as u8);
-    }
-    if n < 100 {
-        let a = put_byte(buf, at, 48 + (n / 10) as u8);
-        return put_byte(buf, a, 48 + (n % 10) as u8);
-    }
-    put_three(buf, at, n)
-}
-
-// n in decimal, six digits at a time.
-fn put_large(buf: &mut [u8], at: usize, n: u64) -> usize
-    requires { at + length (decimal n) ≤ length buf.old }
-    ensures { Wrote buf.old at (decimal n) buf.new result }
-{
-    if n < 1000 {
-        return put_small(buf, at, n);
-    }
-    if n < 1000000 {
-        let next = put_small(buf, at, n / 1000);
-        return put_three(buf, next, n % 1000);
-    }
-    let next = put_large(buf, at, n / 1000000);
-    let last = put_three(buf, next, n / 1000 % 1000);
-    put_three(buf, last, n % 1000)
-}
-
-// n in decimal. Most numbers of a page are small: for them nothing calls itself, and the compiler puts them in place.
-pub fn put_number(buf: &mut [u8], at: usize, n: u64) -> usize
-    requires { at + length (decimal n) ≤ length buf.old }
-    ensures { Wrote buf.old at (decimal n) buf.new result }
-{
-    if n < 1000 {
-        return put_small(buf, at, n);
-    }
-    put_large(buf, at, n)
-}
-
-// The beginning of a line: a key, and `=`.
-pub fn put_key(buf: &mut [u8], at: usize, key: &[u8]) -> usize
-    requires { at + length key.now + 1 ≤ length buf.old }
-    ensures { Wrote buf.old at (key.now ++ (61 ∷ [])) buf.new result }
-{
-    let a = put_bytes(buf, at, key);
-    put_byte(buf, a, b'=')
-}
-
-// The line key=value.
-pub fn put_entry(buf: &mut [u8], at: usize, key: &[u8], value: &[u8]) -> usize
-    requires { at + length (entry key.now value.now) ≤ length buf.old }
-    ensures { Wrote buf.old at (entry key.now value.now) buf.new result }
-{
-    let a = put_key(buf, at, key);
-    let b = put_bytes(buf, a, value);
-    put_byte(buf, b, 10)
-}
-
-// The line key=n.
-pub fn put_figure(buf: &mut [u8], at: usize, key: &[u8], n: u64) -> usize
-    requires { at + length (entry key.now (decimal n)) ≤ length buf.old }
-    ensures { Wrote buf.old at (entry key.now (decimal n)) buf.new result }
-{
-    let a = put_key(buf, at, key);
-    let b = put_number(buf, a, n);
-    put_byte(buf, b, 10)
-}
 
 // The place of the first byte d.
 fn first_of(s: &[u8], d: u8) -> Option<usize>
@@ -131,25 +26,6 @@ pub fn part_end(s: &[u8], from: usize, d: u8) -> usize
         Some(n) => from + n,
         None => s.len(),
     }
-}
-
-// Whether s[from..to] is w.
-pub fn is_word(s: &[u8], from: usize, to: usize, w: &[u8]) -> bool
-    requires from_le_to { from ≤ to }
-    requires to_in_bounds { to ≤ length s.now }
-    ensures { result ≡ alike (slice from to s.now) w.now }
-{
-    if to - from != w.len() {
-        return false;
-    }
-    let mut o = from;
-    for i in 0..w.len() {
-        if s[o] != w[i] {
-            return false;
-        }
-        o += 1;
-    }
-    true
 }
 
 // Whether s from a place on is w. Every byte is compared, also behind one that differs: so the compiler compares many at once.

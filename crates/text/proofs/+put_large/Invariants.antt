@@ -1,4 +1,0 @@
-use Rattle.text.proofs.+put_large.Given as goal
-
-abbrev pub decreases-put_large : goal.decreases-put_large
-decreases-put_large l = l.n
