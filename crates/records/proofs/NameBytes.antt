@@ -17,6 +17,16 @@ use Rattle.records.specs.Names.{letter, blank, rest, legal, padded, name_of}
 abbrev plain : List ℕ → Bool
 plain f = every (λ c. not (blank c)) f
 
+-- five bytes
+pub five : (l : List ℕ) → length l ≡ 5 → l ≡ get_or l 0 0 ∷ get_or l 1 0 ∷ get_or l 2 0 ∷ get_or l 3 0 ∷ get_or l 4 0 ∷ []
+five [] h = absurd (omega arith)
+five (a ∷ []) h = absurd (omega arith)
+five (a ∷ b ∷ []) h = absurd (omega arith)
+five (a ∷ b ∷ c ∷ []) h = absurd (omega arith)
+five (a ∷ b ∷ c ∷ d ∷ []) h = absurd (omega arith)
+five (a ∷ b ∷ c ∷ d ∷ e ∷ []) h = refl
+five (a ∷ b ∷ c ∷ d ∷ e ∷ f ∷ l) h = absurd (omega arith)
+
 -- the bytes with the rest of five blanks behind them
 blanks-left : (n m : ℕ) → drop m (replicate {A = ℕ} n 32) ≡ replicate (n - m) 32
 blanks-left n zero = let e : n ≡ n - 0 = omega arith in ap (λ (k : ℕ). replicate k 32) e
