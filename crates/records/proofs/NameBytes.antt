@@ -1,15 +1,13 @@
 -- Laws of a name without its blanks: its bytes, stored over five blanks, are the name padded, and no blank is among them.
 -- Assumes nothing.
-use Prim.Native.Nat.{ℕ, zero, suc, ◌+◌, ◌-◌, ◌<◌, ◌≤◌}
-use native.Mathlib.Numerals.{add-one}
+use Prim.Native.Nat.{ℕ, zero, suc, ◌-◌, ◌<◌}
 use native.Mathlib.Omega.{arith}
 use mathlib.Core.Path.{◌≡◌, refl, sym, ap, ap₂, ◌∙◌}
 use mathlib.Core.Bool.{Bool, true, false, cond, not, ◌&&◌, ◌||◌}
 use mathlib.Core.List.{List, [], ◌∷◌, ◌++◌}
 use mathlib.Core.Option.{none, some}
-use lib.ListN.{length, get_or, set, drop, replicate, length-append, length-replicate, length-set}
-use lib.Seq.{sets, sets-eq, slice, slice-cons, slice_empty, length-slice}
-use borrow.Author.Tests.{eq-eqb, ne_eqb}
+use lib.ListN.{length, get_or, drop, replicate, length-append, length-replicate}
+use borrow.Author.Tests.{ne_eqb}
 use Rattle.std.specs.List.{list_any}
 use Rattle.lists.specs.Lists.{every}
 use Rattle.records.specs.Names.{letter, blank, rest, legal, padded, name_of}
