@@ -34,20 +34,14 @@ pub fn span_of(clock: u64, n: u64) -> Result<u64, NoSpan>
 pub fn falls_due(r: Program, now: u64) -> bool
     ensures { result ≡ falls_due now r }
 {
-    if r.due == 0 {
-        return false;
-    }
-    r.due <= now
+    r.due != 0 && r.due <= now
 }
 
 // Whether its program starts with that.
 pub fn starts(r: Program, now: u64) -> bool
     ensures { result ≡ starts now r }
 {
-    if falls_due(r, now) {
-        return r.state == DORMANT;
-    }
-    false
+    falls_due(r, now) && r.state == DORMANT
 }
 
 // The first due beyond `now` of a timer that fell due by then; none where it runs once.
@@ -68,8 +62,7 @@ pub fn moved(r: Program, now: u64) -> Program
     ensures { result ≡ moved now r }
 {
     if falls_due(r, now) {
-        let due = due_beyond(now, r.due, r.interval);
-        return r.with_timer(due, r.interval);
+        return r.with_timer(due_beyond(now, r.due, r.interval), r.interval);
     }
     r
 }
@@ -78,26 +71,15 @@ pub fn moved(r: Program, now: u64) -> Program
 fn sooner(r: Program, end: u64) -> u64
     ensures { result ≡ sooner r end }
 {
-    if r.due == 0 {
-        return end;
+    if r.due != 0 && r.due < end && r.state == DORMANT {
+        return r.due;
     }
-    if end <= r.due {
-        return end;
-    }
-    if r.state != DORMANT {
-        return end;
-    }
-    r.due
+    end
 }
 
 // The next moment at which a dormant program falls due, or `end` where none does before.
 pub fn next_start(programs: [Program; MOST_PROGRAMS], end: u64) -> u64
     ensures { result ≡ next_start end programs }
 {
-    let mut least = end;
-    for i in 0..MOST_PROGRAMS {
-        let r = programs[i];
-        least = sooner(r, least);
-    }
-    least
+    programs.iter().fold(end, |least, r| sooner(*r, least))
 }
