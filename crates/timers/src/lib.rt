@@ -31,13 +31,15 @@ pub fn span_of(clock: u64, n: u64) -> Result<u64, NoSpan>
 }
 
 // Whether a record's timer falls due by the time the clock stands at `now`.
+#[tactic(auto, unfolding(crate::specs::Inner::falls_due))]
 pub fn falls_due(r: Program, now: u64) -> bool
     ensures { result ≡ falls_due now r }
 {
-    r.due != 0 && r.due <= now
+    0 < r.due && r.due <= now
 }
 
 // Whether its program starts with that.
+#[tactic(auto, unfolding(crate::specs::Inner::starts))]
 pub fn starts(r: Program, now: u64) -> bool
     ensures { result ≡ starts now r }
 {
@@ -57,6 +59,7 @@ fn due_beyond(now: u64, due: u64, interval: u64) -> u64
 }
 
 // The record with its timer beyond `now`, where it fell due by then.
+#[tactic(auto, unfolding(crate::specs::Inner::falls_due))]
 pub fn moved(r: Program, now: u64) -> Program
     requires { CanMove now r }
     ensures { result ≡ moved now r }
@@ -71,7 +74,7 @@ pub fn moved(r: Program, now: u64) -> Program
 fn sooner(r: Program, end: u64) -> u64
     ensures { result ≡ sooner r end }
 {
-    if r.due != 0 && r.due < end && r.state == DORMANT {
+    if 0 < r.due && r.due < end && r.state == DORMANT {
         return r.due;
     }
     end
@@ -81,5 +84,9 @@ fn sooner(r: Program, end: u64) -> u64
 pub fn next_start(programs: [Program; MOST_PROGRAMS], end: u64) -> u64
     ensures { result ≡ next_start end programs }
 {
-    programs.iter().fold(end, |least, r| sooner(*r, least))
+    let mut least = end;
+    for r in &programs {
+        least = sooner(*r, least);
+    }
+    least
 }
