@@ -6,7 +6,6 @@ ghost use Rattle.shapes.specs.Inner.{unbroken, ValueAt, FigureAt, NameAt, Reason
 use super::values;
 use super::values::{Figure, Reason, Resource, Run};
 use page::keys;
-use records::Name;
 use text::Place;
 
 // Where the value of a line begins and ends.
@@ -69,10 +68,10 @@ pub fn name_at(s: &[u8], at: usize, key: &[u8]) -> NameLine
     let Value::Is(from, to) = value_at(s, at, key) else {
         return NameLine::Not;
     };
-    let Name::Is(a, b, c, d, e) = records::read_name(s, from, to) else {
+    let Some(name) = records::read_name(&s[from..to]) else {
         return NameLine::Not;
     };
-    NameLine::Is(a, b, c, d, e, to + 1)
+    NameLine::Is(name[0], name[1], name[2], name[3], name[4], to + 1)
 }
 
 pub fn reason_at(s: &[u8], at: usize, key: &[u8]) -> Reason

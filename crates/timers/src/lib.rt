@@ -9,48 +9,41 @@ use clock::Clock;
 use limits::{DORMANT, MOST_PROGRAMS, MOST_TICKS};
 use records::Program;
 
-// What n ticks come to, before any is made: the clock's reading after them; or n is not allowed; or they would pass the ceiling.
-#[derive(Clone, Copy)]
-pub enum Span {
-    To(u64),
+// Why n ticks are not made: n is not allowed, or they would pass the clock's ceiling.
+#[derive(Clone, Copy, PartialEq, Eq, Debug)]
+pub enum NoSpan {
     NotAllowed,
     AtCeiling,
 }
 
-pub fn span_of(clock: u64, n: u64) -> Span
+// The clock's reading after n ticks, before any is made.
+pub fn span_of(clock: u64, n: u64) -> Result<u64, NoSpan>
     requires { clock ≤ ceiling }
     ensures { result ≡ span_of clock n }
 {
-    if n == 0 {
-        return Span::NotAllowed;
-    }
-    if MOST_TICKS < n {
-        return Span::NotAllowed;
+    if n == 0 || MOST_TICKS < n {
+        return Err(NoSpan::NotAllowed);
     }
     if Clock::CEILING - clock < n {
-        return Span::AtCeiling;
+        return Err(NoSpan::AtCeiling);
     }
-    Span::To(clock + n)
+    Ok(clock + n)
 }
 
 // Whether a record's timer falls due by the time the clock stands at `now`.
+#[tactic(auto, unfolding(crate::specs::Inner::falls_due))]
 pub fn falls_due(r: Program, now: u64) -> bool
     ensures { result ≡ falls_due now r }
 {
-    if r.due == 0 {
-        return false;
-    }
-    r.due <= now
+    0 < r.due && r.due <= now
 }
 
 // Whether its program starts with that.
+#[tactic(auto, unfolding(crate::specs::Inner::starts))]
 pub fn starts(r: Program, now: u64) -> bool
     ensures { result ≡ starts now r }
 {
-    if falls_due(r, now) {
-        return r.state == DORMANT;
-    }
-    false
+    falls_due(r, now) && r.state == DORMANT
 }
 
 // The first due beyond `now` of a timer that fell due by then; none where it runs once.
@@ -66,13 +59,13 @@ fn due_beyond(now: u64, due: u64, interval: u64) -> u64
 }
 
 // The record with its timer beyond `now`, where it fell due by then.
+#[tactic(auto, unfolding(crate::specs::Inner::falls_due))]
 pub fn moved(r: Program, now: u64) -> Program
     requires { CanMove now r }
     ensures { result ≡ moved now r }
 {
     if falls_due(r, now) {
-        let due = due_beyond(now, r.due, r.interval);
-        return r.with_timer(due, r.interval);
+        return r.with_timer(due_beyond(now, r.due, r.interval), r.interval);
     }
     r
 }
@@ -81,16 +74,10 @@ pub fn moved(r: Program, now: u64) -> Program
 fn sooner(r: Program, end: u64) -> u64
     ensures { result ≡ sooner r end }
 {
-    if r.due == 0 {
-        return end;
+    if 0 < r.due && r.due < end && r.state == DORMANT {
+        return r.due;
     }
-    if end <= r.due {
-        return end;
-    }
-    if r.state != DORMANT {
-        return end;
-    }
-    r.due
+    end
 }
 
 // The next moment at which a dormant program falls due, or `end` where none does before.
@@ -98,9 +85,8 @@ pub fn next_start(programs: [Program; MOST_PROGRAMS], end: u64) -> u64
     ensures { result ≡ next_start end programs }
 {
     let mut least = end;
-    for i in 0..MOST_PROGRAMS {
-        let r = programs[i];
-        least = sooner(r, least);
+    for r in &programs {
+        least = sooner(*r, least);
     }
     least
 }
