@@ -1,18 +1,14 @@
 -- What PAGE hands back, by the paths of the code: 8,192 bytes are room for the page of sound tables, and a buffer that
 -- was long enough begins with the page.
 -- Assumes nothing.
-use Prim.Native.Nat.{ℕ, ◌+◌, ◌<◌, ◌≤◌}
-use native.Mathlib.Nat.{zero-add}
+use Prim.Native.Nat.{ℕ, ◌<◌, ◌≤◌}
 use native.Mathlib.Omega.{arith}
 use mathlib.Core.Path.{◌≡◌, sym, ap, ◌∙◌}
 use mathlib.Core.Bool.{Bool, true, false}
-use mathlib.Core.List.{List, [], ◌∷◌}
+use mathlib.Core.List.{List, [], ◌∷◌, ◌++◌}
 use lib.Dec.{leb}
-use lib.ListN.{length}
+use lib.ListN.{length, drop}
 use borrow.Author.Tests.{le-leb, lt-leb}
-use Rattle.limits.specs.Limits.{page_room}
-use Rattle.text.specs.Inner.{Wrote}
-use Rattle.text.proofs.Laws.{wrote-front}
 use Rattle.tables.specs.declared.Tables.{Tables}
 use Rattle.tables.specs.Tables.{plain, Arrays}
 use Rattle.tables.specs.Sound.{sound}
@@ -24,10 +20,10 @@ use Rattle.page.specs.Paging.{Written, written, paged}
 use Rattle.page.specs.Inner.{CanPage}
 use Rattle.page.proofs.Room.{page-room}
 
-pub can-page : (t : Tables) (buf : List ℕ) → Arrays t → sound t ≡ true → page_room ≤ length buf → CanPage t buf
-can-page t buf A e h =
+pub can-page : (t : Tables) → Arrays t → sound t ≡ true → CanPage t
+can-page t A e =
     let S = sound-clauses t e in
-    record { tracks = S.limits.most; numbers = S.limits.few; room = omega (arith, page-room (plain t) (sound-plain t A S)) }
+    record { tracks = S.limits.most; numbers = S.limits.few; room = page-room (plain t) (sound-plain t A S) }
 
 module _ (t : Tables) (buf : List ℕ) where
   abbrev bytes : List ℕ
@@ -49,15 +45,13 @@ module _ (t : Tables) (buf : List ℕ) where
   pub handed-unsound : sound t ≡ false → beside buf (not_sound t) ≡ paged t buf
   handed-unsound e = sym (by-sound false e)
 
-  pub handed-short : (n : ℕ) → sound t ≡ true → n ≡ 0 + length bytes → length buf < n → handed 12 n buf ≡ paged t buf
+  pub handed-short : (n : ℕ) → sound t ≡ true → n ≡ length bytes → length buf < n → handed 12 n buf ≡ paged t buf
   handed-short n e k h =
-      ap (λ (x : ℕ). handed 12 x buf) (k ∙ zero-add (length bytes))
+      ap (λ (x : ℕ). handed 12 x buf) k
       ∙ sym (by-sound true e ∙ by-room false (lt-leb (length bytes) (length buf) (omega arith)))
 
-  pub handed-done : (n m : ℕ) (after : List ℕ) → sound t ≡ true → n ≡ 0 + length bytes → n ≤ length buf → Wrote buf 0 bytes after m
-      → handed 0 n after ≡ paged t buf
-  handed-done n m after e k h w =
+  pub handed-done : (n : ℕ) (l : List ℕ) → sound t ≡ true → n ≡ length bytes → n ≤ length buf → l ≡ bytes
+      → handed 0 n (l ++ drop n buf) ≡ paged t buf
+  handed-done n l e k h same =
       let room : length bytes ≤ length buf = omega arith in
-      ap (λ (x : ℕ). handed 0 x after) (k ∙ zero-add (length bytes))
-      ∙ ap (handed 0 (length bytes)) (wrote-front w room)
-      ∙ sym (by-sound true e ∙ by-room true (le-leb (length bytes) (length buf) room))
+      rw (k, same) (sym (by-sound true e ∙ by-room true (le-leb (length bytes) (length buf) room)))

@@ -9,7 +9,9 @@ use mathlib.Core.Bool.{Bool, true, false, cond}
 use mathlib.Core.List.{List, [], ◌∷◌, map}
 use lib.ListN.{length, get_or, take, drop, drop_of_length-le}
 use lib.Seq.{get_or-take, drop-cons}
-use Rattle.limits.specs.Limits.{states, most_programs}
+use Rattle.std.specs.List.{count_by, filter}
+use Rattle.std.proofs.lemmas.List.Sums.{length-filter}
+use Rattle.limits.specs.Limits.{most_programs}
 use Rattle.lists.specs.Lists.{keep, from, join, every, up_to}
 use Rattle.lists.proofs.Tests.{both, up_to-true}
 use Rattle.records.specs.declared.Program.{Program}
@@ -20,7 +22,7 @@ use Rattle.records.proofs.Find.{at_place}
 use Rattle.records.proofs.Search.{span, span-all, span-next, span_none}
 use Rattle.tracks.specs.declared.held.Run.{Run}
 use Rattle.tracks.specs.Inner.{RunFrom}
-use Rattle.tracks.proofs.RunLaws.{runs_from, runs_past}
+use Rattle.tracks.proofs.RunLaws.{runs_from}
 use Rattle.chains.specs.Links.{walk, read}
 use Rattle.chains.proofs.Reading.{get_d_read}
 use Rattle.page.specs.Page.{bytes_of, bytes, chained, used_in, recorded, record_lines, chain_line, chain_lines}
@@ -65,6 +67,25 @@ used-past ps p h = ap (keep (λ q. (record_at ps q).used)) (span_none p most_pro
 pub records-past : (ps : List Program) (p : ℕ) → most_programs < p → records_from ps p ≡ []
 records-past ps p h = ap (records_of ps) (used-past ps p h)
 
+-- how many are used, as the code counts them: of the records behind the first i, of which there are n
+counted : (ps : List Program) (n i : ℕ) → length ps ≡ most_programs → i + n ≡ most_programs
+    → length (filter (λ r. r.used) (drop i ps)) ≡ length (used_from ps (i + 1))
+counted ps zero i l e = rw (drop_of_length-le ps {i = i} (omega arith), used-past ps (i + 1) (omega arith)) refl
+counted ps (suc n) i l e =
+    rw (drop-cons ps i missing (omega arith))
+    (go (get_or ps i missing).used refl
+    (ap (λ (k : ℕ). length (filter (λ (r : Program). r.used) (drop k ps))) (sym (add-one i)) ∙ counted ps n (i + 1) l (omega arith)))
+  where
+    go : (b : Bool) → (get_or ps i missing).used ≡ b → length (filter (λ r. r.used) (drop (suc i) ps)) ≡ length (used_from ps (i + 1 + 1))
+        → length (cond b (get_or ps i missing ∷ filter (λ r. r.used) (drop (suc i) ps)) (filter (λ r. r.used) (drop (suc i) ps)))
+        ≡ length (used_from ps (i + 1))
+    go true u ih = omega (arith, ih, ap length (used-next ps (i + 1) i (omega arith) (omega arith) true u))
+    go false u ih = ih ∙ sym (ap length (used-next ps (i + 1) i (omega arith) (omega arith) false u))
+
+pub used-counted : (ps : List Program) → length ps ≡ most_programs → count_by (λ r. r.used) ps ≡ length (used_in ps)
+used-counted ps l =
+    sym (length-filter (λ (r : Program). r.used) ps) ∙ counted ps most_programs 0 l refl ∙ ap length (sym (used_all ps))
+
 -- CHAINS
 abbrev pub chains_from : List ℕ → ℕ → List (List ℕ)
 chains_from l i = map (λ s. bytes_of (chain_line s (get_or (read l) s []))) (drop i chained)
@@ -79,9 +100,6 @@ state-at [] e i h = absurd (omega arith)
 state-at (s ∷ ss) e zero h = (both (up_to 1 6 s) (every (up_to 1 6) ss) e).0
 state-at (s ∷ ss) e (suc i) h = state-at ss (both (up_to 1 6 s) (every (up_to 1 6) ss) e).1 i (omega arith)
 
-pub chained-most : (i : ℕ) → i < length chained → get_or chained i 0 < states
-chained-most i h = omega (arith, up_to-true 1 6 (get_or chained i 0) (state-at chained refl i h))
-
 pub chains-here : (l : List ℕ) (i : ℕ) → i < length chained → let s = get_or chained i 0 in
     chains_from l i ≡ bytes_of (chain_line s (walk l s most_programs)) ∷ chains_from l (i + 1)
 chains-here l i h =
@@ -90,9 +108,6 @@ chains-here l i h =
     rw (add-one i)
     (ap (map (λ s. bytes_of (chain_line s (get_or (read l) s [])))) (drop-cons chained i 0 h)
     ∙ ap (λ (c : List ℕ). bytes_of (chain_line s c) ∷ chains_from l (suc i)) (get_d_read l s (omega arith)))
-
-pub chains-past : (l : List ℕ) (i : ℕ) → length chained ≤ i → chains_from l i ≡ []
-chains-past l i h = ap (map (λ s. bytes_of (chain_line s (get_or (read l) s [])))) (drop_of_length-le chained {i = i} h)
 
 -- RUNS OF TRACKS
 abbrev pub held_from : List ℕ → ℕ → List (List ℕ)
@@ -104,9 +119,6 @@ held_all hs = pieces-join held_line (runs_from hs 0)
 
 pub held-here : (hs : List ℕ) (i : ℕ) (g : Run) → RunFrom hs i g → held_from hs i ≡ bytes (held_line g) ∷ held_from hs (g.last + 1)
 held-here hs i g R = ap (pieces held_line) R.runs
-
-pub held-past : (hs : List ℕ) (i : ℕ) → length hs ≤ i → i ≤ length hs → held_from hs i ≡ []
-held-past hs i h l = ap (pieces held_line) (runs_past hs i h l)
 
 -- RESOURCE NUMBERS, of the first n
 module _ (n : ℕ) (xs : List Resource) where
@@ -126,6 +138,3 @@ module _ (n : ℕ) (xs : List Resource) where
       ap numbers_of (span-next (i + 1) n (omega arith))
       ∙ ap (λ (x : Resource). bytes (number_line (i + 1) x) ∷ numbers_from (i + 1))
       (ap (λ (k : ℕ). get_or (take n xs) k free) e ∙ get_or-take n xs i free h)
-
-  pub numbers-past : (i : ℕ) → n ≤ i → numbers_from i ≡ []
-  numbers-past i h = ap numbers_of (span_none (i + 1) n (omega arith))

@@ -1,33 +1,37 @@
 -- Laws of the values and lines that are written: lines piece by piece, a value known by an equation, a name without
 -- its blanks, numbers joined by commas.
 -- Assumes nothing.
-use Prim.Native.Nat.{ℕ, suc, ◌+◌, ◌≤◌, ◌<◌}
-use native.Mathlib.Omega.{arith}
+use Prim.Native.Nat.{ℕ, suc, ◌+◌, ◌<◌}
 use native.Mathlib.Numerals.{add-one}
 use mathlib.Core.Path.{◌≡◌, refl, sym, ap, ap₂, ◌∙◌}
 use mathlib.Core.Logic.{◌≢◌}
 use mathlib.Core.Bool.{Bool, true, false, cond, not, ◌||◌}
 use mathlib.Core.List.{List, [], ◌∷◌, ◌++◌, map, append_assoc, append-nil}
 use lib.Dec.{eqb, ltb}
-use lib.ListN.{length, get_or, take, drop, set, drop_of_length-le}
-use lib.Seq.{slice, slice-cons, drop-cons, length-take-le}
+use lib.ListN.{length, get_or, take, drop, set, drop_of_length-le, length-append}
+use lib.Seq.{drop-cons}
 use borrow.Author.Tests.{eq-eqb, ne_eqb}
 use Rattle.limits.specs.Limits.{usual_year}
 use Rattle.lists.specs.Lists.{join}
 use Rattle.text.specs.Text.{text, decimal, between, entry}
 use Rattle.text.specs.Inner.{Wrote}
-use Rattle.text.proofs.Laws.{Left, left_step}
+use Rattle.text.proofs.Laws.{Left}
 use Rattle.records.specs.declared.Resource.{Resource}
 use Rattle.records.specs.Names.{bare}
 use Rattle.records.specs.Numbers.{globally}
 use Rattle.tracks.specs.declared.held.Run.{Run}
 use Rattle.tracks.specs.Tracks.{nobody, system}
 use Rattle.rules.specs.Keeper.{lists, State}
-use Rattle.page.specs.Inner.{others}
+use Rattle.page.specs.Inner.{others, or_none}
 use Rattle.page.specs.Page.{Line, bytes_of, bytes, line, year_key, suspend_key, held_key, number_key, mark_word, party, or_dash, year_line, mark_line}
+use Rattle.page.specs.Page.{page_key, clock_key, tracks_key, system_key, numbers_key, programs_key, id_key, name_key, priority_key, state_key, why_key, due_key, interval_key}
+use Rattle.page.specs.Page.{end_key, last_word, used_in, record_lines, chain_lines, held_lines, number_lines}
+use Rattle.page.specs.Page.{first_keys, size_keys, first_word, paired, reason, recorded, head_lines, record_keys}
+use Rattle.records.specs.declared.Program.{Program}
+use Rattle.std.specs.Bool.{then_some}
 use Rattle.page.specs.Page.{held_line, number_line, parts, lines, page}
 
--- what is written, under another name
+-- what is written at a place, under another name
 pub wrote_as : {l x y l' : List ℕ} {at n : ℕ} → x ≡ y → Wrote l at y l' n → Wrote l at x l' n
 wrote_as e w = rw e w
 
@@ -37,15 +41,7 @@ left_as e h = rw e at h
 pub left_at : {l₀ all l l' rest : List ℕ} {at₀ at at' : ℕ} → l' ≡ l → at' ≡ at → Left l₀ at₀ all l at rest → Left l₀ at₀ all l' at' rest
 left_at e f h = rw (e, f) h
 
--- one byte is stored
-pub left-store : {l₀ all l rest : List ℕ} {at₀ at x : ℕ} → Left l₀ at₀ all l at (x ∷ rest) → Left l₀ at₀ all (set l at x) (at + 1) rest
-left-store {x = x} h = left_step (x ∷ []) h (record { buffer = refl; place = refl })
-
 -- LINES
-pub bytes-lines : (ls : List Line) → bytes ls ≡ join (map bytes_of ls)
-unfolding bytes
-bytes-lines ls = refl
-
 pub bytes-line : (l : Line) → bytes (l ∷ []) ≡ bytes_of l
 unfolding bytes
 bytes-line l = append-nil (bytes_of l)
@@ -155,28 +151,57 @@ bare-cons nm i b h e =
 pub bare-put : (nm : List ℕ) (i : ℕ) → i < length nm → get_or nm i 0 ≢ 32 → bare (drop i nm) ≡ get_or nm i 0 ∷ bare (drop (i + 1) nm)
 bare-put nm i h n = bare-cons nm i false h (ne_eqb (get_or nm i 0) 32 n)
 
-pub bare-skip : (nm : List ℕ) (i : ℕ) → i < length nm → get_or nm i 0 ≡ 32 → bare (drop i nm) ≡ bare (drop (i + 1) nm)
-bare-skip nm i h e = bare-cons nm i true h (eq-eqb (get_or nm i 0) 32 e)
+-- numbers joined by commas: the first, and the others; of the others the one at i, and those behind it
+pub joined_cons : (x : ℕ) (xs : List ℕ) → between 44 (map decimal (x ∷ xs)) ≡ decimal x ++ others xs
+joined_cons x [] = sym (append-nil (decimal x))
+joined_cons x (y ∷ ys) = ap (λ (r : List ℕ). decimal x ++ (44 ∷ r)) (joined_cons y ys)
 
--- numbers joined by commas: the first, and the others
-joined-cons : (x : ℕ) (xs : List ℕ) → between 44 (map decimal (x ∷ xs)) ≡ decimal x ++ others xs
-joined-cons x [] = sym (append-nil (decimal x))
-joined-cons x (y ∷ ys) = ap (λ (r : List ℕ). decimal x ++ (44 ∷ r)) (joined-cons y ys)
+pub others-here : (xs : List ℕ) (i : ℕ) → i < length xs
+    → others (drop i xs) ≡ (44 ∷ decimal (get_or xs i 0)) ++ others (drop (i + 1) xs)
+others-here xs i h = rw (add-one i) (ap others (drop-cons xs i 0 h))
 
-pub joined-none : (xs : List ℕ) (n : ℕ) → n ≡ 0 → between 44 (map decimal (take n xs)) ≡ []
-joined-none xs n e = rw e refl
+-- PIECES, as they are put one after the other: the head's, a record's, the page's
+pub head_put : (clock T S R Y n : ℕ) → bytes (head_lines clock T S R Y n)
+    ≡ entry (text page_key) (text first_word) ++ entry (text clock_key) (decimal clock) ++ bytes (year_line Y)
+    ++ entry (text tracks_key) (decimal T) ++ entry (text system_key) (decimal S) ++ entry (text numbers_key) (decimal R)
+    ++ entry (text programs_key) (decimal n)
+head_put clock T S R Y n =
+    lines-between (paired first_keys (text first_word ∷ decimal clock ∷ [])) (year_line Y)
+    (paired size_keys (decimal T ∷ decimal S ∷ decimal R ∷ decimal n ∷ []))
+    ∙ simp (append-nil, append_assoc)
 
-pub joined-first : (xs : List ℕ) (n : ℕ) → 0 < n → n ≤ length xs
-    → between 44 (map decimal (take n xs)) ≡ decimal (get_or xs 0 0) ++ others (slice 1 n xs)
-joined-first xs n h k = ap (λ (r : List ℕ). between 44 (map decimal r)) (slice-cons 0 n xs 0 h k) ∙ joined-cons (get_or xs 0 0) (slice 1 n xs)
+or_none-dash : (there : Bool) (n : ℕ) → or_none (then_some there n) ≡ or_dash there n
+or_none-dash true n = refl
+or_none-dash false n = refl
 
--- the others from the one at i on, a piece for each
-abbrev pub others_from : List ℕ → ℕ → ℕ → List (List ℕ)
-others_from xs n i = map (λ x. 44 ∷ decimal x) (slice i n xs)
+pub record_put : (p : ℕ) (r : Program) → bytes (recorded p r)
+    ≡ entry (text id_key) (decimal p) ++ entry (text name_key) (bare r.name) ++ entry (text priority_key) (decimal r.priority)
+    ++ entry (text state_key) (decimal r.state) ++ entry (text why_key) (reason r.why) ++ entry (text due_key) (or_none (then_some (ltb 0 r.due) r.due))
+    ++ entry (text interval_key) (or_none (then_some (ltb 0 r.due) r.interval)) ++ bytes (mark_line r.suspend)
+record_put p r =
+    let timer : Bool = ltb 0 r.due in
+    rw (or_none-dash timer r.due, or_none-dash timer r.interval)
+    (lines_then (paired record_keys (decimal p ∷ bare r.name ∷ decimal r.priority ∷ decimal r.state ∷ reason r.why ∷ or_dash timer r.due
+    ∷ or_dash timer r.interval ∷ [])) (mark_line r.suspend) ∙ simp (append-nil, append_assoc))
 
-pub others-here : (xs : List ℕ) (i n : ℕ) → i < n → n ≤ length xs
-    → others_from xs n i ≡ (44 ∷ decimal (get_or xs i 0)) ∷ others_from xs n (i + 1)
-others-here xs i n h k = rw (add-one i) (ap (map (λ x. 44 ∷ decimal x)) (slice-cons i n xs 0 h k))
+pub page_put : (a : State lists) → page a
+    ≡ bytes (head_lines a.book.clock a.book.tracks a.book.system a.book.numbers a.book.year (length (used_in a.book.programs)))
+    ++ bytes (record_lines a.book.programs) ++ bytes (chain_lines a.kept) ++ bytes (held_lines a.book.holders)
+    ++ bytes (number_lines a.book.numbers a.book.resources) ++ entry (text end_key) (text last_word)
+page_put a =
+    page-pieces a ∙ rw (bytes-line (line end_key (text last_word))) (simp (append-nil, append_assoc))
 
-pub others-past : (xs : List ℕ) (i n : ℕ) → n ≤ i → n ≤ length xs → others_from xs n i ≡ []
-others-past xs i n h k = ap (map (λ x. 44 ∷ decimal x)) (drop_of_length-le (take n xs) {i = i} (omega (arith, length-take-le n xs k)))
+-- the pieces of a record put behind what stands there
+pub eight : (o a b c d e f g h : List ℕ) → o ++ a ++ b ++ c ++ d ++ e ++ f ++ g ++ h ≡ o ++ (a ++ b ++ c ++ d ++ e ++ f ++ g ++ h)
+eight o a b c d e f g h = simp append_assoc
+
+-- what the check wants of each
+pub ruleset mark_put = (mark-there, mark-none, append-nil)
+
+pub ruleset year_put = (year-there, year-none, append-nil)
+
+pub ruleset held_put = (held-free, held-system, held-some, append-nil, append_assoc, length-append)
+
+pub ruleset number_put = (number-none, number-some, append-nil, append_assoc, length-append)
+
+pub ruleset lines_put = (head_put, record_put, length-append)

@@ -1,19 +1,24 @@
 -- What inner functions ask and promise; nothing here need be believed for the call.
 -- Assumes nothing.
-use Rattle.std.specs.Prelude.{ℕ, ◌≤◌, List, ◌∷◌, map, length}
-use Rattle.limits.specs.Limits.{most_tracks, most_numbers}
+use Rattle.std.specs.Prelude.{ℕ, ◌≤◌, Option, Some, None, List, ◌∷◌, map, length}
+use Rattle.limits.specs.Limits.{most_tracks, most_numbers, page_room}
 use Rattle.lists.specs.Lists.{join}
-use Rattle.text.specs.Text.{decimal}
+use Rattle.text.specs.Text.{text, decimal}
 use Rattle.tables.specs.declared.Tables.{Tables}
 use Rattle.tables.specs.Tables.{plain}
-use Rattle.page.specs.Page.{page}
+use Rattle.page.specs.Page.{dash, page}
 
 -- numbers with a comma before each
 abbrev pub others : List ℕ → List ℕ
 others xs = join (map (λ x. 44 ∷ decimal x) xs)
 
--- tables whose page fits a buffer
-pub record CanPage (t : Tables) (buf : List ℕ) : Type 0 where
+-- a number, or a dash where there is none
+abbrev pub or_none : Option ℕ → List ℕ
+or_none (Some n) = decimal n
+or_none None = text dash
+
+-- tables whose page has room
+pub record CanPage (t : Tables) : Type 0 where
   pub tracks : t.ledger.tracks.count ≤ most_tracks
   pub numbers : t.ledger.numbers.count ≤ most_numbers
-  pub room : length (page (plain t)) ≤ length buf
+  pub room : length (page (plain t)) ≤ page_room

@@ -7,7 +7,6 @@ mod sections;
 mod values;
 
 ghost use Rattle.std.specs.Prelude.{◌≡◌};
-ghost use Rattle.text.specs.Inner.{Wrote};
 ghost use Rattle.tables.specs.Tables.{plain};
 ghost use Rattle.tables.specs.Calls.{told};
 ghost use Rattle.page.specs.Page.{page};
@@ -15,37 +14,36 @@ ghost use Rattle.rules.specs.Engine.{beside};
 ghost use Rattle.page.specs.Paging.{paged};
 ghost use Rattle.page.specs.Inner.{CanPage};
 
+use arrayvec::ArrayVec;
 use limits::PAGE_ROOM;
 use rules::Answer;
 use tables::{Outcome, Tables};
 
-// Puts the page at the front: the tables are sound, and the buffer has room for any page.
-pub fn put_page(buf: &mut [u8], tables: Tables) -> usize
-    requires { CanPage tables buf.old }
-    ensures { Wrote buf.old 0 (page (plain tables)) buf.new result }
+// What is put of a page, with room for any.
+type Out = ArrayVec<u8, PAGE_ROOM>;
+
+// The page of tables: there is room for it where they are sound.
+pub fn page_of(tables: Tables) -> ArrayVec<u8, PAGE_ROOM>
+    requires { CanPage tables }
+    ensures { result.items ≡ page (plain tables) }
 {
-    let links = tables.links;
-    let book = tables.ledger;
-    let programs = book.programs;
-    let clock = book.clock;
-    let tracks = book.tracks;
-    let numbers = book.numbers;
-    let used = sections::count_used(programs);
-    let a = lines::put_heading(
-        buf,
-        0,
-        clock.ticks,
-        tracks.count,
-        tracks.system,
-        numbers.count,
-        clock.year,
-        used,
+    let book = &tables.ledger;
+    let mut out = ArrayVec::new();
+    lines::put_heading(
+        &mut out,
+        book.clock.ticks,
+        book.tracks.count,
+        book.tracks.system,
+        book.numbers.count,
+        book.clock.year,
+        sections::count_used(&book.programs),
     );
-    let b = sections::put_records(buf, a, programs);
-    let c = sections::put_chains(buf, b, links);
-    let d = sections::put_runs(buf, c, tracks);
-    let e = sections::put_resources(buf, d, numbers);
-    text::put_entry(buf, e, &keys::END, &keys::PAGE)
+    sections::put_records(&mut out, &book.programs);
+    sections::put_chains(&mut out, tables.links);
+    sections::put_runs(&mut out, book.tracks);
+    sections::put_resources(&mut out, &book.numbers);
+    text::writing::put_entry(&mut out, &keys::END, &keys::PAGE);
+    out
 }
 
 // PAGE: the page at the front of the lent buffer, the rest of it untouched; where it is too short, nothing is written.
@@ -56,20 +54,20 @@ pub fn write_page(tables: Tables, buf: &mut [u8]) -> Outcome
     if !o.sound {
         return Outcome {
             answer: Answer::NotSound,
-            tables: tables,
+            tables,
         };
     }
-    let mut space = [0u8; PAGE_ROOM];
-    let n = put_page(&mut space, tables);
+    let page = page_of(tables);
+    let n = page.len();
     if buf.len() < n {
         return Outcome {
             answer: Answer::TooShort(n as u64),
-            tables: tables,
+            tables,
         };
     }
-    text::put_bytes(buf, 0, &space[..n]);
+    buf[..n].copy_from_slice(page.as_slice());
     Outcome {
         answer: Answer::Done(n as u64),
-        tables: tables,
+        tables,
     }
 }

@@ -1,151 +1,152 @@
 // The lines of a page, each of them for one thing.
-ghost use Rattle.std.specs.Prelude.{◌+◌, ◌≤◌, length, take};
-ghost use Rattle.limits.specs.Limits.{most_programs};
+ghost use Rattle.std.specs.Prelude.{◌≡◌, ◌+◌, ◌≤◌, ◌++◌, length};
+ghost use Rattle.limits.specs.Limits.{page_room};
 ghost use Rattle.records.specs.Names.{bare};
 ghost use Rattle.text.specs.Text.{entry};
-ghost use Rattle.text.specs.Inner.{Wrote};
-ghost use Rattle.page.specs.Page.{bytes_of, bytes, reason, or_dash, mark_line, year_line, head_lines, recorded, chain_line, held_line, number_line};
+ghost use Rattle.page.specs.Page.{bytes_of, bytes, reason, mark_line, year_line, head_lines, recorded, chain_line, held_line, number_line};
+ghost use Rattle.page.specs.Inner.{or_none};
 
-use super::{keys, values};
-use chains::Listing;
+use super::{Out, keys, values};
 use limits::USUAL_YEAR;
 use records::{Program, Resource, Why};
+use text::writing::{put_entry, put_figure, put_key};
 use tracks::{Run, Tracks};
 
 // The start year; none where it is the usual one.
-fn put_year_line(buf: &mut [u8], at: usize, year: u16) -> usize
-    requires { at + length (bytes (year_line year)) ≤ length buf.old }
-    ensures { Wrote buf.old at (bytes (year_line year)) buf.new result }
+#[tactic(auto, using(crate::proofs::Writing::year_put))]
+fn put_year_line(out: &mut Out, year: u16)
+    requires { length out.old.items + length (bytes (year_line year)) ≤ page_room }
+    ensures { out.new.items ≡ out.old.items ++ bytes (year_line year) }
 {
     if year == USUAL_YEAR {
-        return at;
+        return;
     }
-    text::put_figure(buf, at, &keys::YEAR, year as u64)
+    put_figure(out, &keys::YEAR, year as u64);
 }
 
 // The head of a page, of tables of these sizes and this start year with so many programs.
+#[tactic(auto, using(crate::proofs::Writing::lines_put))]
 pub(crate) fn put_heading(
-    buf: &mut [u8],
-    at: usize,
+    out: &mut Out,
     clock: u64,
     tracks: u16,
     system: u16,
     numbers: u8,
     year: u16,
     programs: usize,
-) -> usize
-    requires { at + length (bytes (head_lines clock tracks system numbers year programs)) ≤ length buf.old }
-    ensures { Wrote buf.old at (bytes (head_lines clock tracks system numbers year programs)) buf.new result }
+)
+    requires { length out.old.items + length (bytes (head_lines clock tracks system numbers year programs)) ≤ page_room }
+    ensures { out.new.items ≡ out.old.items ++ bytes (head_lines clock tracks system numbers year programs) }
 {
-    let a = text::put_entry(buf, at, &keys::PAGE, &keys::RTE2);
-    let b = text::put_figure(buf, a, &keys::CLOCK, clock);
-    let c = put_year_line(buf, b, year);
-    let d = text::put_figure(buf, c, &keys::TRACKS, tracks as u64);
-    let e = text::put_figure(buf, d, &keys::SYSTEM, system as u64);
-    let f = text::put_figure(buf, e, &keys::NUMBERS, numbers as u64);
-    text::put_figure(buf, f, &keys::PROGRAMS, programs as u64)
+    put_entry(out, &keys::PAGE, &keys::RTE2);
+    put_figure(out, &keys::CLOCK, clock);
+    put_year_line(out, year);
+    put_figure(out, &keys::TRACKS, tracks as u64);
+    put_figure(out, &keys::SYSTEM, system as u64);
+    put_figure(out, &keys::NUMBERS, numbers as u64);
+    put_figure(out, &keys::PROGRAMS, programs as u64);
 }
 
 // Lines of a record, by their key: a name, a reason, a number that may be absent.
-fn put_name_line(buf: &mut [u8], at: usize, key: &[u8], name: [u8; 5]) -> usize
-    requires { at + length (entry key.now (bare name)) ≤ length buf.old }
-    ensures { Wrote buf.old at (entry key.now (bare name)) buf.new result }
+#[tactic(auto, unfolding(text::specs::Text::entry))]
+fn put_name_line(out: &mut Out, key: &[u8], name: [u8; 5])
+    requires { length out.old.items + length (entry key.now (bare name)) ≤ page_room }
+    ensures { out.new.items ≡ out.old.items ++ entry key.now (bare name) }
 {
-    let a = text::put_key(buf, at, key);
-    let b = values::put_name(buf, a, name);
-    text::put_byte(buf, b, 10)
+    put_key(out, key);
+    values::put_name(out, name);
+    out.push(b'\n');
 }
 
-fn put_why_line(buf: &mut [u8], at: usize, key: &[u8], why: Why) -> usize
-    requires { at + length (entry key.now (reason why)) ≤ length buf.old }
-    ensures { Wrote buf.old at (entry key.now (reason why)) buf.new result }
+#[tactic(auto, unfolding(text::specs::Text::entry))]
+fn put_why_line(out: &mut Out, key: &[u8], why: Why)
+    requires { length out.old.items + length (entry key.now (reason why)) ≤ page_room }
+    ensures { out.new.items ≡ out.old.items ++ entry key.now (reason why) }
 {
-    let a = text::put_key(buf, at, key);
-    let b = values::put_reason(buf, a, why);
-    text::put_byte(buf, b, 10)
+    put_key(out, key);
+    values::put_reason(out, why);
+    out.push(b'\n');
 }
 
-fn put_or_dash_line(buf: &mut [u8], at: usize, key: &[u8], there: bool, n: u64) -> usize
-    requires { at + length (entry key.now (or_dash there n)) ≤ length buf.old }
-    ensures { Wrote buf.old at (entry key.now (or_dash there n)) buf.new result }
+#[tactic(auto, unfolding(text::specs::Text::entry))]
+fn put_or_dash_line(out: &mut Out, key: &[u8], n: Option<u64>)
+    requires { length out.old.items + length (entry key.now (or_none n)) ≤ page_room }
+    ensures { out.new.items ≡ out.old.items ++ entry key.now (or_none n) }
 {
-    let a = text::put_key(buf, at, key);
-    let b = values::put_or_dash(buf, a, there, n);
-    text::put_byte(buf, b, 10)
+    put_key(out, key);
+    values::put_or_dash(out, n);
+    out.push(b'\n');
 }
 
 // The line of a mark, where there is one.
-fn put_mark_line(buf: &mut [u8], at: usize, there: bool) -> usize
-    requires { at + length (bytes (mark_line there)) ≤ length buf.old }
-    ensures { Wrote buf.old at (bytes (mark_line there)) buf.new result }
+#[tactic(auto, using(crate::proofs::Writing::mark_put))]
+fn put_mark_line(out: &mut Out, there: bool)
+    requires { length out.old.items + length (bytes (mark_line there)) ≤ page_room }
+    ensures { out.new.items ≡ out.old.items ++ bytes (mark_line there) }
 {
     if there {
-        return text::put_entry(buf, at, &keys::SUSPEND, &keys::MARK);
+        put_entry(out, &keys::SUSPEND, &keys::MARK);
     }
-    at
 }
 
 // The lines of program p.
-pub(crate) fn put_record(buf: &mut [u8], at: usize, p: u8, program: Program) -> usize
-    requires { at + length (bytes (recorded p program)) ≤ length buf.old }
-    ensures { Wrote buf.old at (bytes (recorded p program)) buf.new result }
+#[tactic(auto, using(crate::proofs::Writing::lines_put))]
+pub(crate) fn put_record(out: &mut Out, p: u8, program: &Program)
+    requires { length out.old.items + length (bytes (recorded p program.now)) ≤ page_room }
+    ensures { out.new.items ≡ out.old.items ++ bytes (recorded p program.now) }
 {
-    let name = program.name;
-    let why = program.why;
     let timer = 0 < program.due;
-    let a = text::put_figure(buf, at, &keys::ID, p as u64);
-    let b = put_name_line(buf, a, &keys::NAME, name);
-    let c = text::put_figure(buf, b, &keys::PRIORITY, program.priority as u64);
-    let d = text::put_figure(buf, c, &keys::STATE, program.state as u64);
-    let e = put_why_line(buf, d, &keys::WHY, why);
-    let f = put_or_dash_line(buf, e, &keys::DUE, timer, program.due);
-    let g = put_or_dash_line(buf, f, &keys::INTERVAL, timer, program.interval);
-    put_mark_line(buf, g, program.suspend)
+    put_figure(out, &keys::ID, p as u64);
+    put_name_line(out, &keys::NAME, program.name);
+    put_figure(out, &keys::PRIORITY, program.priority as u64);
+    put_figure(out, &keys::STATE, program.state as u64);
+    put_why_line(out, &keys::WHY, program.why);
+    put_or_dash_line(out, &keys::DUE, timer.then_some(program.due));
+    put_or_dash_line(out, &keys::INTERVAL, timer.then_some(program.interval));
+    put_mark_line(out, program.suspend);
 }
 
 // The chain of a state.
-pub(crate) fn put_chain(buf: &mut [u8], at: usize, state: u8, chain: Listing) -> usize
-    requires len_le_most_programs { chain.len ≤ most_programs }
-    requires ids_in_bounds { at + length (bytes_of (chain_line state (take chain.len chain.ids))) ≤ length buf.old }
-    ensures { Wrote buf.old at (bytes_of (chain_line state (take chain.len chain.ids))) buf.new result }
+#[tactic(auto, unfolding(text::specs::Text::entry))]
+pub(crate) fn put_chain(out: &mut Out, state: u8, ids: &[u8])
+    requires { length out.old.items + length (bytes_of (chain_line state ids.now)) ≤ page_room }
+    ensures { out.new.items ≡ out.old.items ++ bytes_of (chain_line state ids.now) }
 {
-    let ids = chain.ids;
-    let a = values::put_coded(buf, at, &keys::CHAIN, state as u64);
-    let b = text::put_byte(buf, a, b'=');
-    let c = values::put_joined(buf, b, ids, chain.len);
-    text::put_byte(buf, c, 10)
+    values::put_coded(out, &keys::CHAIN, state as u64);
+    out.push(b'=');
+    values::put_joined(out, ids);
+    out.push(b'\n');
 }
 
 // A run of tracks of one holder; none for free tracks and the system's.
-pub(crate) fn put_run(buf: &mut [u8], at: usize, run: Run) -> usize
-    requires { at + length (bytes (held_line run)) ≤ length buf.old }
-    ensures { Wrote buf.old at (bytes (held_line run)) buf.new result }
+#[tactic(auto, using(crate::proofs::Writing::held_put))]
+pub(crate) fn put_run(out: &mut Out, run: Run)
+    requires { length out.old.items + length (bytes (held_line run)) ≤ page_room }
+    ensures { out.new.items ≡ out.old.items ++ bytes (held_line run) }
 {
-    if run.holder == Tracks::FREE {
-        return at;
+    if run.holder == Tracks::FREE || run.holder == Tracks::SYSTEM {
+        return;
     }
-    if run.holder == Tracks::SYSTEM {
-        return at;
-    }
-    let a = text::put_key(buf, at, &keys::HELD);
-    let b = values::put_marked(buf, a, run.first as u64, b'-');
-    let c = values::put_marked(buf, b, run.last as u64, b':');
-    let d = values::put_party(buf, c, run.holder);
-    text::put_byte(buf, d, 10)
+    put_key(out, &keys::HELD);
+    values::put_marked(out, run.first as u64, b'-');
+    values::put_marked(out, run.last as u64, b':');
+    values::put_party(out, run.holder);
+    out.push(b'\n');
 }
 
 // A resource number; none where it is free.
-pub(crate) fn put_resource(buf: &mut [u8], at: usize, number: usize, x: Resource) -> usize
-    requires { at + length (bytes (number_line number x)) ≤ length buf.old }
-    ensures { Wrote buf.old at (bytes (number_line number x)) buf.new result }
+#[tactic(auto, using(crate::proofs::Writing::number_put))]
+pub(crate) fn put_resource(out: &mut Out, number: usize, x: &Resource)
+    requires { length out.old.items + length (bytes (number_line number x.now)) ≤ page_room }
+    ensures { out.new.items ≡ out.old.items ++ bytes (number_line number x.now) }
 {
     if x.owner == 0 {
-        return at;
+        return;
     }
-    let a = text::put_key(buf, at, &keys::NUMBER);
-    let b = values::put_marked(buf, a, number as u64, b':');
-    let c = values::put_party(buf, b, x.owner);
-    let d = text::put_byte(buf, c, b':');
-    let e = values::put_or_dash(buf, d, 0 < x.lock, x.lock as u64);
-    text::put_byte(buf, e, 10)
+    put_key(out, &keys::NUMBER);
+    values::put_marked(out, number as u64, b':');
+    values::put_party(out, x.owner);
+    out.push(b':');
+    values::put_or_dash(out, (0 < x.lock).then_some(x.lock as u64));
+    out.push(b'\n');
 }

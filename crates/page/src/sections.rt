@@ -1,92 +1,72 @@
 // The parts of a page that have as many lines as there are things to show.
-ghost use Rattle.std.specs.Prelude.{◌≡◌, ◌+◌, ◌≤◌, length, take};
-ghost use Rattle.limits.specs.Limits.{most_tracks, most_numbers};
+ghost use Rattle.std.specs.Prelude.{◌≡◌, ◌+◌, ◌≤◌, ◌++◌, length, take};
+ghost use Rattle.limits.specs.Limits.{most_tracks, most_numbers, page_room};
 ghost use Rattle.chains.specs.Links.{read};
-ghost use Rattle.text.specs.Inner.{Wrote};
 ghost use Rattle.tracks.specs.Tracks.{holders};
 ghost use Rattle.page.specs.Page.{bytes, used_in, record_lines, chain_lines, held_lines, number_lines};
 
-use super::{keys, lines};
+use super::{Out, keys, lines};
 use chains::SLOTS;
 use limits::MOST_PROGRAMS;
 use records::{Numbers, Program};
 use tracks::Tracks;
 
 // How many records are used.
-pub(crate) fn count_used(programs: [Program; MOST_PROGRAMS]) -> usize
-    ensures { result ≡ length (used_in programs) }
+pub(crate) fn count_used(programs: &[Program; MOST_PROGRAMS]) -> usize
+    ensures { result ≡ length (used_in programs.now) }
 {
-    let mut n: usize = 0;
-    for i in 0..MOST_PROGRAMS {
-        let r = programs[i];
-        if r.used {
-            n += 1;
-        }
-    }
-    n
+    programs.iter().filter(|r| r.used).count()
 }
 
 // The used records, upward.
-pub(crate) fn put_records(buf: &mut [u8], at: usize, programs: [Program; MOST_PROGRAMS]) -> usize
-    requires { at + length (bytes (record_lines programs)) ≤ length buf.old }
-    ensures { Wrote buf.old at (bytes (record_lines programs)) buf.new result }
+pub(crate) fn put_records(out: &mut Out, programs: &[Program; MOST_PROGRAMS])
+    requires { length out.old.items + length (bytes (record_lines programs.now)) ≤ page_room }
+    ensures { out.new.items ≡ out.old.items ++ bytes (record_lines programs.now) }
 {
-    let mut o = at;
-    for i in 0..MOST_PROGRAMS {
-        let r = programs[i];
+    for (i, r) in programs.iter().enumerate() {
         if r.used {
-            o = lines::put_record(buf, o, (i + 1) as u8, r);
+            lines::put_record(out, (i + 1) as u8, r);
         }
     }
-    o
 }
 
 // The chains of the states that are shown.
-pub(crate) fn put_chains(buf: &mut [u8], at: usize, links: [u8; SLOTS]) -> usize
-    requires { at + length (bytes (chain_lines (read links))) ≤ length buf.old }
-    ensures { Wrote buf.old at (bytes (chain_lines (read links))) buf.new result }
+pub(crate) fn put_chains(out: &mut Out, links: [u8; SLOTS])
+    requires { length out.old.items + length (bytes (chain_lines (read links))) ≤ page_room }
+    ensures { out.new.items ≡ out.old.items ++ bytes (chain_lines (read links)) }
 {
-    let states = keys::CHAINED;
-    let mut o = at;
-    for i in 0..4 {
-        let state = states[i];
+    for state in keys::CHAINED {
         let chain = chains::chain_of(links, state as usize);
-        o = lines::put_chain(buf, o, state, chain);
+        lines::put_chain(out, state, &chain.ids[..chain.len]);
     }
-    o
 }
 
 // The longest runs of one holder, upward.
-pub(crate) fn put_runs(buf: &mut [u8], at: usize, tracks: Tracks) -> usize
+pub(crate) fn put_runs(out: &mut Out, tracks: Tracks)
     requires count_le_most_tracks { tracks.count ≤ most_tracks }
-    requires tracks_in_bounds { at + length (bytes (held_lines (holders tracks))) ≤ length buf.old }
-    ensures { Wrote buf.old at (bytes (held_lines (holders tracks))) buf.new result }
+    requires tracks_in_bounds { length out.old.items + length (bytes (held_lines (holders tracks))) ≤ page_room }
+    ensures { out.new.items ≡ out.old.items ++ bytes (held_lines (holders tracks)) }
 {
     let count = tracks.count as usize;
     let places = tracks.places();
-    let mut o = at;
     let mut first: usize = 0;
     while first < count {
         let run = tracks::run_in(&places, count, first);
-        o = lines::put_run(buf, o, run);
+        lines::put_run(out, run);
         first = run.last + 1;
     }
-    o
 }
 
 // The allocated numbers, upward.
-pub(crate) fn put_resources(buf: &mut [u8], at: usize, numbers: Numbers) -> usize
-    requires count_le_most_numbers { numbers.count ≤ most_numbers }
-    requires resources_in_bounds { at + length (bytes (number_lines numbers.count (take numbers.count numbers.resources))) ≤ length buf.old }
-    ensures { Wrote buf.old at (bytes (number_lines numbers.count (take numbers.count numbers.resources)))
-        buf.new result }
+pub(crate) fn put_resources(out: &mut Out, numbers: &Numbers)
+    requires count_le_most_numbers { numbers.now.count ≤ most_numbers }
+    requires resources_in_bounds { length out.old.items
+        + length (bytes (number_lines numbers.now.count (take numbers.now.count numbers.now.resources))) ≤ page_room }
+    ensures { out.new.items
+        ≡ out.old.items ++ bytes (number_lines numbers.now.count (take numbers.now.count numbers.now.resources)) }
 {
-    let count = numbers.count as usize;
-    let resources = numbers.resources;
-    let mut o = at;
-    for i in 0..count {
-        let x = resources[i];
-        o = lines::put_resource(buf, o, i + 1, x);
+    let resources = &numbers.resources[..numbers.count as usize];
+    for (i, x) in resources.iter().enumerate() {
+        lines::put_resource(out, i + 1, x);
     }
-    o
 }

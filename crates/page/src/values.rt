@@ -1,107 +1,89 @@
 // The values that lines of a page have: a name, a reason, a figure that may be absent, a holder, numbers joined by commas.
-ghost use Rattle.std.specs.Prelude.{◌+◌, ◌≤◌, [], ◌∷◌, ◌++◌, map, length, take};
-ghost use Rattle.limits.specs.Limits.{most_programs};
+ghost use Rattle.std.specs.Prelude.{◌≡◌, ◌+◌, ◌≤◌, [], ◌∷◌, ◌++◌, map, length};
+ghost use Rattle.limits.specs.Limits.{page_room};
 ghost use Rattle.records.specs.Names.{bare};
 ghost use Rattle.text.specs.Text.{decimal, between};
-ghost use Rattle.text.specs.Inner.{Wrote};
-ghost use Rattle.std.proofs.Math.Seq.{slice};
-ghost use Rattle.page.specs.Page.{party, or_dash, reason};
-ghost use Rattle.page.specs.Inner.{others};
+ghost use Rattle.page.specs.Page.{party, reason};
+ghost use Rattle.page.specs.Inner.{or_none};
 
-use super::keys;
-use limits::MOST_PROGRAMS;
+use super::{Out, keys};
 use records::{Numbers, Why};
+use text::writing::{put_bytes, put_number};
 
 // A name without its blanks.
-pub(crate) fn put_name(buf: &mut [u8], at: usize, name: [u8; 5]) -> usize
-    requires { at + length (bare name) ≤ length buf.old }
-    ensures { Wrote buf.old at (bare name) buf.new result }
+pub(crate) fn put_name(out: &mut Out, name: [u8; 5])
+    requires { length out.old.items + length (bare name) ≤ page_room }
+    ensures { out.new.items ≡ out.old.items ++ bare name }
 {
-    let mut o = at;
-    for i in 0..5 {
-        let c = name[i];
-        if c != b' ' {
-            buf[o] = c;
-            o += 1;
+    for c in &name {
+        if *c != b' ' {
+            out.push(*c);
         }
     }
-    o
 }
 
 // A word and a number; a number and a byte.
-pub(crate) fn put_coded(buf: &mut [u8], at: usize, word: &[u8], n: u64) -> usize
-    requires { at + length (word.now ++ decimal n) ≤ length buf.old }
-    ensures { Wrote buf.old at (word.now ++ decimal n) buf.new result }
+pub(crate) fn put_coded(out: &mut Out, word: &[u8], n: u64)
+    requires { length out.old.items + length (word.now ++ decimal n) ≤ page_room }
+    ensures { out.new.items ≡ out.old.items ++ (word.now ++ decimal n) }
 {
-    let a = text::put_bytes(buf, at, word);
-    text::put_number(buf, a, n)
+    put_bytes(out, word);
+    put_number(out, n);
 }
 
-pub(crate) fn put_marked(buf: &mut [u8], at: usize, n: u64, mark: u8) -> usize
-    requires { at + length (decimal n ++ (mark ∷ [])) ≤ length buf.old }
-    ensures { Wrote buf.old at (decimal n ++ (mark ∷ [])) buf.new result }
+pub(crate) fn put_marked(out: &mut Out, n: u64, mark: u8)
+    requires { length out.old.items + length (decimal n ++ (mark ∷ [])) ≤ page_room }
+    ensures { out.new.items ≡ out.old.items ++ (decimal n ++ (mark ∷ [])) }
 {
-    let a = text::put_number(buf, at, n);
-    text::put_byte(buf, a, mark)
+    put_number(out, n);
+    out.push(mark);
 }
 
-pub(crate) fn put_reason(buf: &mut [u8], at: usize, why: Why) -> usize
-    requires { at + length (reason why) ≤ length buf.old }
-    ensures { Wrote buf.old at (reason why) buf.new result }
+pub(crate) fn put_reason(out: &mut Out, why: Why)
+    requires { length out.old.items + length (reason why) ≤ page_room }
+    ensures { out.new.items ≡ out.old.items ++ reason why }
 {
     match why {
-        Why::Nothing => text::put_bytes(buf, at, &keys::NONE),
-        Why::Tracks(n) => put_coded(buf, at, &keys::FOR_TRACKS, n as u64),
-        Why::Son(k) => put_coded(buf, at, &keys::FOR_SON, k as u64),
-        Why::Lock(r) => put_coded(buf, at, &keys::FOR_LOCK, r as u64),
-        Why::Number => text::put_bytes(buf, at, &keys::FOR_NUMBER),
+        Why::Nothing => put_bytes(out, &keys::NONE),
+        Why::Tracks(n) => put_coded(out, &keys::FOR_TRACKS, n as u64),
+        Why::Son(k) => put_coded(out, &keys::FOR_SON, k as u64),
+        Why::Lock(r) => put_coded(out, &keys::FOR_LOCK, r as u64),
+        Why::Number => put_bytes(out, &keys::FOR_NUMBER),
     }
 }
 
-// A number, or a dash where it is absent.
-pub(crate) fn put_or_dash(buf: &mut [u8], at: usize, there: bool, n: u64) -> usize
-    requires { at + length (or_dash there n) ≤ length buf.old }
-    ensures { Wrote buf.old at (or_dash there n) buf.new result }
+// A number, or a dash where there is none.
+pub(crate) fn put_or_dash(out: &mut Out, n: Option<u64>)
+    requires { length out.old.items + length (or_none n) ≤ page_room }
+    ensures { out.new.items ≡ out.old.items ++ or_none n }
 {
-    if there {
-        return text::put_number(buf, at, n);
+    match n {
+        Some(n) => put_number(out, n),
+        None => put_bytes(out, &keys::NONE),
     }
-    text::put_bytes(buf, at, &keys::NONE)
 }
 
 // A holder or an owner.
-pub(crate) fn put_party(buf: &mut [u8], at: usize, h: u8) -> usize
-    requires { at + length (party h) ≤ length buf.old }
-    ensures { Wrote buf.old at (party h) buf.new result }
+pub(crate) fn put_party(out: &mut Out, h: u8)
+    requires { length out.old.items + length (party h) ≤ page_room }
+    ensures { out.new.items ≡ out.old.items ++ party h }
 {
     if h == Numbers::GLOBAL {
-        return text::put_bytes(buf, at, &keys::GLOBAL);
+        put_bytes(out, &keys::GLOBAL);
+    } else {
+        put_number(out, h as u64);
     }
-    text::put_number(buf, at, h as u64)
 }
 
-// The numbers from the second to the one before `len`, a comma before each.
-fn put_others(buf: &mut [u8], at: usize, ids: [u8; MOST_PROGRAMS], len: usize) -> usize
-    requires len_le_most_programs { len ≤ most_programs }
-    requires ids_in_bounds { at + length (others (slice 1 len ids)) ≤ length buf.old }
-    ensures { Wrote buf.old at (others (slice 1 len ids)) buf.new result }
+// Numbers, joined by commas.
+pub(crate) fn put_joined(out: &mut Out, ids: &[u8])
+    requires { length out.old.items + length (between 44 (map decimal ids.now)) ≤ page_room }
+    ensures { out.new.items ≡ out.old.items ++ between 44 (map decimal ids.now) }
 {
-    let mut o = at;
-    for i in 1..len {
-        o = put_coded(buf, o, &keys::COMMA, ids[i] as u64);
+    if let Some((first, others)) = ids.split_first() {
+        put_number(out, *first as u64);
+        for id in others {
+            put_coded(out, &keys::COMMA, *id as u64);
+        }
     }
-    o
-}
-
-// The first `len` numbers, joined by commas.
-pub(crate) fn put_joined(buf: &mut [u8], at: usize, ids: [u8; MOST_PROGRAMS], len: usize) -> usize
-    requires len_le_most_programs { len ≤ most_programs }
-    requires ids_in_bounds { at + length (between 44 (map decimal (take len ids))) ≤ length buf.old }
-    ensures { Wrote buf.old at (between 44 (map decimal (take len ids))) buf.new result }
-{
-    if len == 0 {
-        return at;
-    }
-    let a = text::put_number(buf, at, ids[0] as u64);
-    put_others(buf, a, ids, len)
 }

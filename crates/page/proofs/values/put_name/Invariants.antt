@@ -1,13 +1,10 @@
--- `values::put_name` meets its contract. The invariant: what is left to be written is the name from its byte
--- i on, without blanks. Assumes nothing.
-use Prim.Native.Nat.{◌-◌, ◌≤◌}
+-- `values::put_name` meets its contract. The loop's invariant: what is put and what the rest of the name gives are all.
+-- Assumes nothing.
+use mathlib.Core.Path.{◌≡◌}
+use mathlib.Core.List.{◌++◌}
 use lib.ListN.{drop}
 use Rattle.records.specs.Names.{bare}
-use Rattle.text.proofs.Laws.{Left}
 use Rattle.page.proofs.values.put_name.Given as goal
 
-abbrev pub invariant-loop-i : goal.invariant-loop-i
-invariant-loop-i l = (l.i ≤ 5) × Left l.initial.buf l.at (bare l.name) l.buf l.o (bare (drop l.i l.name))
-
-abbrev pub decreases-loop-i : goal.decreases-loop-i
-decreases-loop-i l = 5 - l.i
+abbrev pub invariant-loop-c : goal.invariant-loop-c
+invariant-loop-c l = l.out.items ++ bare (drop l.c-index l.fn.name) ≡ l.initial.out.items ++ bare l.fn.name
