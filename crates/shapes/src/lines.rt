@@ -6,7 +6,7 @@ ghost use Rattle.shapes.specs.Inner.{unbroken, ValueAt, FigureAt, NameAt, Reason
 use super::values;
 use super::values::{Resource, Run};
 use page::keys;
-use records::{Name, Why};
+use records::Why;
 
 // Where the value of the line at a place begins and ends; none, where the line has another key or is not ended.
 pub fn value_at(s: &[u8], at: usize, key: &[u8]) -> Option<(usize, usize)>
@@ -47,10 +47,8 @@ pub fn name_at(s: &[u8], at: usize, key: &[u8]) -> Option<([u8; 5], usize)>
     ensures { NameAt s.now at key.now result }
 {
     let (from, to) = value_at(s, at, key)?;
-    let Name::Is(a, b, c, d, e) = records::read_name(s, from, to) else {
-        return None;
-    };
-    Some(([a, b, c, d, e], to + 1))
+    let name = records::read_name(&s[from..to])?;
+    Some((name, to + 1))
 }
 
 pub fn reason_at(s: &[u8], at: usize, key: &[u8]) -> Option<(Why, usize)>
