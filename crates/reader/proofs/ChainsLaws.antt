@@ -1,26 +1,39 @@
 -- The chains of a page, one after another: what is read so far.
 -- Assumes nothing.
-use Prim.Native.Nat.{ℕ, zero, suc, ◌+◌, ◌≤◌, ◌<◌}
+use Prim.Native.Nat.{ℕ, zero, suc, ◌+◌, ◌-◌, ◌≤◌, ◌<◌}
 use native.Mathlib.Omega.{arith}
 use mathlib.Core.Path.{◌≡◌, refl, sym, ap, ◌∙◌, subst}
-use mathlib.Core.Bool.{true}
 use mathlib.Core.List.{List, [], ◌∷◌, ◌++◌, map, append_assoc}
 use mathlib.Core.Option.{Option, none, some, none-ne-some, some-injective}
-use lib.ListN.{get_or, drop, replicate}
+use lib.ListN.{get_or, take, drop, replicate}
 use lib.Seq.{slice}
 use Rattle.chains.specs.Links.{slots, lay_chain}
 use Rattle.rules.specs.Keeper.{lists, State}
 use Rattle.page.specs.Page.{chained, key_of_chain}
-use Rattle.shapes.specs.declared.values.Chain.{Chain}
-use Rattle.reader.specs.declared.parts.Chains.{Chains}
+use Rattle.std.specs.Prelude.{Some}
+use Rattle.reader.specs.declared.parts.BadLine.{BadLine}
 use Rattle.shapes.specs.Shapes.{there, otherwise, into, listed}
 use Rattle.reader.specs.Order.{Form, chaining, chains_ahead, chain_forms, first_bad}
 use Rattle.reader.specs.Said.{with_chain, rest_said, chains_said}
 use Rattle.shapes.specs.Inner.{byte, ChainRead, NoLine, ValueIs}
-use Rattle.reader.specs.Walks.{ahead, Onward, with_chains, lay_these, ChainsRead}
+use Rattle.reader.specs.Walks.{ahead, Onward, with_chains, lay_these, Stops, ChainsAre}
+use Rattle.text.proofs.Fields.{drop-take}
 use Rattle.reader.proofs.ScanLaws.{value-behind}
 use Rattle.shapes.proofs.LineLaws.{line-shaped}
 use Rattle.reader.proofs.LineLaws.{scan-on, scan-off}
+
+-- a part of a text, as code cuts it out
+cut_out : (s : List ℕ) (from to : ℕ) → from ≤ to → take (to - from) (drop from s) ≡ slice from to s
+cut_out s from to h =
+    let e : from + (to - from) ≡ to = omega arith in
+    sym (drop-take from (to - from) s) ∙ ap (λ (k : ℕ). slice from k s) e
+
+pub chain-none : (s : List ℕ) {from to : ℕ} → from ≤ to → listed (take (to - from) (drop from s)) ≡ none → listed (slice from to s) ≡ none
+chain-none s {from} {to} h e = rw (← cut_out s from to h) e
+
+pub chain-some : (s ls l : List ℕ) (k : ℕ) {from to : ℕ} → from ≤ to → ChainRead (take (to - from) (drop from s)) ls k (Some l)
+    → ChainRead (slice from to s) ls k (Some l)
+chain-some s ls l k {from} {to} h e = subst (λ (v : List ℕ). ChainRead v ls k (Some l)) (cut_out s from to h) e
 
 -- the kind of line of a state's chain
 abbrev chain_form : ℕ → Form
@@ -55,27 +68,25 @@ none_yet s at line h =
 
 module _ {s : List ℕ} {at line : ℕ} {links : List ℕ} {o n i : ℕ} (p : SoFar s at line links o n i) where
   -- all of them
-  pub all_read : i ≡ 4 → ChainsRead s at line (record { bad = 0; at = o; line = n; links = links })
+  pub all_read : i ≡ 4 → ChainsAre s at line (record { at = o; line = n; links = links })
   unfolding chains_said
   all_read e =
       let q : SoFar s at line links o n 4 = subst (SoFar s at line links o n) e p in
       record {
-        read = λ z. record {
-          onward = q.onward;
-          told = q.told ++ [];
-          held = q.held [];
-          scan = q.scan;
-          says = λ a. q.says a ∙ ap (λ (x : State lists). rest_said x (ahead s o)) (q.puts a []);
-        };
-        stops = λ h. absurd (omega arith);
+        onward = q.onward;
+        told = q.told ++ [];
+        held = q.held [];
+        scan = q.scan;
+        says = λ a. q.says a ∙ ap (λ (x : State lists). rest_said x (ahead s o)) (q.puts a []);
       }
 
   -- one that is not there
-  pub bad-chain : (k : ℕ) → Next i k → NoLine listed s o (key_of_chain k) → (x : Chains) → x.bad ≡ n → ChainsRead s at line x
-  bad-chain k t l x e =
+  pub bad-chain : (k : ℕ) → Next i k → NoLine listed s o (key_of_chain k) → (b : BadLine) → b.0 ≡ n
+      → Stops (chains_ahead chain_forms) line (ahead s at) b
+  bad-chain k t l b e =
       record {
-        read = λ z. absurd (omega (arith, e, p.onward.some));
-        stops = λ h. p.scan ∙ ap (λ (fs : List Form). first_bad (chains_ahead fs) n (ahead s o)) t.forms
+        some = omega (arith, e, p.onward.some);
+        scan = p.scan ∙ ap (λ (fs : List Form). first_bad (chains_ahead fs) n (ahead s o)) t.forms
             ∙ scan-off listed s o (chaining (chain_form k ∷ drop (i + 1) chain_forms)) _ refl (λ m y. refl) (λ v. refl) l n ∙ sym e;
       }
 
@@ -109,16 +120,15 @@ module _ {s : List ℕ} {at line : ℕ} {links : List ℕ} {o n i : ℕ} (p : So
               ∙ ap (λ (x : List (List ℕ)). with_chains chained x a) (sym (append_assoc p.told (c ∷ []) cs));
         }
 
-  pub one-read : (k : ℕ) → Next i k → (from to : ℕ) → ValueIs s o (key_of_chain k) from to → (r : Chain)
-      → ChainRead (slice from to s) links k r
-      → r.ok ≡ true → SoFar s at line r.links (to + 1) (n + 1) (i + 1)
-  one-read k t from to v r q h = go (listed (slice from to s)) refl (q.yes h)
+  pub one-read : (k : ℕ) → Next i k → (from to : ℕ) → ValueIs s o (key_of_chain k) from to → (l : List ℕ)
+      → ChainRead (slice from to s) links k (Some l) → SoFar s at line l (to + 1) (n + 1) (i + 1)
+  one-read k t from to v l q = go (listed (slice from to s)) refl q
     where
       go : (x : Option (List ℕ)) → listed (slice from to s) ≡ x
-          → into (λ c. lay_chain links k (map byte c)) (listed (slice from to s)) ≡ some r.links
-          → SoFar s at line r.links (to + 1) (n + 1) (i + 1)
+          → into (λ c. lay_chain links k (map byte c)) (listed (slice from to s)) ≡ some l
+          → SoFar s at line l (to + 1) (n + 1) (i + 1)
       go none e f =
-          absurd (none-ne-some r.links (sym (ap (into (λ c. lay_chain links k (map byte c))) e) ∙ f))
+          absurd (none-ne-some l (sym (ap (into (λ c. lay_chain links k (map byte c))) e) ∙ f))
       go (some c) e f =
           subst (λ (x : List ℕ). SoFar s at line x (to + 1) (n + 1) (i + 1))
           (some-injective _ _ (sym (ap (into (λ d. lay_chain links k (map byte d))) e) ∙ f)) (one_more k t from to v c e)

@@ -14,7 +14,8 @@ use Rattle.shapes.specs.Shapes.{there, numbered}
 use Rattle.reader.specs.Order.{numbering, ended, number_form, end_form, choice, value_behind, after_one, behind_line, first_bad}
 use Rattle.reader.specs.Said.{with_line, rest_said}
 use Rattle.shapes.specs.Inner.{narrow_numbered, number_in, LineIs, NoLine, unended, keyless, shapeless, word_is}
-use Rattle.reader.specs.Walks.{ahead, EndRead}
+use Rattle.reader.specs.Walks.{ahead, Stops, EndIs}
+use Rattle.reader.specs.declared.parts.BadLine.{BadLine}
 use Rattle.reader.proofs.ScanLaws.{pass}
 use Rattle.shapes.proofs.Marks.{some-part}
 use Rattle.reader.proofs.LineLaws.{scan-line, scan-stop, pass-key, pass_shape, there-into, word-there}
@@ -62,8 +63,8 @@ module _ (s : List ℕ) (at line : ℕ) where
       stops (text end_key ++ (61 ∷ v)) next e x (pass_shape (choice end_form ended) [] v (word-there (text last_word) v ∙ ap there f))
 
   pub no_end : 1 ≤ line → NoLine number_in s at (text number_key) → NoLine (word_is (text last_word)) s at (text end_key)
-      → EndRead s at line line
-  no_end h x y = record { scan = scan-no-end x y; says = λ e. absurd (omega arith) }
+      → (b : BadLine) → b.0 ≡ line → Stops numbering line (ahead s at) b
+  no_end h x y b e = record { some = omega (arith, e); scan = scan-no-end x y ∙ sym e }
 
 -- behind the last line no byte may stand
 over : (n : ℕ) (t : List ℕ) → 1 ≤ length t → first_bad ended n (parts 10 t) ≡ n
@@ -89,20 +90,20 @@ module _ (s : List ℕ) (at line next : ℕ) (l : LineIs (word_is (text last_wor
       ∙ pass end_form (λ v. ended) [] l.value (word-there (text last_word) l.value ∙ ap there l.shaped))
 
   -- nothing behind it
-  pub all-over : length s ≤ next → EndRead s at line 0
+  pub all-over : length s ≤ next → EndIs s at line
   unfolding first_bad parts rest_said with_line value_behind behind
   all-over h =
       let e : drop next s ≡ [] = drop_of_length-le s h in
       record {
         scan = scan-end ∙ ap (λ (x : List ℕ). first_bad ended (suc line) (parts 10 x)) e;
-        says = λ z a. ap (rest_said a) (l.cut ∙ ap (λ (x : List ℕ). (text end_key ++ (61 ∷ l.value)) ∷ parts 10 x) e);
+        says = λ a. ap (rest_said a) (l.cut ∙ ap (λ (x : List ℕ). (text end_key ++ (61 ∷ l.value)) ∷ parts 10 x) e);
       }
 
   -- something behind it
-  pub more-behind : next < length s → EndRead s at line (line + 1)
-  more-behind h =
+  pub more-behind : next < length s → (b : BadLine) → b.0 ≡ line + 1 → Stops numbering line (ahead s at) b
+  more-behind h b q =
       record {
+        some = omega (arith, q);
         scan = scan-end ∙ over (suc line) (drop next s) (omega (arith, length-drop next s))
-            ∙ (let e : suc line ≡ line + 1 = omega arith in e);
-        says = λ e. absurd (omega arith);
+            ∙ (let e : suc line ≡ b.0 = omega (arith, q) in e);
       }

@@ -2,7 +2,7 @@
 -- Assumes nothing.
 use Prim.Native.Nat.{ℕ, suc, ◌+◌, ◌≤◌}
 use native.Mathlib.Omega.{arith}
-use mathlib.Core.Path.{◌≡◌, refl, sym, ap, ap₂, ◌∙◌}
+use mathlib.Core.Path.{◌≡◌, refl, ap, ap₂, ◌∙◌}
 use mathlib.Core.Bool.{Bool, true}
 use mathlib.Core.List.{List, [], ◌∷◌, ◌++◌}
 use mathlib.Core.Option.{Option, none, some}
@@ -13,12 +13,11 @@ use Rattle.text.specs.Text.{text, behind}
 use Rattle.rules.specs.Keeper.{lists, State}
 use Rattle.page.specs.Page.{first_word, page_key, clock_key, year_key, tracks_key, system_key, numbers_key, programs_key}
 use Rattle.reader.specs.declared.parts.Year.{Year}
-use Rattle.reader.specs.declared.parts.Head.{Head}
 use Rattle.shapes.specs.Shapes.{otherwise, figure}
 use Rattle.reader.specs.Order.{Place, opening, heading, first_forms, year_form, size_forms, records_ahead, value_behind, first_bad}
 use Rattle.reader.specs.Said.{value_of, figure_of, begins_with, year_said, started, records_said, said}
 use Rattle.shapes.specs.Inner.{LineIs, NoLine, unended, keyless, shapeless, word_is}
-use Rattle.reader.specs.Walks.{ahead, YearRead, HeadRead}
+use Rattle.reader.specs.Walks.{ahead, YearRead, HeadIs}
 use Rattle.reader.proofs.ScanLaws.{value-behind}
 use Rattle.reader.proofs.LineLaws.{scan-on, scan-off, word-there}
 use Rattle.reader.proofs.PerhapsLaws.{there-begins, there-scan, none-begins, none-scan}
@@ -92,10 +91,6 @@ pub four : (clock : Option ℕ) (Y : ℕ) (v₃ v₄ v₅ v₆ : List ℕ) (rs :
 unfolding value_of value_behind behind
 four clock Y v₃ v₄ v₅ v₆ rs = refl
 
--- a line of it is not well formed
-pub head-stops : (s : List ℕ) (at k : ℕ) → 1 ≤ k → first_bad (behind_first 0) 1 (ahead s at) ≡ k → (r : Head) → r.bad ≡ k → HeadRead s at r
-head-stops s at k h e r f = record { read = λ z. absurd (omega (arith, f)); stops = λ g. e ∙ sym f }
-
 module _ (s : List ℕ) (at : ℕ) where
   pub stop-1 : NoLine (word_is (text first_word)) s at (text page_key) → first_bad (behind_first 0) 1 (ahead s at) ≡ 1
   stop-1 l = scan-off (word_is (text first_word)) s at (behind_first 0) _ refl (λ n m. refl) (word-there (text first_word)) l 1
@@ -161,8 +156,7 @@ module _ (s : List ℕ) (at : ℕ) where
                   ∙ four (some clock) y.year l3.value l4.value l5.value l6.value (ahead s f)
                   ∙ (λ i. started_by (ahead s f) (some clock) (l3.shaped i) (l4.shaped i) (l5.shaped i) y.year (l6.shaped i))
 
-              pub head_read : HeadRead s at (record {
-                bad = 0;
+              pub head_read : HeadIs s at (record {
                 at = f;
                 line = 7 + y.lines;
                 clock = clock;
@@ -174,13 +168,10 @@ module _ (s : List ℕ) (at : ℕ) where
               })
               head_read =
                   record {
-                    read = λ e. record {
-                      beyond = omega (arith, l1.beyond, l2.beyond, ly.beyond, l3.beyond, l4.beyond, l5.beyond, l6.beyond);
-                      within = l6.within;
-                      few = omega (arith, ly.few);
-                      some = omega arith;
-                      scan = scan-6;
-                      says = head-says;
-                    };
-                    stops = λ h. absurd (omega arith);
+                    beyond = omega (arith, l1.beyond, l2.beyond, ly.beyond, l3.beyond, l4.beyond, l5.beyond, l6.beyond);
+                    within = l6.within;
+                    few = omega (arith, ly.few);
+                    some = omega arith;
+                    scan = scan-6;
+                    says = head-says;
                   }

@@ -26,3 +26,4 @@ pub mod HeldLaws
 pub mod NumberLaws
 pub mod JudgeLaws
 pub mod WholePage
+pub mod BadLines

@@ -1,6 +1,6 @@
 -- A record of a page, line by line: the scan over its lines and what they say.
 -- Assumes nothing.
-use Prim.Native.Nat.{ℕ, suc, ◌+◌, ◌≤◌, ◌<◌}
+use Prim.Native.Nat.{ℕ, suc, ◌+◌, ◌≤◌}
 use native.Mathlib.Omega.{arith}
 use mathlib.Core.Path.{◌≡◌, refl, sym, ap, ap₂, ◌∙◌}
 use mathlib.Core.Bool.{Bool, true}
@@ -20,9 +20,9 @@ use Rattle.shapes.specs.Shapes.{there, otherwise, into, figure, figure_or_dash, 
 use Rattle.reader.specs.Order.{Place, record_ahead, record_forms, records_ahead, value_behind, first_bad}
 use Rattle.reader.specs.Said.{value_of, marked_by, with_record, records_said}
 use Rattle.shapes.specs.Inner.{LineIs, NoLine, byte, two_bytes, narrow_why, reason_in}
-use Rattle.reader.specs.Walks.{ahead, RecordRead}
+use Rattle.reader.specs.Walks.{ahead, RecordIs}
 use Rattle.reader.proofs.LineLaws.{scan-on, scan-off}
-use Rattle.reader.proofs.MarkLaws.{MarkAt, hit-most}
+use Rattle.reader.proofs.MarkLaws.{MarkAt}
 
 -- a reason in the tables' bytes is there where a reason is; and which it is
 reason-there : (v : List ℕ) → there (reason_of v) ≡ there (reason_in v)
@@ -62,69 +62,43 @@ seven : (v₁ v₂ v₃ v₄ v₅ v₆ v₇ : List ℕ) (rs : List (List ℕ)) (
 unfolding records_said value_of value_behind behind
 seven v₁ v₂ v₃ v₄ v₅ v₆ v₇ rs n a = refl
 
--- so many lines are well formed, and the next is not
-stopped-at : (s : List ℕ) (at k : ℕ) → k < 7 → ((n line : ℕ) → first_bad (behind_lines 0 n) line (ahead s at) ≡ line + k) → (r : Record)
-    → r.good ≡ k
-    → RecordRead s at r
-stopped-at s at k h f r e =
-    record {
-      whole = λ g. absurd (omega (arith, e));
-      most = omega (arith, e);
-      stops = λ g n line. f n line ∙ ap (λ (x : ℕ). line + x) (sym e);
-    }
-
 module _ (s : List ℕ) (at : ℕ) where
-  bad-1 : NoLine figure s at (text id_key) → (n line : ℕ) → first_bad (behind_lines 0 n) line (ahead s at) ≡ line + 0
+  pub bad-1 : NoLine figure s at (text id_key) → (n line : ℕ) → first_bad (behind_lines 0 n) line (ahead s at) ≡ line + 0
   bad-1 l n line = scan-off figure s at (behind_lines 0 n) _ refl (λ m x. refl) (λ v. refl) l line
       ∙ (let e : line ≡ line + 0 = omega arith in e)
-
-  pub stop-1 : NoLine figure s at (text id_key) → (r : Record) → r.good ≡ 0 → RecordRead s at r
-  stop-1 l = stopped-at s at 0 (omega arith) (bad-1 l)
 
   module _ {id a : ℕ} (l1 : LineIs figure s at (text id_key) id a) where
     scan-1 : (n line : ℕ) → first_bad (behind_lines 0 n) line (ahead s at) ≡ first_bad (behind_lines 1 n) (suc line) (ahead s a)
     scan-1 n line = scan-on figure s at (behind_lines 0 n) _ [] refl l1 refl line
 
-    bad-2 : NoLine name_of s a (text name_key) → (n line : ℕ) → first_bad (behind_lines 0 n) line (ahead s at) ≡ line + 1
+    pub bad-2 : NoLine name_of s a (text name_key) → (n line : ℕ) → first_bad (behind_lines 0 n) line (ahead s at) ≡ line + 1
     bad-2 l n line = scan-1 n line ∙ scan-off name_of s a (behind_lines 1 n) _ refl (λ m x. refl) (λ v. refl) l (suc line)
         ∙ (let e : suc line ≡ line + 1 = omega arith in e)
-
-    pub stop-2 : NoLine name_of s a (text name_key) → (r : Record) → r.good ≡ 1 → RecordRead s at r
-    stop-2 l = stopped-at s at 1 (omega arith) (bad-2 l)
 
     module _ {nm : List ℕ} {b : ℕ} (l2 : LineIs name_of s a (text name_key) nm b) where
       scan-2 : (n line : ℕ) → first_bad (behind_lines 0 n) line (ahead s at) ≡ first_bad (behind_lines 2 n) (suc (suc line)) (ahead s b)
       scan-2 n line = scan-1 n line ∙ scan-on name_of s a (behind_lines 1 n) _ [] refl l2 refl (suc line)
 
-      bad-3 : NoLine figure s b (text priority_key) → (n line : ℕ) → first_bad (behind_lines 0 n) line (ahead s at) ≡ line + 2
+      pub bad-3 : NoLine figure s b (text priority_key) → (n line : ℕ) → first_bad (behind_lines 0 n) line (ahead s at) ≡ line + 2
       bad-3 l n line = scan-2 n line ∙ scan-off figure s b (behind_lines 2 n) _ refl (λ m x. refl) (λ v. refl) l (suc (suc line))
           ∙ (let e : suc (suc line) ≡ line + 2 = omega arith in e)
-
-      pub stop-3 : NoLine figure s b (text priority_key) → (r : Record) → r.good ≡ 2 → RecordRead s at r
-      stop-3 l = stopped-at s at 2 (omega arith) (bad-3 l)
 
       module _ {priority c : ℕ} (l3 : LineIs figure s b (text priority_key) priority c) where
         scan-3 : (n line : ℕ) → first_bad (behind_lines 0 n) line (ahead s at) ≡ first_bad (behind_lines 3 n) (suc (suc (suc line))) (ahead s c)
         scan-3 n line = scan-2 n line ∙ scan-on figure s b (behind_lines 2 n) _ [] refl l3 refl (suc (suc line))
 
-        bad-4 : NoLine figure s c (text state_key) → (n line : ℕ) → first_bad (behind_lines 0 n) line (ahead s at) ≡ line + 3
+        pub bad-4 : NoLine figure s c (text state_key) → (n line : ℕ) → first_bad (behind_lines 0 n) line (ahead s at) ≡ line + 3
         bad-4 l n line = scan-3 n line ∙ scan-off figure s c (behind_lines 3 n) _ refl (λ m x. refl) (λ v. refl) l (suc (suc (suc line)))
             ∙ (let e : suc (suc (suc line)) ≡ line + 3 = omega arith in e)
-
-        pub stop-4 : NoLine figure s c (text state_key) → (r : Record) → r.good ≡ 3 → RecordRead s at r
-        stop-4 l = stopped-at s at 3 (omega arith) (bad-4 l)
 
         module _ {state d : ℕ} (l4 : LineIs figure s c (text state_key) state d) where
           scan-4 : (n line : ℕ) → first_bad (behind_lines 0 n) line (ahead s at)
               ≡ first_bad (behind_lines 4 n) (suc (suc (suc (suc line)))) (ahead s d)
           scan-4 n line = scan-3 n line ∙ scan-on figure s c (behind_lines 3 n) _ [] refl l4 refl (suc (suc (suc line)))
 
-          bad-5 : NoLine reason_in s d (text why_key) → (n line : ℕ) → first_bad (behind_lines 0 n) line (ahead s at) ≡ line + 4
+          pub bad-5 : NoLine reason_in s d (text why_key) → (n line : ℕ) → first_bad (behind_lines 0 n) line (ahead s at) ≡ line + 4
           bad-5 l n line = scan-4 n line ∙ scan-off reason_in s d (behind_lines 4 n) _ refl (λ m x. refl) reason-there l
               (suc (suc (suc (suc line)))) ∙ (let e : suc (suc (suc (suc line))) ≡ line + 4 = omega arith in e)
-
-          pub stop-5 : NoLine reason_in s d (text why_key) → (r : Record) → r.good ≡ 4 → RecordRead s at r
-          stop-5 l = stopped-at s at 4 (omega arith) (bad-5 l)
 
           module _ {why : Why} {e : ℕ} (l5 : LineIs reason_in s d (text why_key) why e) where
             scan-5 : (n line : ℕ) → first_bad (behind_lines 0 n) line (ahead s at)
@@ -132,12 +106,9 @@ module _ (s : List ℕ) (at : ℕ) where
             scan-5 n line = scan-4 n line ∙ scan-on reason_in s d (behind_lines 4 n) _ [] refl l5 (reason-there l5.value)
                 (suc (suc (suc (suc line))))
 
-            bad-6 : NoLine figure_or_dash s e (text due_key) → (n line : ℕ) → first_bad (behind_lines 0 n) line (ahead s at) ≡ line + 5
+            pub bad-6 : NoLine figure_or_dash s e (text due_key) → (n line : ℕ) → first_bad (behind_lines 0 n) line (ahead s at) ≡ line + 5
             bad-6 l n line = scan-5 n line ∙ scan-off figure_or_dash s e (behind_lines 5 n) _ refl (λ m x. refl) (λ v. refl) l
                 (suc (suc (suc (suc (suc line))))) ∙ (let e : suc (suc (suc (suc (suc line)))) ≡ line + 5 = omega arith in e)
-
-            pub stop-6 : NoLine figure_or_dash s e (text due_key) → (r : Record) → r.good ≡ 5 → RecordRead s at r
-            stop-6 l = stopped-at s at 5 (omega arith) (bad-6 l)
 
             module _ {due f : ℕ} (l6 : LineIs figure_or_dash s e (text due_key) due f) where
               scan-6 : (n line : ℕ) → first_bad (behind_lines 0 n) line (ahead s at)
@@ -145,12 +116,9 @@ module _ (s : List ℕ) (at : ℕ) where
               scan-6 n line = scan-5 n line ∙ scan-on figure_or_dash s e (behind_lines 5 n) _ [] refl l6 refl
                   (suc (suc (suc (suc (suc line)))))
 
-              bad-7 : NoLine figure_or_dash s f (text interval_key) → (n line : ℕ) → first_bad (behind_lines 0 n) line (ahead s at) ≡ line + 6
+              pub bad-7 : NoLine figure_or_dash s f (text interval_key) → (n line : ℕ) → first_bad (behind_lines 0 n) line (ahead s at) ≡ line + 6
               bad-7 l n line = scan-6 n line ∙ scan-off figure_or_dash s f (behind_lines 6 n) _ refl (λ m x. refl) (λ v. refl) l
                   (suc (suc (suc (suc (suc (suc line)))))) ∙ (let e : suc (suc (suc (suc (suc (suc line))))) ≡ line + 6 = omega arith in e)
-
-              pub stop-7 : NoLine figure_or_dash s f (text interval_key) → (r : Record) → r.good ≡ 6 → RecordRead s at r
-              stop-7 l = stopped-at s at 6 (omega arith) (bad-7 l)
 
               module _ {interval g : ℕ} (l7 : LineIs figure_or_dash s f (text interval_key) interval g) where
                 scan-7 : (n line : ℕ) → first_bad (behind_lines 0 n) line (ahead s at)
@@ -187,7 +155,7 @@ module _ (s : List ℕ) (at : ℕ) where
                       ∙ ap (records_said n (with_record id told a)) f
 
                   -- the record that the code makes of them
-                  pub record-read : (r : Record) → r.good ≡ 7 + hit mark → r.at ≡ h → r.id ≡ id
+                  pub record-read : (r : Record) → r.lines ≡ 7 + hit mark → r.at ≡ h → r.id ≡ id
                       → r.program ≡ record {
                         used = true;
                         name = nm;
@@ -198,45 +166,41 @@ module _ (s : List ℕ) (at : ℕ) where
                         interval = interval;
                         suspend = mark;
                       }
-                      → RecordRead s at r
+                      → RecordIs s at r
                   unfolding told
                   record-read r e₁ e₂ e₃ e₄ =
                       record {
-                        whole = λ k. record {
-                          told = told;
-                          held = e₄ ∙ ap (λ (w : Why). record {
-                            used = true;
-                            name = nm;
-                            priority = two_bytes priority;
-                            state = byte state;
-                            why = w;
-                            due = due;
-                            interval = interval;
-                            suspend = mark;
-                          })
-                              (reason-is (reason_of l5.value) why l5.shaped);
-                          beyond = omega (
-                            arith,
-                            l1.beyond,
-                            l2.beyond,
-                            l3.beyond,
-                            l4.beyond,
-                            l5.beyond,
-                            l6.beyond,
-                            l7.beyond,
-                            m.beyond,
-                            e₁,
-                            e₂,
-                          );
-                          within = omega (arith, m.within, e₂);
-                          scan = λ n line. scan-7 n line ∙ m.scan n (suc (suc (suc (suc (suc (suc (suc line)))))))
-                              ∙ ap₂ (λ (x y : ℕ). first_bad (records_ahead n) x (ahead s y))
-                              (let e : suc (suc (suc (suc (suc (suc (suc line)))))) + hit mark ≡ line + r.good = omega (arith, e₁) in e)
-                              (sym e₂);
-                          says = λ n line k z a.
-                              record-says n line k (ap (λ (y : ℕ). first_bad (records_ahead n) line (ahead s y)) (sym e₂) ∙ z) a
-                              ∙ ap₂ (λ (x y : ℕ). records_said n (with_record x told a) (ahead s y)) (sym e₃) (sym e₂);
-                        };
-                        most = omega (arith, e₁, hit-most mark);
-                        stops = λ k. absurd (omega (arith, e₁));
+                        told = told;
+                        held = e₄ ∙ ap (λ (w : Why). record {
+                          used = true;
+                          name = nm;
+                          priority = two_bytes priority;
+                          state = byte state;
+                          why = w;
+                          due = due;
+                          interval = interval;
+                          suspend = mark;
+                        })
+                            (reason-is (reason_of l5.value) why l5.shaped);
+                        beyond = omega (
+                          arith,
+                          l1.beyond,
+                          l2.beyond,
+                          l3.beyond,
+                          l4.beyond,
+                          l5.beyond,
+                          l6.beyond,
+                          l7.beyond,
+                          m.beyond,
+                          e₁,
+                          e₂,
+                        );
+                        within = omega (arith, m.within, e₂);
+                        scan = λ n line. scan-7 n line ∙ m.scan n (suc (suc (suc (suc (suc (suc (suc line)))))))
+                            ∙ ap₂ (λ (x y : ℕ). first_bad (records_ahead n) x (ahead s y))
+                            (let e : suc (suc (suc (suc (suc (suc (suc line)))))) + hit mark ≡ line + r.lines = omega (arith, e₁) in e)
+                            (sym e₂);
+                        says = λ n line k z a.
+                            record-says n line k (ap (λ (y : ℕ). first_bad (records_ahead n) line (ahead s y)) (sym e₂) ∙ z) a
+                            ∙ ap₂ (λ (x y : ℕ). records_said n (with_record x told a) (ahead s y)) (sym e₃) (sym e₂);
                       }

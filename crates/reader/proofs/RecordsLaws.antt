@@ -14,13 +14,13 @@ use Rattle.records.specs.declared.Program.{Program}
 use Rattle.records.specs.Records.{known, unused}
 use Rattle.rules.specs.Book as rules
 use Rattle.rules.specs.Keeper.{lists, State}
+use Rattle.reader.specs.declared.parts.BadLine.{BadLine}
 use Rattle.reader.specs.declared.parts.Record.{Record}
-use Rattle.reader.specs.declared.parts.Records.{Records}
-use Rattle.reader.specs.Order.{records_ahead, first_bad}
+use Rattle.reader.specs.Order.{recording, record_forms, records_ahead, first_bad}
 use Rattle.reader.specs.Said.{with_record, records_said}
 use Rattle.reader.specs.Inner.{narrow_record}
 use Rattle.reader.proofs.Mapping.{map-set}
-use Rattle.reader.specs.Walks.{ahead, Onward, with_programs, RecordIs, RecordRead, RecordsRead}
+use Rattle.reader.specs.Walks.{ahead, Onward, with_programs, Stops, RecordIs, RecordsAre}
 
 -- `programs` holds the records read so far, and so many are left from place o, line n on
 pub record SoFar (s : List ℕ) (at line count : ℕ) (programs : List Program) (o n left : ℕ) : Type 0 where
@@ -72,7 +72,7 @@ put-says id x ps a = go (known id)
 module _ {s : List ℕ} {at line count : ℕ} {programs : List Program} {o n : ℕ} where
   -- one more
   pub one_more : (left : ℕ) → SoFar s at line count programs o n (suc left) → (r : Record) → RecordIs s o r → (programs' : List Program)
-      → programs' ≡ put_at r.id r.program programs → SoFar s at line count programs' r.at (n + r.good) left
+      → programs' ≡ put_at r.id r.program programs → SoFar s at line count programs' r.at (n + r.lines) left
   one_more left p r q programs' e =
       record {
         onward = record {
@@ -85,25 +85,16 @@ module _ {s : List ℕ} {at line count : ℕ} {programs : List Program} {o n : �
             ∙ put-held (known r.id) (r.id - 1) q.told p.told;
         scan = p.scan ∙ q.scan left n;
         says = λ z a f. p.says (q.scan left n ∙ z) a f
-            ∙ q.says left (n + r.good) (omega (arith, p.onward.some)) z (with_programs p.told a)
+            ∙ q.says left (n + r.lines) (omega (arith, p.onward.some)) z (with_programs p.told a)
             ∙ ap (λ (x : State lists). records_said left x (ahead s r.at)) (put-says r.id q.told p.told a);
       }
 
   -- all of them
-  pub all_read : SoFar s at line count programs o n 0
-      → RecordsRead s at line count (record { bad = 0; at = o; line = n; programs = programs })
+  pub all_read : SoFar s at line count programs o n 0 → RecordsAre s at line count (record { at = o; line = n; programs = programs })
   unfolding records_said
-  all_read p =
-      record {
-        read = λ e. record { onward = p.onward; told = p.told; held = p.held; scan = p.scan; says = p.says };
-        stops = λ h. absurd (omega arith);
-      }
+  all_read p = record { onward = p.onward; told = p.told; held = p.held; scan = p.scan; says = p.says }
 
   -- a line of one is not well formed
-  pub bad-record : (left : ℕ) → SoFar s at line count programs o n (suc left) → (r : Record) → RecordRead s o r → r.good < 7
-      → (x : Records) → x.bad ≡ n + r.good → RecordsRead s at line count x
-  bad-record left p r q h x e =
-      record {
-        read = λ z. absurd (omega (arith, e, p.onward.some));
-        stops = λ g. p.scan ∙ q.stops h left n ∙ sym e;
-      }
+  pub bad-record : (left : ℕ) → SoFar s at line count programs o n (suc left) → (b : BadLine)
+      → ((k : ℕ) → Stops (recording record_forms k) n (ahead s o) b) → Stops (records_ahead count) line (ahead s at) b
+  bad-record left p b q = record { some = (q left).some; scan = p.scan ∙ (q left).scan }

@@ -19,18 +19,19 @@ use Rattle.tables.specs.declared.Tables.{Tables}
 use Rattle.tables.specs.Tables.{lay}
 use Rattle.tables.specs.Calls.{Result, made}
 use Rattle.page.specs.Page.{chained}
+use Rattle.reader.specs.declared.parts.BadLine.{BadLine}
 use Rattle.reader.specs.declared.parts.Head.{Head}
 use Rattle.reader.specs.declared.parts.Records.{Records}
 use Rattle.reader.specs.declared.parts.Chains.{Chains}
 use Rattle.reader.specs.declared.parts.Held.{Held}
 use Rattle.reader.specs.declared.parts.Numbered.{Numbered}
-use Rattle.reader.specs.Order.{page_ahead, first_bad}
+use Rattle.reader.specs.Order.{page_ahead, records_ahead, chains_ahead, chain_forms, numbering, first_bad}
 use Rattle.reader.specs.Said.{on_book, started, said}
 use Rattle.reader.specs.Reading.{not_read, judged, reading}
 use Rattle.shapes.specs.Inner.{byte}
 use Rattle.reader.specs.Inner.{narrow_record}
 use Rattle.reader.specs.Walks.{ahead, Onward, with_programs, with_chains, Holds, Keeps, narrow}
-use Rattle.reader.specs.Walks.{HeadIs, RecordsAre, RecordsRead, ChainsAre, ChainsRead, HeldRead, NumbersRead, EndRead}
+use Rattle.reader.specs.Walks.{Stops, HeadIs, RecordsAre, ChainsAre, HeldRead, NumbersRead, EndIs}
 use Rattle.reader.proofs.Narrowing.{narrow-judged}
 use Rattle.reader.proofs.Assembling.{links-these, fresh_holds, fresh_keeps, fresh-clock, assembled}
 
@@ -71,27 +72,30 @@ module _ (s : List ℕ) (at : ℕ) where
   bad = first_bad page_ahead 1 (ahead s at)
 
   -- a line is not well formed
-  pub bad-page : (k : ℕ) → 1 ≤ k → bad ≡ k → {x : Result} → x ≡ not_read k → x ≡ reading (drop at s)
+  pub bad-page : (b : BadLine) → Stops page_ahead 1 (ahead s at) b → not_read b.0 ≡ reading (drop at s)
   unfolding reading
-  bad-page zero h e f = absurd (omega arith)
-  bad-page (suc k) h e f = f ∙ sym (ap (λ (n : ℕ). judged (drop at s) n (lay (said (ahead s at)))) e)
+  bad-page b S = go b.0 S.some S.scan
+    where
+      go : (k : ℕ) → 1 ≤ k → bad ≡ k → not_read k ≡ reading (drop at s)
+      go zero h e = absurd (omega arith)
+      go (suc k) h e = sym (ap (λ (n : ℕ). judged (drop at s) n (lay (said (ahead s at)))) e)
 
   module _ (h : Head) (H : HeadIs s at h) where
     pub records-next : Onward s h.at h.line
     records-next = record { within = H.within; some = H.some; counted = omega (arith, H.beyond, H.few) }
 
-    pub bad-records : (r : Records) → RecordsRead s h.at h.line h.programs r → 1 ≤ r.bad → bad ≡ r.bad
-    bad-records r R k = H.scan ∙ R.stops k
+    pub bad-records : (b : BadLine) → Stops (records_ahead h.programs) h.line (ahead s h.at) b → Stops page_ahead 1 (ahead s at) b
+    bad-records b S = record { some = S.some; scan = H.scan ∙ S.scan }
 
     module _ (r : Records) (R : RecordsAre s h.at h.line h.programs r) where
-      pub bad-chains : (c : Chains) → ChainsRead s r.at r.line c → 1 ≤ c.bad → bad ≡ c.bad
-      bad-chains c C k = H.scan ∙ R.scan ∙ C.stops k
+      pub bad-chains : (b : BadLine) → Stops (chains_ahead chain_forms) r.line (ahead s r.at) b → Stops page_ahead 1 (ahead s at) b
+      bad-chains b S = record { some = S.some; scan = H.scan ∙ R.scan ∙ S.scan }
 
       module _ (c : Chains) (C : ChainsAre s r.at r.line c) where
         module _ (t : Tracks) (d : Held) (D : HeldRead s c.at c.line t d) where
           module _ (u : records.Numbers) (n : Numbered) (N : NumbersRead s d.at d.line u n) where
-            pub bad-end : (x : ℕ) → EndRead s n.at n.line x → bad ≡ x
-            bad-end x E = H.scan ∙ R.scan ∙ C.scan ∙ D.scan ∙ N.scan ∙ E.scan
+            pub bad-end : (b : BadLine) → Stops numbering n.line (ahead s n.at) b → Stops page_ahead 1 (ahead s at) b
+            bad-end b S = record { some = S.some; scan = H.scan ∙ R.scan ∙ C.scan ∙ D.scan ∙ N.scan ∙ S.scan }
 
             abbrev a₀ : State lists
             a₀ = started h.clock h.tracks h.system h.numbers h.year
@@ -126,11 +130,11 @@ module _ (s : List ℕ) (at : ℕ) where
               abbrev a₄ : State lists
               a₄ = on_book (with_resources (N.of a₃ kept₃).told) a₃
 
-              said-is : EndRead s n.at n.line 0 → said (ahead s at) ≡ a₄
+              said-is : EndIs s n.at n.line → said (ahead s at) ≡ a₄
               said-is E =
                   H.says ∙ R.says (C.scan ∙ D.scan ∙ N.scan ∙ E.scan) a₀
                   (started-programs h.clock h.tracks h.system h.numbers h.year) ∙ C.says a₁
-                  ∙ (D.of a₂ held₂).says ∙ (N.of a₃ kept₃).says ∙ E.says refl a₄
+                  ∙ (D.of a₂ held₂).says ∙ (N.of a₃ kept₃).says ∙ E.says a₄
 
               tables-are : (x : Tables) → x.ledger.programs ≡ r.programs → x.ledger.clock ≡ record { ticks = h.clock; year = (made h.tracks h.system h.numbers h.year).tables.ledger.clock.year }
                   → x.ledger.tracks ≡ d.tracks
@@ -146,12 +150,12 @@ module _ (s : List ℕ) (at : ℕ) where
                   (L ∙ C.held ∙ sym (links-these a₁ refl C.told))
 
               -- all lines are well formed
-              pub whole-page : EndRead s n.at n.line 0 → (x : Tables) → x.ledger.programs ≡ r.programs
+              pub whole-page : EndIs s n.at n.line → (x : Tables) → x.ledger.programs ≡ r.programs
                   → x.ledger.clock ≡ record { ticks = h.clock; year = (made h.tracks h.system h.numbers h.year).tables.ledger.clock.year }
                   → x.ledger.tracks ≡ d.tracks → x.ledger.numbers ≡ n.numbers → x.links ≡ c.links
-                  → {y : Result} → y ≡ judged (drop at s) 0 x → y ≡ reading (drop at s)
+                  → judged (drop at s) 0 x ≡ reading (drop at s)
               unfolding reading
-              whole-page E x P K T U L f =
-                  f ∙ ap (judged (drop at s) 0) (tables-are x P K T U L ∙ ap (λ (z : State lists). lay (narrow z)) (sym (said-is E)))
+              whole-page E x P K T U L =
+                  ap (judged (drop at s) 0) (tables-are x P K T U L ∙ ap (λ (z : State lists). lay (narrow z)) (sym (said-is E)))
                   ∙ narrow-judged (drop at s)
-                  ∙ sym (ap (λ (k : ℕ). judged (drop at s) k (lay (said (ahead s at)))) (bad-end 0 E))
+                  ∙ sym (ap (λ (k : ℕ). judged (drop at s) k (lay (said (ahead s at)))) (H.scan ∙ R.scan ∙ C.scan ∙ D.scan ∙ N.scan ∙ E.scan))

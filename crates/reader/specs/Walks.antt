@@ -1,6 +1,7 @@
 -- What the reader's functions on the parts of a page promise; no public call mentions it.
 -- Assumes nothing.
-use Rattle.std.specs.Prelude.{ℕ, suc, ◌+◌, ◌≤◌, ◌<◌, ◌≡◌, List, [], ◌∷◌, map, length, drop, replicate}
+use Rattle.std.specs.Prelude.{Result, Ok, Err}
+use Rattle.std.specs.Prelude.{ℕ, suc, ◌+◌, ◌≤◌, ◌≡◌, List, [], ◌∷◌, map, length, drop, replicate}
 use Rattle.limits.specs.Limits.{most_programs}
 use Rattle.lists.specs.Lists.{hit}
 use Rattle.text.specs.Text.{text, parts}
@@ -15,6 +16,7 @@ use Rattle.chains.specs.Links.{slots, lay_chain}
 use Rattle.rules.specs.Book.{Book, altered, with_holders, with_resources}
 use Rattle.rules.specs.Keeper.{lists, State}
 use Rattle.page.specs.Page.{chained, number_key}
+use Rattle.reader.specs.declared.parts.BadLine.{BadLine}
 use Rattle.reader.specs.declared.parts.Year.{Year}
 use Rattle.reader.specs.declared.parts.Head.{Head}
 use Rattle.reader.specs.declared.parts.Record.{Record}
@@ -23,14 +25,21 @@ use Rattle.reader.specs.declared.parts.Chains.{Chains}
 use Rattle.reader.specs.declared.parts.Held.{Held}
 use Rattle.reader.specs.declared.parts.Numbered.{Numbered}
 use Rattle.reader.specs.Order.{page_ahead, year_ahead, year_form, heading, size_forms, recording, records_ahead, chains_ahead, holding, numbering, record_forms, chain_forms}
-use Rattle.reader.specs.Order.{first_bad}
+use Rattle.reader.specs.Order.{Place, first_bad}
 use Rattle.reader.specs.Said.{begins_with, year_said, on_book, with_chain, with_record, started, rest_said, chains_said, records_said, said}
+use Rattle.tables.specs.declared.Tables.{Tables}
+use Rattle.reader.specs.Reading.{not_read, judged, reading}
 use Rattle.shapes.specs.Inner.{byte, narrow_resource, number_in, NoLine}
 use Rattle.reader.specs.Inner.{narrow_record}
 
 -- the lines from a place on
 abbrev pub ahead : List ℕ → ℕ → List (List ℕ)
 ahead s at = parts 10 (drop at s)
+
+-- a line of a part is not well formed, and b is the number of the first one
+pub record Stops (p : Place) (line : ℕ) (ls : List (List ℕ)) (b : BadLine) : Type 0 where
+  pub some : 1 ≤ b.0
+  pub scan : first_bad p line ls ≡ b.0
 
 -- the year's line, where it stands, and the place behind it: what it says, where a line comes there
 pub record YearRead (s : List ℕ) (at : ℕ) (r : Year) : Type 0 where
@@ -49,27 +58,26 @@ pub record HeadIs (s : List ℕ) (at : ℕ) (r : Head) : Type 0 where
   pub says : said (ahead s at)
       ≡ records_said r.programs (started r.clock r.tracks r.system r.numbers r.year) (ahead s r.at)
 
-pub record HeadRead (s : List ℕ) (at : ℕ) (r : Head) : Type 0 where
-  pub read : r.bad ≡ 0 → HeadIs s at r
-  pub stops : 1 ≤ r.bad → first_bad page_ahead 1 (ahead s at) ≡ r.bad
+abbrev pub HeadRead : List ℕ → ℕ → Result Head BadLine → Type 0
+HeadRead s at (Ok r) = HeadIs s at r
+HeadRead s at (Err b) = Stops page_ahead 1 (ahead s at) b
 
 -- a record, as the tables hold it, and the place behind it
 pub record RecordIs (s : List ℕ) (at : ℕ) (r : Record) : Type 0 where
   pub told : Program
   pub held : r.program ≡ narrow_record told
-  pub beyond : at + r.good ≤ r.at
+  pub beyond : at + r.lines ≤ r.at
   pub within : r.at ≤ length s
   pub scan : (n line : ℕ) → first_bad (recording record_forms n) line (ahead s at)
-      ≡ first_bad (records_ahead n) (line + r.good) (ahead s r.at)
+      ≡ first_bad (records_ahead n) (line + r.lines) (ahead s r.at)
   -- what it says, where the lines behind it are well formed: a mark that is not ended is none
   pub says : (n line : ℕ) → 1 ≤ line → first_bad (records_ahead n) line (ahead s r.at) ≡ 0
       → (a : State lists) → records_said (suc n) a (ahead s at) ≡ records_said n (with_record r.id told a) (ahead s r.at)
 
 -- seven lines, and the mark's where it stands
-pub record RecordRead (s : List ℕ) (at : ℕ) (r : Record) : Type 0 where
-  pub whole : 7 ≤ r.good → RecordIs s at r
-  pub most : r.good ≤ 8
-  pub stops : r.good < 7 → (n line : ℕ) → first_bad (recording record_forms n) line (ahead s at) ≡ line + r.good
+abbrev pub RecordRead : List ℕ → ℕ → ℕ → Result Record BadLine → Type 0
+RecordRead s at line (Ok r) = RecordIs s at r
+RecordRead s at line (Err b) = (n : ℕ) → Stops (recording record_forms n) line (ahead s at) b
 
 -- where a part is read: the next begins at `at`, with line `line`
 pub record Onward (s : List ℕ) (at line : ℕ) : Type 0 where
@@ -90,9 +98,9 @@ pub record RecordsAre (s : List ℕ) (at line count : ℕ) (r : Records) : Type 
       → (a : State lists) → a.book.programs ≡ replicate most_programs unused
       → records_said count a (ahead s at) ≡ chains_said chained (with_programs told a) (ahead s r.at)
 
-pub record RecordsRead (s : List ℕ) (at line count : ℕ) (r : Records) : Type 0 where
-  pub read : r.bad ≡ 0 → RecordsAre s at line count r
-  pub stops : 1 ≤ r.bad → first_bad (records_ahead count) line (ahead s at) ≡ r.bad
+abbrev pub RecordsRead : List ℕ → ℕ → ℕ → ℕ → Result Records BadLine → Type 0
+RecordsRead s at line count (Ok r) = RecordsAre s at line count r
+RecordsRead s at line count (Err b) = Stops (records_ahead count) line (ahead s at) b
 
 -- chains of these states, in a state and in links
 abbrev pub with_chains : List ℕ → List (List ℕ) → State lists → State lists
@@ -112,9 +120,9 @@ pub record ChainsAre (s : List ℕ) (at line : ℕ) (r : Chains) : Type 0 where
   pub scan : first_bad (chains_ahead chain_forms) line (ahead s at) ≡ first_bad holding r.line (ahead s r.at)
   pub says : (a : State lists) → chains_said chained a (ahead s at) ≡ rest_said (with_chains chained told a) (ahead s r.at)
 
-pub record ChainsRead (s : List ℕ) (at line : ℕ) (r : Chains) : Type 0 where
-  pub read : r.bad ≡ 0 → ChainsAre s at line r
-  pub stops : 1 ≤ r.bad → first_bad (chains_ahead chain_forms) line (ahead s at) ≡ r.bad
+abbrev pub ChainsRead : List ℕ → ℕ → ℕ → Result Chains BadLine → Type 0
+ChainsRead s at line (Ok r) = ChainsAre s at line r
+ChainsRead s at line (Err b) = Stops (chains_ahead chain_forms) line (ahead s at) b
 
 -- a table of tracks holds what a state says
 pub record Holds (t : Tracks) (a : State lists) : Type 0 where
@@ -148,9 +156,13 @@ pub record NumbersRead (s : List ℕ) (at line : ℕ) (t : Numbers) (r : Numbere
   pub of : (a : State lists) → Keeps t a → NumbersOf s at a r
 
 -- the last line
-pub record EndRead (s : List ℕ) (at line r : ℕ) : Type 0 where
-  pub scan : first_bad numbering line (ahead s at) ≡ r
-  pub says : r ≡ 0 → (a : State lists) → rest_said a (ahead s at) ≡ a
+pub record EndIs (s : List ℕ) (at line : ℕ) : Type 0 where
+  pub scan : first_bad numbering line (ahead s at) ≡ 0
+  pub says : (a : State lists) → rest_said a (ahead s at) ≡ a
+
+abbrev pub EndRead : List ℕ → ℕ → ℕ → Result (Unit {0}) BadLine → Type 0
+EndRead s at line (Ok u) = EndIs s at line
+EndRead s at line (Err b) = Stops numbering line (ahead s at) b
 
 -- a state in the tables' bytes
 abbrev pub narrow : State lists → State lists
@@ -160,3 +172,8 @@ narrow a =
       book = altered b (map narrow_record b.programs) b.clock (map byte b.holders) (map narrow_resource b.resources);
       kept = map (map byte) a.kept;
     }
+
+-- the tables that the lines say, which are judged then, or the line that is not well formed
+abbrev pub PageRead : List ℕ → ℕ → Result Tables BadLine → Type 0
+PageRead s at (Ok t) = judged (drop at s) 0 t ≡ reading (drop at s)
+PageRead s at (Err b) = not_read b.0 ≡ reading (drop at s)

@@ -7,11 +7,13 @@ mod parts;
 ghost use Rattle.std.specs.Prelude.{◌≡◌, ◌≤◌, length, drop};
 ghost use Rattle.tables.specs.Calls.{told};
 ghost use Rattle.reader.specs.Reading.{not_read, judged, reading};
+ghost use Rattle.reader.specs.Walks.{PageRead};
 
 use clock::Clock;
 pub use holding::{Reader, moved, open, read, read_page};
 use ledger::Ledger;
 use limits::{PAGE_ROOM, USUAL_YEAR};
+use parts::BadLine;
 use rules::Answer;
 use tables::{Outcome, Tables};
 
@@ -19,11 +21,9 @@ use tables::{Outcome, Tables};
 fn not_read(line: u64) -> Outcome
     ensures { told result ≡ not_read line }
 {
-    let fresh = Tables::fresh(1, 0, 0, USUAL_YEAR as u64);
-    let smallest = fresh.tables;
     Outcome {
         answer: Answer::NotRead(line),
-        tables: smallest,
+        tables: Tables::fresh(1, 0, 0, USUAL_YEAR as u64).tables,
     }
 }
 
@@ -46,6 +46,32 @@ fn judge(s: &[u8], at: usize, tables: Tables) -> Outcome
     }
 }
 
+// The tables that the lines from a place on say.
+fn read_tables(s: &[u8], at: usize) -> Result<Tables, BadLine>
+    requires { at ≤ length s.now }
+    ensures { PageRead s.now at result }
+{
+    let head = parts::read_head(s, at)?;
+    let records = parts::read_records(s, head.at, head.line, head.programs)?;
+    let chains = parts::read_chains(s, records.at, records.line)?;
+    let blank = Tables::fresh(head.tracks, head.system, head.numbers, head.year)
+        .tables
+        .ledger;
+    let held = parts::read_held(s, chains.at, chains.line, blank.tracks);
+    let numbers = parts::read_numbers(s, held.at, held.line, blank.numbers);
+    parts::read_end(s, numbers.at, numbers.line)?;
+    // an array is read from a struct into a variable, before it goes into another one
+    let programs = records.programs;
+    let links = chains.links;
+    let ledger = Ledger {
+        programs,
+        clock: Clock::from_ticks(head.clock, blank.clock.year),
+        tracks: held.tracks,
+        numbers: numbers.numbers,
+    };
+    Ok(Tables { ledger, links })
+}
+
 // The page that stands from a place on.
 pub fn read_from(s: &[u8], at: usize) -> Outcome
     ensures { told result ≡ reading (drop at s.now) }
@@ -53,43 +79,8 @@ pub fn read_from(s: &[u8], at: usize) -> Outcome
     if s.len() < at {
         return not_read(1);
     }
-    let head = parts::read_head(s, at);
-    if head.bad != 0 {
-        return not_read(head.bad);
+    match read_tables(s, at) {
+        Ok(tables) => judge(s, at, tables),
+        Err(BadLine(line)) => not_read(line),
     }
-    let records = parts::read_records(s, head.at, head.line, head.programs);
-    if records.bad != 0 {
-        return not_read(records.bad);
-    }
-    let chains = parts::read_chains(s, records.at, records.line);
-    if chains.bad != 0 {
-        return not_read(chains.bad);
-    }
-    let fresh = Tables::fresh(head.tracks, head.system, head.numbers, head.year);
-    let begun = fresh.tables;
-    let blank = begun.ledger;
-    let held = parts::read_held(s, chains.at, chains.line, blank.tracks);
-    let numbers = parts::read_numbers(s, held.at, held.line, blank.numbers);
-    let last = parts::read_end(s, numbers.at, numbers.line);
-    if last != 0 {
-        return not_read(last);
-    }
-    let programs = records.programs;
-    let links = chains.links;
-    let tracks = held.tracks;
-    let resources = numbers.numbers;
-    let ledger = Ledger {
-        programs: programs,
-        clock: Clock::from_ticks(head.clock, blank.clock.year),
-        tracks: tracks,
-        numbers: resources,
-    };
-    judge(
-        s,
-        at,
-        Tables {
-            ledger: ledger,
-            links: links,
-        },
-    )
 }

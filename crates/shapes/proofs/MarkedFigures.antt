@@ -24,11 +24,11 @@ use Rattle.text.proofs.Read.{number_of-plain}
 use Rattle.text.proofs.Exact.{Plain, plain, number_of-exact}
 use Rattle.records.specs.Numbers.{globally}
 use Rattle.page.specs.Page.{dash, global_word}
-use Rattle.shapes.specs.Shapes.{next, word, figure, figure_or_dash, party_of}
+use Rattle.shapes.specs.Shapes.{word, figure, figure_or_dash, party_of}
 use Rattle.shapes.specs.Inner.{coded_by}
 use Rattle.shapes.proofs.Pieces.{decimal-only}
-use Rattle.shapes.specs.declared.values.Figure.{Figure}
-use Rattle.shapes.specs.declared.values.Figure.TheVariants as figured
+use Rattle.std.specs.Prelude as option
+use Rattle.std.specs.Prelude.{Some, None}
 use Rattle.shapes.specs.Inner.{SaidIs, NotSaid, word_is, FigureTo}
 use Rattle.shapes.proofs.Marks.{Free, word-free, named, unnamed, either-free, either_first, either_second, neither}
 use Rattle.shapes.proofs.Marks.{same-front, found-behind, not_behind}
@@ -194,9 +194,9 @@ module _ (w : List ℕ) where
         shaped = ap coded_in (behind-append w x.value) ∙ x.shaped;
       }
 
-      pub coded-figure : (r : Figure) → FigureTo figure d s i r → FigureTo (coded_by w) d s from r
-      coded-figure (figured.Is n next) x = coded-said x
-      coded-figure figured.Not x = coded-unsaid x
+      pub coded-figure : (r : option.Option (ℕ × ℕ)) → FigureTo figure d s i r → FigureTo (coded_by w) d s from r
+      coded-figure (Some r) x = coded-said x
+      coded-figure None x = coded-unsaid x
 
 -- A NUMBER OR A WORD
 module _ {d : ℕ} {s : List ℕ} {from : ℕ} where
@@ -204,14 +204,14 @@ module _ {d : ℕ} {s : List ℕ} {from : ℕ} where
   dash-said x = either_first (word dash 0) figure (named 0 x)
 
   pub dash-or-figure : NotSaid (word_is (text dash)) d s from
-      → (r : Figure) → FigureTo figure d s from r → FigureTo figure_or_dash d s from r
-  dash-or-figure n (figured.Is m next) x = either_second (word dash 0) figure (unnamed 0 n) x
-  dash-or-figure n figured.Not x = neither (word dash 0) figure (unnamed 0 n) x
+      → (r : option.Option (ℕ × ℕ)) → FigureTo figure d s from r → FigureTo figure_or_dash d s from r
+  dash-or-figure n (Some r) x = either_second (word dash 0) figure (unnamed 0 n) x
+  dash-or-figure n None x = neither (word dash 0) figure (unnamed 0 n) x
 
   pub global-said : {next : ℕ} → SaidIs (word_is (text global_word)) d s from true next → SaidIs party_of d s from globally next
   global-said x = either_first (word global_word globally) figure (named globally x)
 
   pub global-or-figure : NotSaid (word_is (text global_word)) d s from
-      → (r : Figure) → FigureTo figure d s from r → FigureTo party_of d s from r
-  global-or-figure n (figured.Is m next) x = either_second (word global_word globally) figure (unnamed globally n) x
-  global-or-figure n figured.Not x = neither (word global_word globally) figure (unnamed globally n) x
+      → (r : option.Option (ℕ × ℕ)) → FigureTo figure d s from r → FigureTo party_of d s from r
+  global-or-figure n (Some r) x = either_second (word global_word globally) figure (unnamed globally n) x
+  global-or-figure n None x = neither (word global_word globally) figure (unnamed globally n) x

@@ -19,17 +19,12 @@ use Rattle.text.proofs.Laws.{decimal-small}
 use Rattle.text.proofs.Words.{behind-exact}
 use Rattle.shapes.specs.Inner.{unbroken, LineIs, NoLine, unended, keyless, shapeless, ValueIs}
 use Rattle.shapes.proofs.Pieces.{not_first, parts_at, parts_last, clean_line}
-use Rattle.text.specs.declared.Place.{Place}
-use Rattle.text.specs.declared.Place.TheVariants as place
 use Rattle.page.specs.Page.{chain_key, held_key, number_key, key_of_chain}
-use Rattle.shapes.specs.declared.values.Figure.{Figure}
-use Rattle.shapes.specs.declared.values.Figure.TheVariants as figured
-use Rattle.shapes.specs.declared.values.Reason.{Reason}
-use Rattle.shapes.specs.declared.values.Reason.TheVariants as reason
+use Rattle.std.specs.Prelude as option
+use Rattle.std.specs.Prelude.{Some, None}
+use Rattle.records.specs.declared.Why.{Why}
 use Rattle.shapes.specs.declared.values.Run.{Run}
-use Rattle.shapes.specs.declared.values.Run.TheVariants as run
 use Rattle.shapes.specs.declared.values.Resource.{Resource}
-use Rattle.shapes.specs.declared.values.Resource.TheVariants as resource
 use Rattle.shapes.specs.Inner.{SaidIs, NotSaid, word_is, reason_in, held_in, number_in, FigureTo, WordTo, ReasonTo, RunTo, ResourceTo}
 use Rattle.shapes.specs.Inner.{FigureAt, WordAt, ReasonAt, RunAt, ResourceAt}
 use Rattle.shapes.proofs.Marks.{Cut, cut, whole, cut_at, same-front, same_rest, Free, word-there, word-free}
@@ -102,26 +97,26 @@ module _ {A : Type 0} (shape : List ℕ → Option A) {s key : List ℕ} {at : �
 
 -- what a value up to byte 10 makes of the line, whose key was found
 module _ {s key : List ℕ} {at i : ℕ} (k : SaidIs (word_is key) 61 s at true i) (u : unbroken key ≡ true) where
-  pub figure-line : (shape : List ℕ → Option ℕ) → Free shape 10 → (r : Figure) → FigureTo shape 10 s i r → FigureAt shape s at key r
-  figure-line shape F (figured.Is n next) x = line-said shape u F k x
-  figure-line shape F figured.Not x = line-no-value shape k x
+  pub figure-line : (shape : List ℕ → Option ℕ) → Free shape 10 → (r : option.Option (ℕ × ℕ)) → FigureTo shape 10 s i r → FigureAt shape s at key r
+  figure-line shape F (Some r) x = line-said shape u F k x
+  figure-line shape F None x = line-no-value shape k x
 
-  pub word_line : (w : List ℕ) → unbroken w ≡ true → (r : Place) → WordTo w 10 s i r → WordAt s at key w r
-  word_line w h (place.At next) x = line-said (word_is w) u (word-free true w 10 (unbroken-clean w h)) k x
-  word_line w h place.Not x = line-no-value (word_is w) k x
+  pub word_line : (w : List ℕ) → unbroken w ≡ true → (r : option.Option ℕ) → WordTo w 10 s i r → WordAt s at key w r
+  word_line w h (Some next) x = line-said (word_is w) u (word-free true w 10 (unbroken-clean w h)) k x
+  word_line w h None x = line-no-value (word_is w) k x
 
-  pub reason-line : (r : Reason) → ReasonTo s i r → ReasonAt s at key r
-  reason-line (reason.Is w next) x = line-said reason_in u reason-free k x
-  reason-line reason.Not x = line-no-value reason_in k x
+  pub reason-line : (r : option.Option (Why × ℕ)) → ReasonTo s i r → ReasonAt s at key r
+  reason-line (Some r) x = line-said reason_in u reason-free k x
+  reason-line None x = line-no-value reason_in k x
 
-pub run-line : {s : List ℕ} {at i : ℕ} → SaidIs (word_is (text held_key)) 61 s at true i → (r : Run) → RunTo s i r → RunAt s at r
-run-line k (run.Is a b h next) x = line-said held_in refl held-free k x
-run-line k run.Not x = line-no-value held_in k x
+pub run-line : {s : List ℕ} {at i : ℕ} → SaidIs (word_is (text held_key)) 61 s at true i → (r : option.Option (Run × ℕ)) → RunTo s i r → RunAt s at r
+run-line k (Some r) x = line-said held_in refl held-free k x
+run-line k None x = line-no-value held_in k x
 
-pub resource-line : {s : List ℕ} {at i : ℕ} → SaidIs (word_is (text number_key)) 61 s at true i → (r : Resource) → ResourceTo s i r
+pub resource-line : {s : List ℕ} {at i : ℕ} → SaidIs (word_is (text number_key)) 61 s at true i → (r : option.Option (Resource × ℕ)) → ResourceTo s i r
     → ResourceAt s at r
-resource-line k (resource.Is r o l next) x = line-said number_in refl number-free k x
-resource-line k resource.Not x = line-no-value number_in k x
+resource-line k (Some r) x = line-said number_in refl number-free k x
+resource-line k None x = line-no-value number_in k x
 
 -- the value as it stands, up to the end of the line; or there is no end
 parts-behind : (w x y : List ℕ) (ys : List (List ℕ)) → count 10 w ≡ 0 → parts 10 x ≡ y ∷ ys → parts 10 (w ++ x) ≡ (w ++ y) ∷ ys

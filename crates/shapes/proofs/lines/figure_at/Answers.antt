@@ -2,24 +2,24 @@
 -- Assumes nothing.
 use native.Mathlib.Omega.{arith}
 use mathlib.Core.Bool.{true}
-use mathlib.Core.Path.{refl, subst}
+use mathlib.Core.Path.{refl, sym, subst}
 use Rattle.shapes.specs.Shapes.{figure}
-use Rattle.shapes.specs.Inner.{SaidIs, word_is, WordTo}
+use Rattle.shapes.specs.Inner.{SaidIs, word_is, FigureAt}
 use Rattle.shapes.proofs.MarkedFigures.{figure-free}
 use Rattle.shapes.proofs.MarkedLines.{line-no-key, figure-line}
-use Rattle.shapes.proofs.lines.figure_at.Goals.{In-At}
+use Rattle.shapes.proofs.lines.figure_at.Goals.{In_ok-from}
 use Rattle.shapes.proofs.lines.figure_at.Goals as goal
 
-found : (c : In-At)
-    → let a = c.args in SaidIs (word_is a.key.now) 61 a.s.now a.at true c.in-At.from
-found c = subst (WordTo _ _ _ _) c.in-At.is c.word_to.ensures
+found : (c : In_ok-from)
+    → let a = c.args in SaidIs (word_is a.key.now) 61 a.s.now a.at true c.in_ok-from.from
+found c = c.in_ok-from.ensures
 
-pub returns-in_default : goal.returns-in_default
-returns-in_default c = line-no-key figure (subst (WordTo _ _ _ _) c.in_default.is c.word_to.ensures)
+pub returns-in_err-from : goal.returns-in_err-from
+returns-in_err-from c = subst (FigureAt _ _ _ _) (sym c.from_residual.ensures) (line-no-key figure c.in_err-from.ensures)
 
 pub figure_to-requires : goal.figure_to-requires
-figure_to-requires c = record { from_in_bounds = (found (goal.at.figure_to-requires c).In-At).within; mark_value = refl }
+figure_to-requires c = record { from_in_bounds = (found (goal.at.figure_to-requires c).In_ok-from).within; mark_value = refl }
 
 pub returns : goal.returns
-returns c = figure-line (found (goal.at.returns c).In-At) c.requires.key_value figure (figure-free 10 (λ h. omega arith))
+returns c = figure-line (found (goal.at.returns c).In_ok-from) c.requires.key_value figure (figure-free 10 (λ h. omega arith))
     c.figure_to.result c.figure_to.ensures

@@ -1,63 +1,53 @@
--- `values::read_chain` meets its contract. The invariant: what is left of the chain, put into the links so far, gives what
--- the whole gives, put into the links as given. Assumes nothing.
-use Prim.Native.Nat.{◌+◌}
+-- `values::read_chain` lays the parts of a chain one after another. Assumes nothing.
+use mathlib.Core.Path.{◌≡◌, sym, ap, subst, ◌∙◌}
+use Prim.Native.Nat.{◌<◌}
 use native.Mathlib.Omega.{arith}
-use mathlib.Core.Path.{◌≡◌, refl, sym, ap, ◌∙◌}
-use mathlib.Core.Option.{some}
-use lib.ListN.{length, set}
-use lib.Seq.{slice}
-use borrow.Author.Rules.{rules}
-use Rattle.text.specs.Inner.{read}
-use Rattle.shapes.specs.Shapes.{figure}
-use Rattle.shapes.proofs.ValueLaws.{stored, chaining-start, chain-empty, chain-not, kept, chain-turn, chain-end}
-use Rattle.shapes.proofs.values.read_chain.Goals.{After-byte-p, Joined-slot-lt-SLOTS-2, Start}
+use lib.Dec.{eqb}
+use lib.ListN.{length, get_or}
+use borrow.Author.Tests.{eqb-true}
+use Rattle.std.proofs.Common.{rules, tests}
+use Rattle.std.specs.Slice.Iter.{split_rest, split_done, split_callee}
+use Rattle.std.proofs.lemmas.Iterator.Splits.{YieldsList-from_slice_split}
+use Rattle.std.proofs.lemmas.Iterator.Consumers.{YieldsList-turn, YieldsList-end}
+use Rattle.std.proofs.lemmas.List.{length_push}
+use Rattle.text.specs.Text.{parts}
+use Rattle.shapes.specs.Inner.{ChainRead}
+use Rattle.shapes.proofs.ValueLaws.{split_parts, chain_empty, chain_not, chain_turn, chain_end}
+use Rattle.shapes.proofs.values.read_chain.Goals.{In-Some, then-not-is_empty+in-None, else-not-is_empty}
 use Rattle.shapes.proofs.values.read_chain.Goals as goal
 
--- the links as given have 40 slots
-long : (t : Start) → length t.args.links ≡ 40
-long t = search rules
+-- this turn's part is the next one
+turn : (c : In-Some) → let ps = parts 44 c.args.s.now in
+    (length c.loop-part.yielded < length ps) × (c.in-Some.part.now ≡ get_or ps (length c.loop-part.yielded) c.in-Some.part.now)
+turn c =
+    let i = c.into_iter-part-iterator.ensures.into_iter_gives in
+    let s = c.split-part-items.ensures in
+    let t = YieldsList-turn (YieldsList-from_slice_split _ (λ b. eqb b 44) c.args.s.now (ap split_rest i ∙ s.rest) (ap split_done i ∙ s.done)
+    (ap split_callee i ∙ s.closure) (λ x r q k. search (rules, tests)))
+    c.loop-part.yielded _ c.loop-part.yielded_by _ _ c.in-Some.part c.in-Some.is c.next.ensures.steps in
+    rw (← split_parts 44 c.args.s.now) t
 
-pub returns-then-slot-lt-SLOTS : goal.returns-then-slot-lt-SLOTS
-returns-then-slot-lt-SLOTS c = let a = c.args in chain-empty a.s.now a.from a.to (omega arith) c.if-from-to.true refl
+pub returns-in_err-read_figure : goal.returns-in_err-read_figure
+returns-in_err-read_figure c =
+    let t = turn (goal.at.returns-in_err-read_figure c).In-Some in
+    subst (ChainRead _ _ _) (sym c.from_residual.ensures)
+    (chain_not c.loop-part.invariant c.in-Some.part.now t.0 t.1 (λ z. search (rules, tests)) (sym c.in_err-read_figure.ensures))
 
-pub returns-else-slot-lt-SLOTS : goal.returns-else-slot-lt-SLOTS
-returns-else-slot-lt-SLOTS c =
-    let a = c.args in
-    chain-empty a.s.now a.from a.to (omega arith) c.if-from-to.true
-    (stored a.links a.state 0 (long (goal.at.returns-else-slot-lt-SLOTS c).Start) c.if-slot-lt-SLOTS.false refl)
-
-pub loop-o-init : goal.loop-o-init
-loop-o-init c = chaining-start (omega arith) (long (goal.at.loop-o-init c).Start)
-
-pub returns-in_default : goal.returns-in_default
-returns-in_default c =
-    chain-not c.loop-o.invariant c.mark-end.ensures (omega arith) (omega arith)
-    (sym c.read_figure.ensures ∙ ap read c.in_default.is)
-
-told : (b : After-byte-p) → figure (slice b.loop-o.o b.mark-end.result b.args.s.now) ≡ some b.in-Is.n
-told b = sym b.read_figure.ensures ∙ ap read b.in-Is.is
-
-put : (j : Joined-slot-lt-SLOTS-2) → let h = j.loop-o in
-    j.if-slot-lt-SLOTS-2.l ≡ set h.l h.slot j.byte-p.result
-put j =
-    let h = j.loop-o in
-    elim j.if-slot-lt-SLOTS-2.branch [ goal.then-slot-lt-SLOTS-2 w ↦ w.l-is | goal.else-slot-lt-SLOTS-2 w ↦ stored h.l h.slot j.byte-p.result h.invariant.long w.if-slot-lt-SLOTS-2.false w.l-is ]
-
-pub returns-then-slot-lt-SLOTS-3 : goal.returns-then-slot-lt-SLOTS-3
-returns-then-slot-lt-SLOTS-3 c =
-    chain-end c.loop-o.invariant c.mark-end.ensures (told (goal.at.returns-then-slot-lt-SLOTS-3 c).After-byte-p) c.byte-p.ensures (put (goal.at.returns-then-slot-lt-SLOTS-3 c).Joined-slot-lt-SLOTS-2) (omega arith) (omega arith)
-    c.if-end-to.true refl
-
-pub returns-else-slot-lt-SLOTS-3 : goal.returns-else-slot-lt-SLOTS-3
-returns-else-slot-lt-SLOTS-3 c =
-    let h = c.loop-o in
-    let k : length c.if-slot-lt-SLOTS-2.l ≡ 40 = kept h.invariant c.mark-end.ensures (told (goal.at.returns-else-slot-lt-SLOTS-3 c).After-byte-p) c.byte-p.ensures (put (goal.at.returns-else-slot-lt-SLOTS-3 c).Joined-slot-lt-SLOTS-2) in
-    chain-end h.invariant c.mark-end.ensures (told (goal.at.returns-else-slot-lt-SLOTS-3 c).After-byte-p) c.byte-p.ensures (put (goal.at.returns-else-slot-lt-SLOTS-3 c).Joined-slot-lt-SLOTS-2) (omega arith) (omega arith) c.if-end-to.true
-    (stored c.if-slot-lt-SLOTS-2.l (7 + c.byte-p.result) 0 k c.if-slot-lt-SLOTS-3.false refl)
-
-pub loop-o-preserved : goal.loop-o-preserved
-loop-o-preserved c =
-    chain-turn c.loop-o.invariant c.mark-end.ensures (told (goal.at.loop-o-preserved c).After-byte-p) c.byte-p.ensures (put (goal.at.loop-o-preserved c).Joined-slot-lt-SLOTS-2) (omega (arith, c.mark-end.ensures.high))
+pub loop-part-preserved : goal.loop-part-preserved
+loop-part-preserved c =
+    let t = turn (goal.at.loop-part-preserved c).In-Some in
+    rw (length_push c.loop-part.yielded c.in-Some.part) (chain_turn c.loop-part.invariant c.in-Some.part.now t.0 t.1
+    (sym c.in_ok-read_figure.ensures) c.byte-p.ensures c.put_link.ensures)
 
 pub returns : goal.returns
-returns c = absurd (omega (arith, c.loop-o.invariant.within))
+returns c = elim c.if-not-is_empty.branch [
+  | then-not-is_empty+in-None w ↦
+      let i = w.into_iter-part-iterator.ensures.into_iter_gives in
+      let s = w.split-part-items.ensures in
+      let t = YieldsList-end (YieldsList-from_slice_split _ (λ b. eqb b 44) c.args.s.now (ap split_rest i ∙ s.rest) (ap split_done i ∙ s.done)
+      (ap split_callee i ∙ s.closure) (λ x r q k. search (rules, tests)))
+      w.loop-part.yielded _ w.loop-part.yielded_by _ _ w.in-None.is w.next.ensures.steps in
+      chain_end w.loop-part.invariant (λ z. search (rules, tests))
+      (omega (arith, t.1, ap length (split_parts 44 c.args.s.now))) cc
+  | else-not-is_empty w ↦ chain_empty c.args.s.now c.args.links c.put_link-2.new.links c.args.state (eqb-true _ _ (sym w.if-not-is_empty.ensures)) cc
+]
