@@ -11,6 +11,12 @@ use mathlib.Core.Option.{none, some}
 use lib.ListN.{length, get_or, set, take, drop, replicate, drop_of_length-le, replicate-append-replicate}
 use lib.Seq.{drop-cons, set-get_or, set-append_left, take_at, drop_at}
 use lib.Dec.{eqb}
+use native.Mathlib.Decide.{ℕ_discrete}
+use native.Mathlib.Nat.{min-le_left}
+use lib.ListN.{length-take}
+use Rattle.std.specs.List.{count_by}
+use Rattle.std.proofs.lemmas.List.Sums.{count_by-le-length}
+use Rattle.std.proofs.lemmas.List.Recursion.{is_count_by}
 use borrow.Author.Tests.{eq-eqb, ne_eqb}
 use Rattle.lists.specs.Lists.{same, count}
 use Rattle.lists.proofs.Laws.{same_refl, same-ne}
@@ -160,3 +166,40 @@ fresh-done a b N T S l m =
     ap (λ (k : ℕ). replicate S a ++ replicate k b) e
     ∙ ap (λ (ys : List ℕ). replicate S a ++ ys) (sym (replicate-append-replicate (T - S) (N - T) b))
     ∙ sym (append_assoc (replicate S a) (replicate (T - S) b) (replicate (N - T) b))
+
+-- counts by the library's word
+pub counted : (p : ℕ) (xs : List ℕ) → count p xs ≡ count_by (λ x. eqb x p) xs
+counted p xs = is_count_by (count p) (λ x. eqb x p) refl step xs
+  where
+    step : (x : ℕ) (xs : List ℕ) → same p x + count p xs ≡ cond (eqb x p) (1 + count p xs) (count p xs)
+    step x xs = go (ℕ_discrete x p)
+      where
+        go : Dec (x ≡ p) → same p x + count p xs ≡ cond (eqb x p) (1 + count p xs) (count p xs)
+        go (yes w) = rw (eq-eqb x p w) (omega (arith, ap (same p) w, same_refl p))
+        go (no w) = rw (ne_eqb x p w) (omega (arith, same-ne p x (λ e. w (sym e))))
+
+eqb-suc : (a b : ℕ) → eqb (suc a) (suc b) ≡ eqb a b
+eqb-suc a b = go (ℕ_discrete a b)
+  where
+    go : Dec (a ≡ b) → eqb (suc a) (suc b) ≡ eqb a b
+    go (yes w) = eq-eqb (suc a) (suc b) (ap suc w) ∙ sym (eq-eqb a b w)
+    go (no w) = ne_eqb (suc a) (suc b) (λ e. w (omega arith)) ∙ sym (ne_eqb a b w)
+
+-- n tracks are a run where n of the first n are h's
+run-count : (h n : ℕ) (xs : List ℕ) → eqb (count h (take n xs)) n ≡ run h n xs
+run-count h zero xs = refl
+run-count h (suc n) [] = ne_eqb 0 (suc n) (λ e. omega arith)
+run-count h (suc n) (x ∷ xs) = go (ℕ_discrete x h) (run-count h n xs)
+  where
+    few : count h (take n xs) ≤ n
+    few = omega (arith, counted h (take n xs), count_by-le-length (λ (y : ℕ). eqb y h) (take n xs), length-take n xs, min-le_left n (length xs))
+
+    go : Dec (x ≡ h) → eqb (count h (take n xs)) n ≡ run h n xs
+        → eqb (same h x + count h (take n xs)) (suc n) ≡ elim (eqb x h) [ true ↦ run h n xs | false ↦ false ]
+    go (yes w) e =
+        let one : same h x + count h (take n xs) ≡ suc (count h (take n xs)) = omega (arith, ap (same h) w, same_refl h) in
+        rw (eq-eqb x h w, one) (eqb-suc (count h (take n xs)) n ∙ e)
+    go (no w) e = rw (ne_eqb x h w) (ne_eqb (same h x + count h (take n xs)) (suc n) (λ k. omega (arith, few, same-ne h x (λ z. w (sym z)))))
+
+pub run-counted : (h n : ℕ) (xs : List ℕ) → eqb (count_by (λ x. eqb x h) (take n xs)) n ≡ run h n xs
+run-counted h n xs = ap (λ (k : ℕ). eqb k n) (sym (counted h (take n xs))) ∙ run-count h n xs
