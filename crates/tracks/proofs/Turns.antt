@@ -89,6 +89,25 @@ filled-first i zero h xs = let here : i ≡ i + 0 = omega arith in ap (λ (k : �
 filled-first i (suc n) h xs =
     let next : i + 1 + n ≡ i + suc n = omega arith in ap₂ (λ (ys : List ℕ) (k : ℕ). set ys k h) (filled-first i n h xs) next
 
+-- those before them stand, and those behind
+filled-behind : (i n h x : ℕ) (xs : List ℕ) → filled (i + 1) n h (x ∷ xs) ≡ x ∷ filled i n h xs
+filled-behind i zero h x xs = refl
+filled-behind i (suc n) h x xs =
+    let next : i + 1 + n ≡ suc (i + n) = omega arith in ap₂ (λ (ys : List ℕ) (k : ℕ). set ys k h) (filled-behind i n h x xs) next
+
+filled-front : (n h : ℕ) (xs : List ℕ) → n ≤ length xs → replicate n h ++ drop n xs ≡ filled 0 n h xs
+filled-front zero h xs l = refl
+filled-front (suc n) h [] l = absurd (omega arith)
+filled-front (suc n) h (x ∷ xs) l =
+    ap (λ (ys : List ℕ). h ∷ ys) (filled-front n h xs (omega arith)) ∙ sym (filled-behind 0 n h h xs) ∙ filled-first 0 n h (x ∷ xs)
+
+pub filled-mid : (i n h : ℕ) (xs : List ℕ) → i + n ≤ length xs → take i xs ++ (replicate n h ++ drop n (drop i xs)) ≡ filled i n h xs
+filled-mid zero n h xs l = filled-front n h xs (omega arith)
+filled-mid (suc i) n h [] l = absurd (omega arith)
+filled-mid (suc i) n h (x ∷ xs) l =
+    ap (λ (ys : List ℕ). x ∷ ys) (filled-mid i n h xs (omega arith)) ∙ sym (filled-behind i n h x xs)
+    ∙ ap (λ (k : ℕ). filled k n h (x ∷ xs)) (let e : i + 1 ≡ suc i = omega arith in e)
+
 filled-append : (i n h : ℕ) (xs ys : List ℕ) → i + n ≤ length xs → filled i n h (xs ++ ys) ≡ filled i n h xs ++ ys
 filled-append i zero h xs ys l = refl
 filled-append i (suc n) h xs ys l =

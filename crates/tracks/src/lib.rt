@@ -105,9 +105,7 @@ impl Tracks {
         ensures { result ≡ table_of self.count self.system (filled start n h (holders self)) }
     {
         let mut holders = self.holders;
-        if 0 < n {
-            fill(&mut holders, start, start + n - 1, h);
-        }
+        holders[start..start + n].fill(h);
         Tracks { holders, ..self }
     }
 
