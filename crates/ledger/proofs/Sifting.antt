@@ -10,7 +10,7 @@ use mathlib.Core.Bool.{Bool, true, false, cond, not}
 use mathlib.Core.List.{List, [], ◌∷◌, ◌++◌, append-nil}
 use lib.Dec.{eqb}
 use lib.ListN.{length, get_or, set, take, drop, replicate, length-set, drop_of_length-le}
-use lib.Seq.{take-suc-set, append_snoc, drop-set-lt, drop-cons, get_or-take, length-take-le}
+use lib.Seq.{take-suc-set, append_snoc, drop-set-lt, drop-cons, length-take-le}
 use borrow.Author.Tests.{eqb-true}
 use Rattle.lists.specs.Lists.{same, count, keep, remove}
 use Rattle.lists.proofs.Laws.{same_refl, remove_absent}
@@ -39,11 +39,8 @@ pub keep-alike : (f g : ℕ → Bool) (c : List ℕ) → ((q : ℕ) → f q ≡ 
 keep-alike f g c h = ap (λ (t : ℕ → Bool). keep t c) (λ i q. h q i)
 
 -- those listed are known
-pub listed-known : (ids : List ℕ) (len i : ℕ) → Listed ids len → len ≤ length ids → i < len → Known (get_or ids i 0)
-listed-known ids len i L h k =
-    let e = get_or-take len ids i 0 k in
-    L.known (get_or ids i 0)
-    (omega (arith, count_at (take len ids) i (omega (arith, length-take-le len ids h)), ap (λ (z : ℕ). count z (take len ids)) e))
+pub listed-known : (ids : List ℕ) (len i : ℕ) → Listed ids len → i < length (take len ids) → Known (get_or (take len ids) i 0)
+listed-known ids len i L h = L.known (get_or (take len ids) i 0) (count_at (take len ids) i h)
 
 -- of the first i of the n that are read those that pass stand in `ids`, `len` of them
 pub record Sifted (f : ℕ → Bool) (xs : List ℕ) (n : ℕ) (ids : List ℕ) (len i : ℕ) : Type 0 where
@@ -59,22 +56,21 @@ pub sifted-start : (f : ℕ → Bool) (xs : List ℕ) (n : ℕ) → length xs �
 sifted-start f xs n l h = record { long = l; bound = h; low = omega arith; most = omega arith; full = refl; rest = refl; so_far = refl }
 
 -- the next that is read
-next : (xs : List ℕ) (n i : ℕ) → n ≤ length xs → i < n → drop i (take n xs) ≡ get_or xs i 0 ∷ drop (i + 1) (take n xs)
+next : (xs : List ℕ) (n i : ℕ) → n ≤ length xs → i < n → drop i (take n xs) ≡ get_or (take n xs) i 0 ∷ drop (i + 1) (take n xs)
 next xs n i h k =
     drop-cons (take n xs) i 0 (omega (arith, length-take-le n xs h))
-    ∙ ap (λ (q : ℕ). q ∷ drop (suc i) (take n xs)) (get_or-take n xs i 0 k)
-    ∙ ap (λ (j : ℕ). get_or xs i 0 ∷ drop j (take n xs)) (sym (add-one i))
+    ∙ ap (λ (j : ℕ). get_or (take n xs) i 0 ∷ drop j (take n xs)) (sym (add-one i))
 
 module _ {f : ℕ → Bool} {xs : List ℕ} {n : ℕ} {ids : List ℕ} {len i : ℕ} (S : Sifted f xs n ids len i) where
-  keep-next : (b : Bool) → i < n → f (get_or xs i 0) ≡ b
-      → keep f (drop i (take n xs)) ≡ cond b (get_or xs i 0 ∷ keep f (drop (i + 1) (take n xs))) (keep f (drop (i + 1) (take n xs)))
+  keep-next : (b : Bool) → i < n → f (get_or (take n xs) i 0) ≡ b
+      → keep f (drop i (take n xs)) ≡ cond b (get_or (take n xs) i 0 ∷ keep f (drop (i + 1) (take n xs))) (keep f (drop (i + 1) (take n xs)))
   keep-next b h t =
       ap (keep f) (next xs n i (omega arith) h)
-      ∙ ap (λ (z : Bool). cond z (get_or xs i 0 ∷ keep f (drop (i + 1) (take n xs))) (keep f (drop (i + 1) (take n xs)))) t
+      ∙ ap (λ (z : Bool). cond z (get_or (take n xs) i 0 ∷ keep f (drop (i + 1) (take n xs))) (keep f (drop (i + 1) (take n xs)))) t
 
-  kept : i < n → f (get_or xs i 0) ≡ true → Sifted f xs n (set ids len (get_or xs i 0)) (len + 1) (i + 1)
+  kept : i < n → f (get_or (take n xs) i 0) ≡ true → Sifted f xs n (set ids len (get_or (take n xs) i 0)) (len + 1) (i + 1)
   kept h t =
-      let q = get_or xs i 0 in
+      let q = get_or (take n xs) i 0 in
       let inside : len < length ids = omega arith in
       let less : 32 - len ≡ suc (32 - suc len) = omega arith in
       let tails : get_or ids len 0 ∷ drop (suc len) ids ≡ 0 ∷ replicate (32 - suc len) 0 =
@@ -94,7 +90,7 @@ module _ {f : ℕ → Bool} {xs : List ℕ} {n : ℕ} {ids : List ℕ} {len i : 
             ∙ ap (λ (z : List ℕ). z ++ keep f (drop (i + 1) (take n xs))) (sym taken);
       }
 
-  passed : i < n → f (get_or xs i 0) ≡ false → Sifted f xs n ids len (i + 1)
+  passed : i < n → f (get_or (take n xs) i 0) ≡ false → Sifted f xs n ids len (i + 1)
   passed h t = record {
     long = S.long;
     bound = S.bound;
@@ -106,11 +102,11 @@ module _ {f : ℕ → Bool} {xs : List ℕ} {n : ℕ} {ids : List ℕ} {len i : 
   }
 
   -- it passes, and is added; it does not, and nothing changes
-  pub sifted-in : {ids' : List ℕ} {len' : ℕ} → i < n → f (get_or xs i 0) ≡ true → ids' ≡ set ids len (get_or xs i 0) → len' ≡ len + 1
+  pub sifted-in : {ids' : List ℕ} {len' : ℕ} → i < n → f (get_or (take n xs) i 0) ≡ true → ids' ≡ set ids len (get_or (take n xs) i 0) → len' ≡ len + 1
       → Sifted f xs n ids' len' (i + 1)
   sifted-in h t a b = rw (a, b) (kept h t)
 
-  pub sifted-out : {ids' : List ℕ} {len' : ℕ} → i < n → f (get_or xs i 0) ≡ false → ids' ≡ ids → len' ≡ len → Sifted f xs n ids' len' (i + 1)
+  pub sifted-out : {ids' : List ℕ} {len' : ℕ} → i < n → f (get_or (take n xs) i 0) ≡ false → ids' ≡ ids → len' ≡ len → Sifted f xs n ids' len' (i + 1)
   sifted-out h t a b = rw (a, b) (passed h t)
 
   -- all are read
