@@ -15,10 +15,8 @@ use Rattle.lists.proofs.Tests.{clash}
 use Rattle.records.specs.declared.Program.{Program}
 use Rattle.records.specs.Records.{missing}
 use Rattle.rules.specs.Test.{son_of}
-use Rattle.tracks.specs.Inner.{Tells}
 use Rattle.ledger.specs.Inner.{fits, name_code, name_key, son_key, used_key, Keyed, Fresh, Ended, Distinct, Apart, Sons}
 use Rattle.ledger.specs.Inner.{Awaited, Roster, Enrolled, slot_of, Marked}
-use Rattle.tracks.proofs.Tells.{tells-no}
 use Rattle.ledger.proofs.Turns.{fits-parts, unused-zeros, son-most}
 
 -- nothing is noted at first
@@ -89,10 +87,6 @@ pub noted-same : {c T R : ℕ} {ps : List Program} {ns ks ss qs us : List ℕ} {
     → Noted c T R ps ms js rs os vs top i
 noted-same N a b d o e f = rw (a, b, d, o, e, f) N
 
--- what is refused is neither marked nor noted
-refused : {c T R : ℕ} {ps : List Program} → (Roster c T R ps → ⊥) → (us ss qs : List ℕ) → Enrolled c T R ps false us ss qs
-refused f us ss qs = record { verdict = tells-no f; marked = λ z. clash z refl; columns = λ z. clash z refl }
-
 module _ {c T R : ℕ} {ps : List Program} {names sons states priorities used : List ℕ} {high i : ℕ}
     (N : Noted c T R ps names sons states priorities used high i) (h : i < 32) where
   pub noted-used : fits c T R (i + 1) (get_or ps i missing) ≡ true → (get_or ps i missing).used ≡ true → (name son : ℕ)
@@ -125,8 +119,8 @@ module _ {c T R : ℕ} {ps : List Program} {names sons states priorities used : 
     used = row-unused N.used N.low (ap (λ (b : Bool). cond b 1 0) u);
   }
 
-  pub noted-refused : fits c T R (i + 1) (get_or ps i missing) ≡ false → Enrolled c T R ps false used states priorities
-  noted-refused e = refused (λ S. clash (S.fitting i h) e) used states priorities
+  pub noted-refused : fits c T R (i + 1) (get_or ps i missing) ≡ false → Roster c T R ps → ⊥
+  noted-refused e S = clash (S.fitting i h) e
 
 -- keys that are distinct are those of records apart, and back
 apart_of : (f : Program → ℕ) (ps : List Program) (ks : List ℕ) → Keyed f ps ks → Distinct ks → Apart f ps
@@ -158,8 +152,8 @@ module _ {c T R : ℕ} {ps : List Program} {names sons states priorities used : 
           )
       go k (no l) = omega (arith, N.sons.rest k (omega (arith, l, N.low, N.most)))
 
-  pub names-refused : (Distinct names → ⊥) → Enrolled c T R ps false used states priorities
-  names-refused f = refused (λ S. f (distinct_of name_key ps names (keyed name_key names N.names) S.names)) used states priorities
+  pub names-refused : (Distinct names → ⊥) → Roster c T R ps → ⊥
+  names-refused f S = f (distinct_of name_key ps names (keyed name_key names N.names) S.names)
 
   -- the state that is noted for a son
   son-state : (k : ℕ) → k < 32 → get_or sons k 0 ≡ son_key (get_or ps k missing)
@@ -168,24 +162,24 @@ module _ {c T R : ℕ} {ps : List Program} {names sons states priorities used : 
       ap (λ (x : ℕ). get_or states (x - 1) 0) e
       ∙ N.states.each (son_key (get_or ps k missing) - 1) (omega (arith, sons-ended.known k))
 
-  pub noted-end : Distinct names → (ok : Bool) → Tells ok (Awaited sons states) → Enrolled c T R ps ok used states priorities
-  noted-end D ok t = record {
-    verdict = record {
-      yes = λ e. let A = t.yes e in record {
-        fitting = λ k l. N.fitting k (omega arith);
-        names = apart_of name_key ps names (keyed name_key names N.names) D;
-        live = λ k l n z.
-            A.live k l (λ y. n (sym (N.sons.each k (omega arith)) ∙ y)) (son-state k l (N.sons.each k (omega arith)) ∙ z);
-        sons = apart_of son_key ps sons (keyed son_key sons N.sons) A.once;
-      };
-      nay = λ e S. t.nay e (record {
-        live = λ k l n z.
-            S.live k l (λ y. n (N.sons.each k (omega arith) ∙ y)) (sym (son-state k l (N.sons.each k (omega arith))) ∙ z);
-        once = distinct_of son_key ps sons (keyed son_key sons N.sons) S.sons;
-      });
+  pub sons-refused : (Awaited sons states → ⊥) → Roster c T R ps → ⊥
+  sons-refused f S = f (record {
+    live = λ k l n z.
+        S.live k l (λ y. n (N.sons.each k (omega arith) ∙ y)) (sym (son-state k l (N.sons.each k (omega arith))) ∙ z);
+    once = distinct_of son_key ps sons (keyed son_key sons N.sons) S.sons;
+  })
+
+  pub noted-end : Distinct names → Awaited sons states → Enrolled c T R ps (record { used = used; states = states; priorities = priorities })
+  noted-end D A = record {
+    sound = record {
+      fitting = λ k l. N.fitting k (omega arith);
+      names = apart_of name_key ps names (keyed name_key names N.names) D;
+      live = λ k l n z.
+          A.live k l (λ y. n (sym (N.sons.each k (omega arith)) ∙ y)) (son-state k l (N.sons.each k (omega arith)) ∙ z);
+      sons = apart_of son_key ps sons (keyed son_key sons N.sons) A.once;
     };
-    marked = λ e. keyed used_key used N.used;
-    columns = λ e. record {
+    marked = keyed used_key used N.used;
+    columns = record {
       states = keyed (λ (r : Program). r.state) states N.states;
       priorities = keyed (λ (r : Program). r.priority) priorities N.priorities;
     };
