@@ -34,10 +34,6 @@ remove-keep p (q ∷ qs) h = go (eqb q p) refl (remove-keep p qs (omega arith))
     go true e ih = sym (remove_absent p qs (omega (arith, ap (same p) (eqb-true q p e), same_refl p))) ∙ ih
     go false e ih = ap (λ (xs : List ℕ). q ∷ xs) ih
 
--- two tests that agree keep the same
-pub keep-alike : (f g : ℕ → Bool) (c : List ℕ) → ((q : ℕ) → f q ≡ g q) → keep f c ≡ keep g c
-keep-alike f g c h = ap (λ (t : ℕ → Bool). keep t c) (λ i q. h q i)
-
 -- those listed are known
 pub listed-known : (ids : List ℕ) (len i : ℕ) → Listed ids len → i < length (take len ids) → Known (get_or (take len ids) i 0)
 listed-known ids len i L h = L.known (get_or (take len ids) i 0) (count_at (take len ids) i h)
