@@ -2,7 +2,7 @@
 // 7 + p the link of program p. A link is the number of the program that comes next, or 0 for the end.
 #![tactic(auto)]
 
-ghost use Rattle.std.specs.Prelude.{◌≡◌, ◌<◌, [], get_or};
+ghost use Rattle.std.specs.Prelude.{◌≡◌, ◌+◌, ◌<◌, ◌≤◌, [], get_or, replicate, set, take};
 ghost use Rattle.limits.specs.Limits.{most_programs};
 ghost use Rattle.chains.specs.Links.{walk, read};
 ghost use Rattle.chains.specs.Inner.{Laid, entered, left, prio_in, place, before, CanEnter, CanLeave, Lists};
@@ -88,29 +88,55 @@ pub fn link(links: [u8; SLOTS], at: usize) -> u8
     if at < SLOTS { links[at] } else { 0 }
 }
 
-// Programs in order: the first `len` of `ids`.
+// Programs in order, 32 at most: the first `len` of `ids`.
 #[derive(Clone, Copy)]
 pub struct Listing {
     pub ids: [u8; MOST_PROGRAMS],
     pub len: usize,
+    pub ghost within: { len ≤ most_programs },
+}
+
+impl Listing {
+    pub fn empty() -> Listing
+        ensures ids { result.ids ≡ replicate most_programs 0 }
+        ensures len { result.len ≡ 0 }
+    {
+        Listing {
+            ids: [0; MOST_PROGRAMS],
+            len: 0,
+        }
+    }
+
+    pub fn as_slice(&self) -> &[u8]
+        ensures { result.now ≡ take self.now.len self.now.ids }
+    {
+        &self.ids[..self.len]
+    }
+
+    // p comes behind the others.
+    pub fn push(&mut self, p: u8)
+        requires { self.old.len < most_programs }
+        ensures ids { self.new.ids ≡ set self.old.ids self.old.len p }
+        ensures len { self.new.len ≡ self.old.len + 1 }
+    {
+        self.ids[self.len] = p;
+        self.len += 1;
+    }
 }
 
 // The chain that begins at a slot, as far as 32 programs: of any links.
 pub fn chain_of(links: [u8; SLOTS], state: usize) -> Listing
     ensures { Lists result.ids result.len (walk links state most_programs) }
 {
-    let mut ids: [u8; MOST_PROGRAMS] = [0; MOST_PROGRAMS];
+    let mut chain = Listing::empty();
     let mut at = state;
-    for len in 0..MOST_PROGRAMS {
+    for _ in 0..MOST_PROGRAMS {
         let n = link(links, at);
         if n == 0 {
-            return Listing { ids, len };
+            return chain;
         }
-        ids[len] = n;
+        chain.push(n);
         at = STATES + n as usize;
     }
-    Listing {
-        ids,
-        len: MOST_PROGRAMS,
-    }
+    chain
 }

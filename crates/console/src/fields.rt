@@ -4,7 +4,6 @@ ghost use Rattle.limits.specs.Limits.{longest_line};
 ghost use Rattle.console.specs.Inner.{NumbersRead, NameRead};
 
 use limits::USUAL_YEAR;
-use records::Name;
 use text::Number;
 
 const YEAR: u64 = USUAL_YEAR as u64;
@@ -61,7 +60,7 @@ pub(crate) fn name_field(s: &[u8], at: usize) -> NameField
         return NameField::Not;
     }
     let end = text::part_end(s, at, b',');
-    let Name::Is(a, b, c, d, e) = records::read_name(s, at, end) else {
+    let Some([a, b, c, d, e]) = records::read_name(&s[at..end]) else {
         return NameField::Not;
     };
     NameField::Is(a, b, c, d, e, end + 1)

@@ -12,9 +12,7 @@ use Rattle.lists.specs.Lists.{count, up_to}
 use Rattle.lists.proofs.Tests.{both, and, up_to-true, up_to-is}
 use Rattle.records.specs.declared.Why.TheVariants.{Tracks}
 use Rattle.tracks.specs.declared.Tracks as table
-use Rattle.tracks.specs.declared.Found.{Found}
-use Rattle.tracks.specs.declared.Found.TheVariants.{At}
-use Rattle.tracks.specs.declared.Found.TheVariants as found
+use Rattle.std.specs.Prelude.{Option, Some, None}
 use Rattle.tracks.specs.Tracks.{nobody, holders, run, lowest, filled, replaced}
 use Rattle.tracks.specs.Inner.{Fit, found_is}
 use Rattle.tracks.proofs.Runs.{lowest-found}
@@ -41,7 +39,7 @@ module _ (v : View) (c h n w : ℕ) where
       let q = up_to-true 1 v.book.tracks n p.0 in
       f (record { least = q.0; most = q.1; waits = leb-true w 1 p.1 }))
 
-  module _ (x : table.Tracks) (O : OfTracks v x) (A : Allowed v.book.tracks n w) (f : Found)
+  module _ (x : table.Tracks) (O : OfTracks v x) (A : Allowed v.book.tracks n w) (f : Option ℕ)
       (F : found_is f ≡ lowest n 0 (holders x)) where
     allowed : (up_to 1 v.book.tracks n && leb w 1) ≡ true
     allowed = and (up_to-is 1 v.book.tracks n A.least A.most) (le-leb w 1 A.waits)
@@ -49,16 +47,16 @@ module _ (v : View) (c h n w : ℕ) where
     there : lowest n 0 v.book.holders ≡ found_is f
     there = ap (lowest n 0) O.held ∙ sym F
 
-    pub takes-waits : f ≡ found.Nothing → takes v c h n w ≡ waits c w 5 (Tracks n)
+    pub takes-waits : f ≡ None → takes v c h n w ≡ waits c w 5 (Tracks n)
     unfolding takes
     takes-waits e = need-met 3 0 _ allowed ∙ found_none (lowest n 0 v.book.holders) _ _ (there ∙ ap found_is e)
 
-    module _ (i : ℕ) (e : f ≡ At i) where
+    module _ (i : ℕ) (e : f ≡ Some i) where
       pub takes-done : takes v c h n w ≡ done (i ∷ []) (held (filled i n h v.book.holders) ∷ [])
       unfolding takes
       takes-done = need-met 3 0 _ allowed ∙ found_at (lowest n 0 v.book.holders) i _ _ (there ∙ ap found_is e)
 
-pub takes-room : (x : table.Tracks) (n i : ℕ) (f : Found) → Fit x → 1 ≤ n → found_is f ≡ lowest n 0 (holders x) → f ≡ At i → i + n ≤ x.count
+pub takes-room : (x : table.Tracks) (n i : ℕ) (f : Option ℕ) → Fit x → 1 ≤ n → found_is f ≡ lowest n 0 (holders x) → f ≡ Some i → i + n ≤ x.count
 takes-room x n i f fit l F e = omega (arith, (lowest-found n (holders x) i l (sym F ∙ ap found_is e)).there.within, fit.long)
 
 -- of T tracks, n from start on are there

@@ -10,7 +10,7 @@ use super::{Decision, Effect, stay, waits};
 use limits::DISC;
 use records::Why;
 use rules::Answer;
-use tracks::{Found, Tracks};
+use tracks::Tracks;
 
 // EXEC 4 and 15: the lowest run of n free tracks becomes h's.
 pub(crate) fn takes(tracks: Tracks, c: u8, h: u8, n: u64, w: u64) -> Decision
@@ -27,8 +27,7 @@ pub(crate) fn takes(tracks: Tracks, c: u8, h: u8, n: u64, w: u64) -> Decision
         return stay(Answer::NotAllowed);
     }
     let size = n as usize;
-    let found = tracks.lowest_run(size);
-    let Found::At(i) = found else {
+    let Some(i) = tracks.lowest_run(size) else {
         return waits(c, w, DISC, Why::Tracks(n as u16));
     };
     Decision {

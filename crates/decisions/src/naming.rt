@@ -100,10 +100,9 @@ pub(crate) fn find(programs: [Program; MOST_PROGRAMS], name: [u8; 5]) -> Named
     if !records::is_legal(name) {
         return Named::Illegal;
     }
-    let p = records::find_program(programs, name);
-    if p == 0 {
+    let Some(p) = records::find_program(programs, name) else {
         return Named::Missing;
-    }
+    };
     Named::Is(p)
 }
 
@@ -237,13 +236,12 @@ pub(crate) fn loads(programs: [Program; MOST_PROGRAMS], name: [u8; 5], priority:
     if (LAST_PRIORITY as u64) < priority {
         return stay(Answer::NotAllowed);
     }
-    if records::find_program(programs, name) != 0 {
+    if records::find_program(programs, name).is_some() {
         return stay(Answer::NameInUse);
     }
-    let p = records::lowest_unused(programs);
-    if p == 0 {
+    let Some(p) = records::lowest_unused(programs) else {
         return stay(Answer::AllUsed);
-    }
+    };
     Decision {
         answer: Answer::Done(p as u64),
         effect: Effect::Load(p, priority as u16),

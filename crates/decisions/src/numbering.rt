@@ -57,10 +57,9 @@ pub(crate) fn allocates(numbers: Numbers, c: u8, global: bool, w: u64) -> Decisi
     if 1 < w {
         return stay(Answer::NotAllowed);
     }
-    let r = numbers.lowest_free();
-    if r == 0 {
+    let Some(r) = numbers.lowest_free() else {
         return waits(c, w, GENERAL, Why::Number);
-    }
+    };
     Decision {
         answer: Answer::Done(r as u64),
         effect: Effect::Number(r, owner_of(global, c), 0),

@@ -3,11 +3,20 @@
 use Prim.Native.Nat.{ℕ, zero, suc, ◌+◌, ◌-◌, ◌≤◌, ◌<◌}
 use native.Mathlib.Omega.{arith}
 use mathlib.Core.Path.{◌≡◌, refl, sym, ap, ◌∙◌}
+use mathlib.Core.Logic.{◌≢◌}
 use mathlib.Core.Bool.{Bool, true, false, cond, ◌||◌}
 use mathlib.Core.List.{List, [], ◌∷◌}
-use lib.Dec.{ltb}
-use borrow.Author.Tests.{lt-ltb}
+use lib.Dec.{eqb, ltb}
+use lib.ListN.{length, get_or}
+use borrow.Author.Tests.{lt-ltb, ne_eqb}
+use Rattle.std.specs.Prelude.{Option, Some, None, is_some}
+use Rattle.std.proofs.lemmas.Option.{none-some, same_Some}
+use Rattle.std.specs.Option.{option_map}
+use Rattle.std.specs.List.{position, position_from}
+use Rattle.std.proofs.lemmas.Iterator.Adapters.{position_from-zero}
+use Rattle.lists.proofs.Tests.{false-true}
 use Rattle.lists.specs.Lists.{first, any, from}
+use Rattle.records.specs.Inner.{unless_0}
 
 -- the numbers p to n
 abbrev pub span : ℕ → ℕ → List ℕ
@@ -55,3 +64,48 @@ any-first f p (suc n) h = go (f p) (any-first f (suc p) n (omega arith))
         → ltb 0 (cond b p (first f (from (suc p) n))) ≡ (b || any f (from (suc p) n))
     go true ih = lt-ltb 0 p (omega arith)
     go false ih = ih
+
+-- the first number that passes stands one behind the first place that does
+places : {A : Type 0} (f : A → Bool) (g : ℕ → Bool) (i : ℕ) (zs : List A) (d : A)
+    → ((k : ℕ) → k < length zs → g (i + 1 + k) ≡ f (get_or zs k d))
+    → unless_0 (first g (from (i + 1) (length zs))) ≡ option_map (λ k. k + 1) (position_from f i zs)
+places f g i [] d h = refl
+places f g i (z ∷ zs) d h =
+    let e : g (i + 1) ≡ f z = grind (arith, h 0 (omega arith)) in
+    let t = places f g (i + 1) zs d (λ k l. let n : i + 1 + 1 + k ≡ i + 1 + suc k = omega arith in rw n (h (suc k) (omega arith))) in
+    go (f z) e t
+  where
+    go : (b : Bool) → g (i + 1) ≡ b → unless_0 (first g (from (i + 1 + 1) (length zs))) ≡ option_map (λ k. k + 1) (position_from f (i + 1) zs)
+        → unless_0 (cond (g (i + 1)) (i + 1) (first g (from (suc (i + 1)) (length zs)))) ≡ option_map (λ k. k + 1) (cond b (Some i) (position_from f (i + 1) zs))
+    go true e t = let n : eqb (i + 1) 0 ≡ false = ne_eqb (i + 1) 0 (λ z. omega arith) in rw (e, n) refl
+    go false e t = let n : suc (i + 1) ≡ i + 1 + 1 = omega arith in rw (e, n) t
+
+pub first-place : {A : Type 0} (f : A → Bool) (xs : List A) (d : A) (n : ℕ) → length xs ≡ n
+    → unless_0 (first (λ p. f (get_or xs (p - 1) d)) (from 1 n)) ≡ option_map (λ k. k + 1) (position f xs)
+first-place f xs d n e =
+    ap (λ (m : ℕ). unless_0 (first (λ p. f (get_or xs (p - 1) d)) (from 1 m))) (sym e)
+    ∙ places f (λ p. f (get_or xs (p - 1) d)) 0 xs d (λ k l. let e : 0 + 1 + k - 1 ≡ k = omega arith in rw e refl)
+    ∙ ap (option_map (λ k. k + 1)) (sym (position_from-zero f xs))
+
+-- a number is there where it is not 0
+unless-suc : (n : ℕ) → unless_0 (suc n) ≡ Some (suc n)
+unless-suc n = ap (λ (b : Bool). cond b None (Some (suc n))) (ne_eqb (suc n) 0 (λ e. omega arith))
+
+pub some-unless : (n : ℕ) → is_some (unless_0 n) ≡ ltb 0 n
+some-unless zero = refl
+some-unless (suc n) = ap (λ (o : Option ℕ). is_some o) (unless-suc n) ∙ sym (lt-ltb 0 (suc n) (omega arith))
+
+pub unless-none : (n : ℕ) → None ≡ unless_0 n → n ≡ 0
+unless-none zero e = refl
+unless-none (suc n) e = absurd (none-some (suc n) (e ∙ unless-suc n))
+
+pub unless-some : (n p : ℕ) → Some p ≡ unless_0 n → (p ≡ n) × (p ≢ 0)
+unless-some zero p e = absurd (none-some p (sym e))
+unless-some (suc n) p e = let h : p ≡ suc n = same_Some p (suc n) (e ∙ unless-suc n) in (h, λ z. omega (arith, h, z))
+
+pub unless-no : (n : ℕ) → is_some (unless_0 n) ≡ false → n ≡ 0
+unless-no zero e = refl
+unless-no (suc n) e = absurd (false-true (sym e ∙ ap (λ (o : Option ℕ). is_some o) (unless-suc n)))
+
+pub unless-yes : (n : ℕ) → is_some (unless_0 n) ≡ true → n ≢ 0
+unless-yes n e z = false-true (ap (λ (k : ℕ). is_some (unless_0 k)) (sym z) ∙ e)

@@ -4,12 +4,13 @@ use Prim.Native.Nat.{ℕ, zero, suc, ◌+◌, ◌-◌, ◌≤◌, ◌<◌}
 use native.Mathlib.Omega.{arith}
 use native.Mathlib.Decide.{ℕ_discrete}
 use native.Mathlib.Nat.{min-le_left}
-use mathlib.Core.Path.{◌≡◌, refl, sym, ap, ◌∙◌}
-use mathlib.Core.Bool.{Bool, true, false, ◌||◌}
+use mathlib.Core.Path.{◌≡◌, refl, sym, ap, ap₂, ◌∙◌}
+use mathlib.Core.Bool.{Bool, true, false, cond, ◌||◌}
+use Rattle.std.proofs.lemmas.List.{map-append}
 use mathlib.Core.List.{List, [], ◌∷◌, ◌++◌, map, append-nil, append_cancel_left}
 use lib.Dec.{eqb}
 use lib.ListN.{length, get_or, set, take, drop, replicate, length-append, length-take, length-set, length-map, length-replicate}
-use lib.ListN.{take-append-drop, replicate-append-replicate, get_or-eq_default}
+use lib.ListN.{take-append-drop, drop_of_length-le, replicate-append-replicate, get_or-eq_default}
 use lib.Seq.{take_at, take_all, get_or-take, take-set-lt, drop-set-lt}
 use borrow.Author.Tests.{eq-eqb, ne_eqb}
 use Rattle.records.specs.declared.Resource.{Resource}
@@ -122,10 +123,26 @@ changed-next f i xs ys y e g =
     ∙ changed-suc f i xs
     ∙ ap (λ (j : ℕ). changed f j xs) (let s : suc i ≡ i + 1 = omega arith in s)
 
-pub changed-all : (t : Numbers) (f : Resource → Resource) (i : ℕ) → Fit t → i ≡ t.count
-    → changed f i t.resources ≡ map f (resources t) ++ behind t.count
-changed-all t f i F e =
-    ap (λ (j : ℕ). changed f j t.resources) e ∙ ap (λ (ys : List Resource). map f (resources t) ++ ys) (fit-behind t F)
+-- all changed, the blanks too, which stay blanks
+without-free : (p : ℕ) → without p free ≡ free
+without-free p = go (eqb 0 p)
+  where
+    go : (b : Bool) → cond b free (cond b free free) ≡ free
+    go true = refl
+    go false = refl
+
+without-behind : (p n : ℕ) → map (without p) (replicate n free) ≡ replicate n free
+without-behind p zero = refl
+without-behind p (suc n) = ap₂ (λ (x : Resource) (xs : List Resource). x ∷ xs) (without-free p) (without-behind p n)
+
+pub changed-all : (t : Numbers) (p i : ℕ) → Fit t → length t.resources ≤ i
+    → changed (without p) i t.resources ≡ map (without p) (resources t) ++ behind t.count
+changed-all t p i F e =
+    ap (λ (ys : List Resource). map (without p) (take i t.resources) ++ ys) (drop_of_length-le t.resources {i = i} e)
+    ∙ append-nil (map (without p) (take i t.resources))
+    ∙ ap (map (without p)) (take_all i t.resources e ∙ fit-list t F)
+    ∙ map-append (without p) (resources t) (behind t.count)
+    ∙ ap (λ (ys : List Resource). map (without p) (resources t) ++ ys) (without-behind p (16 - t.count))
 
 module _ (t : Numbers) (p : ℕ) (F : Fit t) where
   pub resources-without : resources (table_of t.count (map (without p) (resources t))) ≡ map (without p) (resources t)

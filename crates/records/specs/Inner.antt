@@ -1,17 +1,19 @@
 -- What inner functions ask and promise; nothing here need be believed for the calls.
 -- Assumes nothing.
-use Rattle.std.specs.Prelude.{ℕ, ◌≤◌, ◌≡◌, List, [], ◌∷◌}
-use Rattle.std.proofs.Math.Option.{Option, none, some}
+use Rattle.std.specs.Prelude.{ℕ, ◌≤◌, ◌≡◌, cond, List, eqb, Option, Some, None}
+use Rattle.std.proofs.Math.Option as maybe
 use Rattle.limits.specs.Limits.{most_numbers}
-use Rattle.records.specs.declared.Name.{Name}
-use Rattle.records.specs.declared.Name.TheVariants.{Is, Not}
 use Rattle.records.specs.declared.Numbers.{Numbers}
 use Rattle.records.specs.Numbers.{resources, table_of}
 
 -- a name that was read, or none
-abbrev pub named : Name → Option (List ℕ)
-named (Is a b c d e) = some (a ∷ b ∷ c ∷ d ∷ e ∷ [])
-named Not = none
+abbrev pub named : Option (List ℕ) → maybe.Option (List ℕ)
+named (Some nm) = maybe.some nm
+named None = maybe.none
+
+-- a number that is found, where 0 says that there is none
+abbrev pub unless_0 : ℕ → Option ℕ
+unless_0 n = cond (eqb n 0) None (Some n)
 
 -- a table of numbers as it is made: 16 at most, blank behind
 pub record Fit (t : Numbers) : Type 0 where

@@ -1,15 +1,15 @@
 // A program's record, why it waits, and a resource number.
 #![tactic(auto)]
 
-ghost use Rattle.std.specs.Prelude.{◌≡◌, ◌&&◌, ◌||◌, map, ◌≤◌, eqb, length, drop, replicate};
-ghost use Rattle.std.proofs.Math.Seq.{slice};
+ghost use Rattle.std.specs.List.{position, list_all, prefix_len};
+ghost use Rattle.std.specs.Prelude.{◌≡◌, ◌==◌, not, ◌<◌, IfSome, ◌&&◌, ◌||◌, map, ◌≤◌, eqb, length, drop, replicate};
 ghost use Rattle.limits.specs.Limits.{most_numbers};
 ghost use Rattle.lists.specs.Lists.{alike, any, every, first, from};
 ghost use Rattle.records.specs.Names.{letter, digit, blank, legal, name_of};
 ghost use Rattle.records.specs.Records.{unused, newcomer, in_state, with_priority, with_timer, with_mark, in_wait, wait_over};
 ghost use Rattle.records.specs.Records.{find, lowest_unused};
 ghost use Rattle.records.specs.Numbers.{free, resources, table_of, number_at, with_number, concerns, without};
-ghost use Rattle.records.specs.Inner.{named, Fit, Within};
+ghost use Rattle.records.specs.Inner.{named, unless_0, Fit, Within};
 
 use limits::{DISC, DORMANT, GENERAL, MOST_NUMBERS, MOST_PROGRAMS, SCHEDULED, SUSPENDED};
 
@@ -54,122 +54,83 @@ pub struct Numbers {
 fn is_letter(c: u8) -> bool
     ensures { result ≡ letter c }
 {
-    if c < 65 {
-        return false;
-    }
-    c <= 90
+    c.is_ascii_uppercase()
 }
 
 fn is_digit(c: u8) -> bool
     ensures { result ≡ digit c }
 {
-    if c < 48 {
-        return false;
-    }
-    c <= 57
+    c.is_ascii_digit()
 }
 
 fn is_letter_or_digit(c: u8) -> bool
     ensures { result ≡ (letter c || digit c) }
 {
-    if is_letter(c) {
-        return true;
-    }
-    is_digit(c)
+    is_letter(c) || is_digit(c)
 }
 
-// Blanks from `start` to the end.
-fn is_blank_from(name: [u8; 5], start: usize) -> bool
-    ensures { result ≡ every blank (drop start name) }
+fn is_rest(s: &[u8]) -> bool
+    ensures { result ≡ list_all (λ c. c == 32) (drop (prefix_len (λ c. letter c || digit c) s.now) s.now) }
 {
-    for i in start..5 {
-        if name[i] != 32 {
-            return false;
-        }
-    }
-    true
+    s.iter()
+        .skip_while(|c| is_letter_or_digit(**c))
+        .all(|c| *c == b' ')
 }
 
 // A letter, letters or digits, and blanks at the end.
 pub fn is_legal(name: [u8; 5]) -> bool
     ensures { result ≡ legal name }
 {
-    if !is_letter(name[0]) {
-        return false;
-    }
-    for i in 1..5 {
-        if !is_letter_or_digit(name[i]) {
-            return is_blank_from(name, i);
-        }
-    }
-    true
+    is_letter(name[0]) && is_rest(&name[1..])
 }
 
-// The five bytes of a name, or none where the bytes are not one.
-#[derive(Clone, Copy)]
-pub enum Name {
-    Is(u8, u8, u8, u8, u8),
-    Not,
-}
-
-// s[from..to] as a name without its blanks.
-pub fn read_name(s: &[u8], from: usize, to: usize) -> Name
-    requires from_le_to { from ≤ to }
-    requires to_in_bounds { to ≤ length s.now }
-    ensures { named result ≡ name_of (slice from to s.now) }
+// Those bytes as a name, blanks behind them; none where they are not one.
+pub fn read_name(s: &[u8]) -> Option<[u8; 5]>
+    ensures { named result ≡ name_of s.now }
 {
-    if 5 < to - from {
-        return Name::Not;
-    }
     let mut name = [b' '; 5];
-    for i in from..to {
-        let c = s[i];
-        if c == b' ' {
-            return Name::Not;
-        }
-        name[i - from] = c;
+    if name.len() < s.len() || s.contains(&b' ') {
+        return None;
     }
+    name[..s.len()].copy_from_slice(s);
     if !is_legal(name) {
-        return Name::Not;
+        return None;
     }
-    Name::Is(name[0], name[1], name[2], name[3], name[4])
+    Some(name)
 }
 
 pub fn same_name(a: [u8; 5], b: [u8; 5]) -> bool
     ensures { result ≡ alike a b }
 {
-    for i in 0..5 {
-        if a[i] != b[i] {
-            return false;
-        }
-    }
-    true
+    a == b
 }
 
-// The number of the program of that name, or 0.
-pub fn find_program(programs: [Program; MOST_PROGRAMS], name: [u8; 5]) -> u8
-    ensures { result ≡ find programs name }
+fn place_named(programs: &[Program], name: [u8; 5]) -> Option<usize>
+    ensures place { result ≡ position (λ r. r.used && alike r.name name) programs.now }
+    ensures within { IfSome result (λ i. i < length programs.now) }
 {
-    for p in 1..=MOST_PROGRAMS {
-        let r = programs[p - 1];
-        if r.is_named(name) {
-            return p as u8;
-        }
-    }
-    0
+    programs.iter().position(|r| r.is_named(name))
 }
 
-// The lowest number that no program has, or 0.
-pub fn lowest_unused(programs: [Program; MOST_PROGRAMS]) -> u8
-    ensures { result ≡ lowest_unused programs }
+// The number of the program of that name.
+pub fn find_program(programs: [Program; MOST_PROGRAMS], name: [u8; 5]) -> Option<u8>
+    ensures { result ≡ unless_0 (find programs name) }
 {
-    for p in 1..=MOST_PROGRAMS {
-        let r = programs[p - 1];
-        if !r.used {
-            return p as u8;
-        }
-    }
-    0
+    place_named(&programs, name).map(|i| i as u8 + 1)
+}
+
+fn place_unused(programs: &[Program]) -> Option<usize>
+    ensures place { result ≡ position (λ r. not r.used) programs.now }
+    ensures within { IfSome result (λ i. i < length programs.now) }
+{
+    programs.iter().position(|r| !r.used)
+}
+
+// The lowest number that no program has.
+pub fn lowest_unused(programs: [Program; MOST_PROGRAMS]) -> Option<u8>
+    ensures { result ≡ unless_0 (lowest_unused programs) }
+{
+    place_unused(&programs).map(|i| i as u8 + 1)
 }
 
 pub fn unused_record() -> Program
@@ -207,28 +168,18 @@ impl Program {
     fn is_named(self, name: [u8; 5]) -> bool
         ensures { result ≡ (self.used && alike self.name name) }
     {
-        if !self.used {
-            return false;
-        }
-        let own = self.name;
-        same_name(own, name)
+        self.used && same_name(self.name, name)
     }
 
     // The mark goes with the state that it stood in.
     pub fn in_state(self, state: u8, why: Why) -> Program
         ensures { result ≡ in_state state why self }
     {
-        let name = self.name;
-        let suspend = false;
         Program {
-            used: self.used,
-            name,
-            priority: self.priority,
             state,
             why,
-            due: self.due,
-            interval: self.interval,
-            suspend,
+            suspend: false,
+            ..self
         }
     }
 
@@ -269,10 +220,7 @@ impl Program {
 pub fn in_wait(state: u8) -> bool
     ensures { result ≡ in_wait state }
 {
-    if state == GENERAL {
-        return true;
-    }
-    state == DISC
+    state == GENERAL || state == DISC
 }
 
 impl Resource {
@@ -286,10 +234,7 @@ impl Resource {
     pub fn concerns(self, p: u8) -> bool
         ensures { result ≡ concerns p self }
     {
-        if self.owner == p {
-            return true;
-        }
-        self.lock == p
+        self.owner == p || self.lock == p
     }
 
     // What is left of the number when p ends.
@@ -328,25 +273,28 @@ impl Numbers {
         self.resources[r - 1]
     }
 
-    // The lowest number that p owns, or 0; nobody owns a free one.
-    fn lowest_of(self, p: u8) -> usize
+    fn place_owned(self, p: u8) -> Option<usize>
         requires { Fit self }
-        ensures { result ≡ first (λ r. eqb (number_at (resources self) r).owner p) (from 1 self.count) }
+        ensures place { result ≡ position (λ x. eqb x.owner p) (resources self) }
+        ensures within { IfSome result (λ i. i < length (resources self)) }
     {
-        let count = self.count as usize;
-        for r in 1..=count {
-            let x = self.number(r);
-            if x.owner == p {
-                return r;
-            }
-        }
-        0
+        self.resources[..self.count as usize]
+            .iter()
+            .position(|x| x.owner == p)
     }
 
-    // The lowest free number, or 0.
-    pub fn lowest_free(self) -> usize
+    // The lowest number that p owns; nobody owns a free one.
+    fn lowest_of(self, p: u8) -> Option<usize>
         requires { Fit self }
-        ensures { result ≡ first (λ r. eqb (number_at (resources self) r).owner 0) (from 1 self.count) }
+        ensures { result ≡ unless_0 (first (λ r. eqb (number_at (resources self) r).owner p) (from 1 self.count)) }
+    {
+        self.place_owned(p).map(|i| i + 1)
+    }
+
+    // The lowest free number.
+    pub fn lowest_free(self) -> Option<usize>
+        requires { Fit self }
+        ensures { result ≡ unless_0 (first (λ r. eqb (number_at (resources self) r).owner 0) (from 1 self.count)) }
     {
         self.lowest_of(0)
     }
@@ -364,22 +312,17 @@ impl Numbers {
         requires { Fit self }
         ensures { result ≡ table_of self.count (map (without p) (resources self)) }
     {
-        let count = self.count as usize;
         let mut resources = self.resources;
-        for i in 0..count {
-            let x = resources[i];
-            resources[i] = x.without(p);
+        for x in &mut resources {
+            *x = x.without(p);
         }
-        Numbers {
-            count: self.count,
-            resources,
-        }
+        Numbers { resources, ..self }
     }
 
     pub fn owns_any(self, p: u8) -> bool
         requires { Fit self }
         ensures { result ≡ any (λ r. eqb (number_at (resources self) r).owner p) (from 1 self.count) }
     {
-        0 < self.lowest_of(p)
+        self.lowest_of(p).is_some()
     }
 }

@@ -6,7 +6,6 @@ ghost use Rattle.shapes.specs.Inner.{unbroken, ValueAt, FigureAt, NameAt, Reason
 use super::values;
 use super::values::{Figure, Reason, Resource, Run};
 use page::keys;
-use records::Name;
 use text::Place;
 
 // Where the value of a line begins and ends.
@@ -69,7 +68,7 @@ pub fn name_at(s: &[u8], at: usize, key: &[u8]) -> NameLine
     let Value::Is(from, to) = value_at(s, at, key) else {
         return NameLine::Not;
     };
-    let Name::Is(a, b, c, d, e) = records::read_name(s, from, to) else {
+    let Some([a, b, c, d, e]) = records::read_name(&s[from..to]) else {
         return NameLine::Not;
     };
     NameLine::Is(a, b, c, d, e, to + 1)

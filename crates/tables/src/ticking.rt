@@ -12,7 +12,7 @@ use super::{Counted, Outcome, Tables, asking};
 use limits::{MOST_PROGRAMS, SCHEDULED};
 use records::Why;
 use rules::Answer;
-use timers::Span;
+use timers::NoSpan;
 
 impl Tables {
     // The clock stands at `now`, and every timer that fell due by then has moved on beyond it, or is gone.
@@ -97,11 +97,10 @@ impl Tables {
         ensures { told result ≡ many_ticks self n }
     {
         let book = self.ledger;
-        let span = timers::span_of(book.clock.ticks, n);
-        match span {
-            Span::NotAllowed => self.refused(Answer::NotAllowed),
-            Span::AtCeiling => self.refused(Answer::AtCeiling),
-            Span::To(end) => asking::count_of(self.ticked_to(end)),
+        match timers::span_of(book.clock.ticks, n) {
+            Err(NoSpan::NotAllowed) => self.refused(Answer::NotAllowed),
+            Err(NoSpan::AtCeiling) => self.refused(Answer::AtCeiling),
+            Ok(end) => asking::count_of(self.ticked_to(end)),
         }
     }
 

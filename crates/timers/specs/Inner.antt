@@ -1,7 +1,7 @@
 -- What inner functions ask and promise of timers, and what ticks come to where they are made in one move; nothing here need be believed for
 -- the calls.
 -- Assumes nothing.
-use Rattle.std.specs.Prelude.{ℕ, zero, suc, ◌+◌, ◌-◌, ◌*◌, ◌/◌, ◌≤◌, ◌≡◌, Bool, true, false, cond, ◌&&◌, List, [], ◌∷◌, map, length, get_or, set, leb, ltb, eqb}
+use Rattle.std.specs.Prelude.{ℕ, zero, suc, ◌+◌, ◌-◌, ◌*◌, ◌/◌, ◌≤◌, ◌≡◌, Bool, true, false, cond, ◌&&◌, List, [], ◌∷◌, map, length, get_or, set, leb, ltb, eqb, Result, Ok, Err}
 use Rattle.limits.specs.Limits.{dormant, scheduled, most_ticks}
 use Rattle.lists.specs.Lists.{sum, keep, insert, join, up_to}
 use Rattle.clock.specs.Clock.{ceiling}
@@ -12,8 +12,8 @@ use Rattle.rules.specs.Book.{Book, at, state_of, prio_of, altered}
 use Rattle.rules.specs.Requests.{TICK}
 use Rattle.rules.specs.Plans.{Event, on, becomes, values_of}
 use Rattle.rules.specs.Keeper.{lists, State, asks, after}
-use Rattle.timers.specs.declared.Span.{Span}
-use Rattle.timers.specs.declared.Span.TheVariants.{To, NotAllowed, AtCeiling}
+use Rattle.timers.specs.declared.NoSpan.{NoSpan}
+use Rattle.timers.specs.declared.NoSpan.TheVariants.{NotAllowed, AtCeiling}
 
 -- the timer of a record falls due by the time the clock stands at `now`
 unfoldable pub falls_due : ℕ → Program → Bool
@@ -93,9 +93,9 @@ abbrev pub CanMoveAll : ℕ → List Program → Type 0
 CanMoveAll now ps = (i : ℕ) → CanMove now (get_or ps i missing)
 
 -- what n ticks come to before any is made
-unfoldable pub span_of : ℕ → ℕ → Span
+unfoldable pub span_of : ℕ → ℕ → Result ℕ NoSpan
 span_of clock n =
     elim (up_to 1 most_ticks n) [
-      | true ↦ elim (leb (clock + n) ceiling) [ true ↦ To (clock + n) | false ↦ AtCeiling ]
-      | false ↦ NotAllowed
+      | true ↦ elim (leb (clock + n) ceiling) [ true ↦ Ok (clock + n) | false ↦ Err AtCeiling ]
+      | false ↦ Err NotAllowed
     ]

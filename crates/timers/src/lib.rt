@@ -9,28 +9,25 @@ use clock::Clock;
 use limits::{DORMANT, MOST_PROGRAMS, MOST_TICKS};
 use records::Program;
 
-// What n ticks come to, before any is made: the clock's reading after them; or n is not allowed; or they would pass the ceiling.
-#[derive(Clone, Copy)]
-pub enum Span {
-    To(u64),
+// Why n ticks are not made: n is not allowed, or they would pass the clock's ceiling.
+#[derive(Clone, Copy, PartialEq, Eq, Debug)]
+pub enum NoSpan {
     NotAllowed,
     AtCeiling,
 }
 
-pub fn span_of(clock: u64, n: u64) -> Span
+// The clock's reading after n ticks, before any is made.
+pub fn span_of(clock: u64, n: u64) -> Result<u64, NoSpan>
     requires { clock ≤ ceiling }
     ensures { result ≡ span_of clock n }
 {
-    if n == 0 {
-        return Span::NotAllowed;
-    }
-    if MOST_TICKS < n {
-        return Span::NotAllowed;
+    if n == 0 || MOST_TICKS < n {
+        return Err(NoSpan::NotAllowed);
     }
     if Clock::CEILING - clock < n {
-        return Span::AtCeiling;
+        return Err(NoSpan::AtCeiling);
     }
-    Span::To(clock + n)
+    Ok(clock + n)
 }
 
 // Whether a record's timer falls due by the time the clock stands at `now`.

@@ -1,12 +1,10 @@
 -- What inner functions ask and promise; nothing here need be believed for the calls.
 -- Assumes nothing.
-use Rattle.std.specs.Prelude.{ℕ, ◌+◌, ◌≤◌, ◌<◌, ◌≡◌, Bool, true, false, List, ◌∷◌, length, get_or, drop}
-use Rattle.std.proofs.Math.Option.{Option, none, some}
+use Rattle.std.specs.Prelude.{ℕ, ◌+◌, ◌≤◌, ◌<◌, ◌≡◌, Bool, true, false, List, ◌∷◌, length, get_or, drop, Option, Some, None}
+use Rattle.std.proofs.Math.Option as maybe
 use Rattle.limits.specs.Limits.{most_tracks}
 use Rattle.tracks.specs.declared.Tracks.{Tracks}
 use Rattle.tracks.specs.declared.held.Run.{Run}
-use Rattle.tracks.specs.declared.Found.{Found}
-use Rattle.tracks.specs.declared.Found.TheVariants.{At, Nothing}
 use Rattle.tracks.specs.Tracks.{nobody, system, places, holders, table_of}
 use Rattle.tracks.specs.Runs.{runs_of}
 
@@ -28,9 +26,9 @@ pub record Sizes (T S : ℕ) : Type 0 where
   pub part : S ≤ T
 
 -- what a search found
-abbrev pub found_is : Found → Option ℕ
-found_is (At i) = some i
-found_is Nothing = none
+abbrev pub found_is : Option ℕ → maybe.Option ℕ
+found_is (Some i) = maybe.some i
+found_is None = maybe.none
 
 -- an answer says whether A holds
 pub record Tells (r : Bool) (A : Type 0) : Type 0 where

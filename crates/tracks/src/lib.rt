@@ -23,13 +23,6 @@ pub struct Tracks {
     pub holders: [u8; MOST_TRACKS],
 }
 
-// Where a search of the tracks ended.
-#[derive(Clone, Copy)]
-pub enum Found {
-    At(usize),
-    Nothing,
-}
-
 impl Tracks {
     pub const FREE: u8 = 0;
 
@@ -77,17 +70,17 @@ impl Tracks {
 
     // Where the lowest run of n free tracks begins. To follow it, keep two numbers: `track`, the track looked at, from 0 up, and `length`, how
     // many free tracks in a row end with it: the length of the run so far. docs/SEARCH.md goes through twelve tracks with a pencil.
-    pub fn lowest_run(self, n: usize) -> Found
+    pub fn lowest_run(self, n: usize) -> Option<usize>
         requires { Fit self }
         ensures { found_is result ≡ lowest n 0 (holders self) }
     {
         let end = self.count as usize;
         // no tracks, or none asked for: nothing to count
         if end == 0 {
-            return Found::Nothing;
+            return None;
         }
         if n == 0 {
-            return Found::At(0);
+            return Some(0);
         }
         let mut length: usize = 0;
         for track in 0..end {
@@ -99,10 +92,10 @@ impl Tracks {
             // a free track makes it one longer; n tracks that end with this one begin n - 1 tracks back
             length += 1;
             if length == n {
-                return Found::At(track + 1 - n);
+                return Some(track + 1 - n);
             }
         }
-        Found::Nothing
+        None
     }
 
     // n tracks from `start` on become h's.

@@ -1,35 +1,27 @@
--- `records::read_name` meets its contract. The invariant: what is left of the bytes, stored over the name, gives all of them over
--- five blanks, and no blank was passed. Assumes nothing.
-use mathlib.Core.Bool.{not}
-use mathlib.Core.Path.{sym, ◌∙◌, ap}
-use native.Mathlib.Omega.{arith}
-use lib.Seq.{slice, length-slice}
-use borrow.Author.Tests.{not-true, not-false}
-use Rattle.records.proofs.NameBytes.{name-long, filling-start, filling-turn, filling-blank, filled-not, filled_is}
+-- `records::read_name` meets its contract. Assumes nothing.
+use Rattle.std.proofs.Common.{◌∙◌, sym, ap, List, ℕ, ◌++◌, length, drop, replicate}
+use Rattle.std.proofs.Math.Option.{some}
+use Rattle.records.specs.Names.{legal}
+use Rattle.records.proofs.NameBytes.{name-long, name-blank, name-bytes}
+use Rattle.records.proofs.read_name.Goals.{then-s-gt5-via-then-s-gt5, then-s-gt5-via-else-s-gt5+then-contains}
 use Rattle.records.proofs.read_name.Goals as goal
 
-pub returns-then-to-from-gt5 : goal.returns-then-to-from-gt5
-returns-then-to-from-gt5 c =
-    let a = c.args in
-    sym (name-long (slice a.from a.to a.s.now) (omega (arith, length-slice a.from a.to a.s.now (omega arith))))
-
-pub loop-i-init : goal.loop-i-init
-loop-i-init c = filling-start (omega arith)
-
-pub returns-then-c-eq32 : goal.returns-then-c-eq32
-returns-then-c-eq32 c =
-    sym (filling-blank c.loop-i.invariant (omega arith) c.loop-i-test.true c.if-c-eq32.true)
-
-pub loop-i-preserved : goal.loop-i-preserved
-loop-i-preserved c =
-    filling-turn c.loop-i.invariant (omega arith) c.loop-i-test.true c.if-c-eq32.false
+pub returns-then-s-gt5 : goal.returns-then-s-gt5
+returns-then-s-gt5 c =
+    elim c.then-s-gt5.branch [
+      | then-s-gt5-via-then-s-gt5 w ↦ sym (name-long c.args.s.now w.if-s-gt5.true)
+      | then-s-gt5-via-else-s-gt5+then-contains w ↦ sym (name-blank c.args.s.now (sym w.contains.ensures.value ∙ w.if-contains.true))
+    ]
 
 pub returns-then-not-is_legal : goal.returns-then-not-is_legal
 returns-then-not-is_legal c =
-    sym (filled-not c.loop-i.invariant (omega arith) (omega arith) (omega arith)
-    (sym c.is_legal.ensures ∙ not-true _ (ap not c.if-not-is_legal.true)))
+    let s = c.args.s.now in
+    sym (name-bytes s _ (sym c.contains.ensures.value ∙ c.if-contains.false)
+    (ap (λ (f : List ℕ). legal (f ++ drop (length s) (replicate 5 32))) (sym c.copy_from_slice.ensures.after) ∙ sym c.is_legal.ensures ∙ c.if-not-is_legal.true))
 
 pub returns : goal.returns
 returns c =
-    sym (filled_is c.loop-i.invariant (omega arith) (omega arith) (omega arith)
-    (sym c.is_legal.ensures ∙ not-false _ (ap not c.if-not-is_legal.false)))
+    let s = c.args.s.now in
+    ap (λ (f : List ℕ). some (f ++ drop (length s) (replicate 5 32))) c.copy_from_slice.ensures.after
+    ∙ sym (name-bytes s _ (sym c.contains.ensures.value ∙ c.if-contains.false)
+    (ap (λ (f : List ℕ). legal (f ++ drop (length s) (replicate 5 32))) (sym c.copy_from_slice.ensures.after) ∙ sym c.is_legal.ensures ∙ c.if-not-is_legal.false))

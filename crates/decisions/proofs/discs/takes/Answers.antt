@@ -24,20 +24,20 @@ returns-then-w-gt1 c = λ v nm O. stays v nm NotAllowed 0 c.stay-then-w-gt1.ensu
 pub returns-in_default : goal.returns-in_default
 returns-in_default c =
     λ v nm O.
-    like v nm (takes-waits v _ _ _ _ _ O (passed (goal.at.returns-in_default c).Else-w-gt1 v O) _ c.lowest_run-found.ensures c.in_default.is)
+    like v nm (takes-waits v _ _ _ _ _ O (passed (goal.at.returns-in_default c).Else-w-gt1 v O) _ c.lowest_run.ensures c.in_default.is)
     (c.waits.ensures v nm)
 
 pub returns : goal.returns
 returns c =
     λ v nm O.
-    like v nm (takes-done v _ _ _ _ _ O (passed (goal.at.returns c).Else-w-gt1 v O) _ c.lowest_run-found.ensures _ c.in-At.is)
+    like v nm (takes-done v _ _ _ _ _ O (passed (goal.at.returns c).Else-w-gt1 v O) _ c.lowest_run.ensures _ c.in-Some.is)
     (record {
       number = refl;
       values = refl;
       events = refl;
       apt = omega (
         arith,
-        takes-room _ _ _ _ c.requires.fit (passed (goal.at.returns c).Else-w-gt1 v O).least c.lowest_run-found.ensures c.in-At.is,
+        takes-room _ _ _ _ c.requires.fit (passed (goal.at.returns c).Else-w-gt1 v O).least c.lowest_run.ensures c.in-Some.is,
         O.size,
       );
     })

@@ -1,17 +1,21 @@
 -- `decisions::naming::loads` meets its contract: each return is a path of the rule. Assumes nothing.
 use mathlib.Core.Bool.{not}
 use mathlib.Core.Path.{◌≡◌, refl, sym, ◌∙◌, ap}
-use Rattle.records.specs.Records.{find}
+use Rattle.std.specs.Prelude.{ℕ, ◌≢◌, true, false, Option, is_some}
+use Rattle.records.specs.Inner.{unless_0}
+use Rattle.records.proofs.Search.{unless-none, unless-some, unless-no, unless-yes}
 use Rattle.rules.specs.declared.Answer.TheVariants.{NotAllowed, NameInUse, AllUsed}
 use Rattle.decisions.proofs.Laws.{like, stays}
 use Rattle.decisions.proofs.Asked.{load-illegal, load-high, load-used, load_full, load-known, load-done}
-use Rattle.decisions.proofs.naming.loads.Goals.{After-lowest_unused-p}
 use Rattle.decisions.proofs.naming.loads.Goals as goal
 
-free : (u : After-lowest_unused-p)
-    → find u.args.programs
-    u.args.name ≡ 0
-free u = sym u.find_program.ensures ∙ u.if-find_program-ne0.false
+-- the name is another program's, or nobody's
+module _ {n : ℕ} {r : Option ℕ} (F : r ≡ unless_0 n) where
+  taken : is_some r ≡ true → n ≢ 0
+  taken e = unless-yes n (ap (λ (o : Option ℕ). is_some o) (sym F) ∙ e)
+
+  free : is_some r ≡ false → n ≡ 0
+  free e = unless-no n (ap (λ (o : Option ℕ). is_some o) (sym F) ∙ e)
 
 pub returns-then-not-is_legal : goal.returns-then-not-is_legal
 returns-then-not-is_legal c = λ v O.
@@ -21,30 +25,29 @@ pub returns-then-priority : goal.returns-then-priority
 returns-then-priority c = λ v O. stays v _ NotAllowed 0 c.stay-then-priority.ensures refl
     (load-high v _ _ _ c.is_legal.ensures c.if-priority.true)
 
-pub returns-then-find_program-ne0 : goal.returns-then-find_program-ne0
-returns-then-find_program-ne0 c =
+pub returns-then-is_some : goal.returns-then-is_some
+returns-then-is_some c =
     λ v O.
-    stays v _ NameInUse 0 c.stay-then-find_program-ne0.ensures refl
+    stays v _ NameInUse 0 c.stay-then-is_some.ensures refl
     (load-used v _ _ _ c.is_legal.ensures (ap not c.if-not-is_legal.false) c.if-priority.false _ O
-    (λ z. c.if-find_program-ne0.true (c.find_program.ensures ∙ z)))
+    (taken c.find_program.ensures (sym c.is_some.ensures ∙ c.if-is_some.true)))
 
-pub returns-then-p-eq0 : goal.returns-then-p-eq0
-returns-then-p-eq0 c =
+pub returns-in_default : goal.returns-in_default
+returns-in_default c =
     λ v O.
-    stays v _ AllUsed 0 c.stay-then-p-eq0.ensures refl
-    (load_full v _ _ _ c.is_legal.ensures (ap not c.if-not-is_legal.false) c.if-priority.false _ O (free (goal.at.returns-then-p-eq0 c).After-lowest_unused-p) _
-    c.lowest_unused-p.ensures c.if-p-eq0.true)
+    stays v _ AllUsed 0 c.stay-in_default.ensures refl
+    (load_full v _ _ _ c.is_legal.ensures (ap not c.if-not-is_legal.false) c.if-priority.false _ O
+    (free c.find_program.ensures (sym c.is_some.ensures ∙ c.if-is_some.false)) _ refl (unless-none _ c.in_default.ensures))
 
 pub returns : goal.returns
 returns c =
+    let f = free c.find_program.ensures (sym c.is_some.ensures ∙ c.if-is_some.false) in
+    let k = unless-some _ _ c.in-Some.ensures in
     λ v O.
-    like v _
-    (load-done v _ _ _ c.is_legal.ensures (ap not c.if-not-is_legal.false) c.if-priority.false _ O (free (goal.at.returns c).After-lowest_unused-p) _
-    c.lowest_unused-p.ensures c.if-p-eq0.false)
+    like v _ (load-done v _ _ _ c.is_legal.ensures (ap not c.if-not-is_legal.false) c.if-priority.false _ O f _ k.0 k.1)
     (record {
       number = refl;
       values = refl;
       events = refl;
-      apt = load-known v _ _ _ c.is_legal.ensures (ap not c.if-not-is_legal.false) c.if-priority.false _ O (free (goal.at.returns c).After-lowest_unused-p) _
-          c.lowest_unused-p.ensures c.if-p-eq0.false;
+      apt = load-known v _ _ _ c.is_legal.ensures (ap not c.if-not-is_legal.false) c.if-priority.false _ O f _ k.0 k.1;
     })

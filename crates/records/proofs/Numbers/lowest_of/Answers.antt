@@ -1,32 +1,16 @@
--- `records::Numbers::lowest_of` meets its contract. The invariant: the search from 1 on is the search from r on. Assumes nothing.
-use Prim.Native.Nat.{◌+◌}
-use native.Mathlib.Omega.{arith}
-use Rattle.records.proofs.Search.{Seek, seek-start, seek-here, seek-on, seek-none}
-use Rattle.records.proofs.Table.{owns, owned, unowned}
-use Rattle.records.proofs.Numbers.lowest_of.Goals.{Else-x-p}
+-- `records::Numbers::lowest_of` meets its contract. Assumes nothing.
+use Rattle.std.proofs.Common.{ℕ, ◌≡◌, ◌+◌, ◌∙◌, sym, ap, arith, rules}
+use Rattle.std.proofs.lemmas.List.{length-take-le}
+use Rattle.std.specs.Option.{option_map}
+use Rattle.records.specs.declared.Resource.{Resource}
+use Rattle.std.proofs.Common.{eqb}
+use Rattle.records.specs.Numbers.{free, resources}
+use Rattle.records.proofs.Search.{first-place}
 use Rattle.records.proofs.Numbers.lowest_of.Goals as goal
 
-pub returns-then-x-p : goal.returns-then-x-p
-returns-then-x-p c =
-    let a = c.args in
-    seek-here c.loop-r.invariant (omega arith) (owned a.self a.p c.loop-r.r c.number-x.result c.number-x.ensures c.if-x-p.true)
-
--- number r is not p's
-past : (c : Else-x-p)
-    → let a = c.args in
-    Seek (owns a.p a.self) a.self.count (c.loop-r.r + 1)
-past c =
-    let a = c.args in
-    seek-on c.loop-r.invariant (omega arith) (unowned a.self a.p c.loop-r.r c.number-x.result c.number-x.ensures c.if-x-p.false)
-
-pub loop-r-init : goal.loop-r-init
-loop-r-init c = seek-start _ _
-
-pub loop-r-preserved : goal.loop-r-preserved
-loop-r-preserved c = past (goal.at.loop-r-preserved c).Else-x-p
-
 pub returns : goal.returns
-returns c = seek-none c.loop-r.invariant (omega arith)
-
-pub returns-else-x-p : goal.returns-else-x-p
-returns-else-x-p c = seek-none (past (goal.at.returns-else-x-p c).Else-x-p) (omega arith)
+returns c =
+    let a = c.args in
+    let m : c.map.result ≡ option_map (λ k. k + 1) c.place_owned.result = search rules in
+    m ∙ ap (option_map (λ k. k + 1)) c.place_owned.ensures.place
+    ∙ sym (first-place (λ (x : Resource). eqb x.owner a.p) (resources a.self) free a.self.count (length-take-le a.self.count a.self.resources (omega arith)))

@@ -1,13 +1,11 @@
 -- `records::Numbers::owns_any` meets its contract. Assumes nothing.
-use mathlib.Core.Path.{◌∙◌, ap}
-use Prim.Native.Nat.{ℕ}
-use native.Mathlib.Omega.{arith}
-use lib.Dec.{ltb}
-use Rattle.records.proofs.Search.{any-first}
+use Rattle.std.proofs.Common.{◌∙◌, ap, arith}
+use Rattle.std.specs.Prelude.{is_some, Option, ℕ}
+use Rattle.records.proofs.Search.{any-first, some-unless}
 use Rattle.records.proofs.Table.{owns}
 use Rattle.records.proofs.Numbers.owns_any.Goals as goal
 
 pub returns : goal.returns
 returns c =
     let a = c.args in
-    ap (λ (n : ℕ). ltb 0 n) c.lowest_of.ensures ∙ any-first (owns a.p a.self) 1 a.self.count (omega arith)
+    c.is_some.ensures ∙ ap (λ (o : Option ℕ). is_some o) c.lowest_of.ensures ∙ some-unless _ ∙ any-first (owns a.p a.self) 1 a.self.count (omega arith)

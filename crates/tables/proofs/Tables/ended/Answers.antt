@@ -22,6 +22,7 @@ settled-requires c = can-rouse _ c.requires.orderly _ _ _ (those (goal.at.settle
 
 pub returns : goal.returns
 returns c =
+    let w = (goal.at.returns c).After-waiters-w in
     ended-off c.args.self c.args.k c.args.p c.requires.orderly _ c.replace_all.ensures _
-    c.dismissed-gone.ensures _ _ _
-    (those (goal.at.returns c).After-waiters-w).disc (those (goal.at.returns c).After-waiters-w).general _ _ c.held-freed.ensures c.settled.ensures
+    c.dismissed-gone.ensures _ w.waiters-w.result.disc w.waiters-w.result.general
+    (those w).disc (those w).general _ _ c.held-freed.ensures c.settled.ensures

@@ -27,8 +27,9 @@ how_many-requires c = let W = those (goal.at.how_many-requires c).After-waiters-
 
 pub returns : goal.returns
 returns c =
+    let w = (goal.at.returns c).After-waiters-w in
     record {
-      played = ended-itself _ _ _ _ (those (goal.at.returns c).After-waiters-w).disc (those (goal.at.returns c).After-waiters-w).general c.args.p _ _ c.becomes-idle.ensures
-          c.settled-tables.ensures;
-      number = roused-number _ c.requires.orderly _ _ _ (those (goal.at.returns c).After-waiters-w) _ c.how_many.ensures (long (goal.at.returns c).After-waiters-w).0 (long (goal.at.returns c).After-waiters-w).1;
+      played = ended-itself _ _ w.waiters-w.result.disc w.waiters-w.result.general (those w).disc (those w).general c.args.p _ _
+          c.becomes-idle.ensures c.settled-tables.ensures;
+      number = roused-number _ c.requires.orderly _ _ _ (those w) _ c.how_many.ensures (long w).0 (long w).1;
     }
