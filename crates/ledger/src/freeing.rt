@@ -86,15 +86,13 @@ fn keep<F: Fn(u8) -> bool>(list: Listing, passes: F) -> Listing
     ensures { (t : ℕ → Bool) → ((q : ℕ) → Known q → (b : Bool) → F.post passes q b → b ≡ t q)
         → Lists result.ids result.len (keep t (take list.len list.ids)) }
 {
-    let mut ids = [0; MOST_PROGRAMS];
-    let mut len = 0;
-    for &q in &list.ids[..list.len] {
+    let mut kept = Listing::empty();
+    for &q in list.as_slice() {
         if passes(q) {
-            ids[len] = q;
-            len += 1;
+            kept.push(q);
         }
     }
-    Listing { ids, len }
+    kept
 }
 
 // The list without program p.
