@@ -66,24 +66,24 @@ fn task_of(o: Order) -> Task
     }
 }
 
-// A task of the program of that name. The records are copied here, where they are looked at.
-fn asks(book: Ledger, c: u8, name: [u8; 5], task: Task) -> Result<Decision, Answer>
-    requires { CanAsk book.tracks book.clock.ticks c task }
-    ensures { (v : View) (nm : List ℕ) → v.book ≡ book_of book → Decides v nm (asking v c name task) (settled result) }
+// A task of the program of that name.
+fn asks(book: &Ledger, c: u8, name: [u8; 5], task: Task) -> Result<Decision, Answer>
+    requires { CanAsk book.now.tracks book.now.clock.ticks c task }
+    ensures { (v : View) (nm : List ℕ) → v.book ≡ book_of book.now → Decides v nm (asking v c name task) (settled result) }
 {
-    naming::upon(book.programs, book.tracks, book.clock.ticks, c, name, task)
+    naming::upon(&book.programs, book.tracks, book.clock.ticks, c, name, task)
 }
 
-fn loads(book: Ledger, name: [u8; 5], priority: u64) -> Result<Decision, Answer>
-    ensures { (v : View) → v.book ≡ book_of book → Decides v name (plan v (LOAD name priority)) (settled result) }
+fn loads(book: &Ledger, name: [u8; 5], priority: u64) -> Result<Decision, Answer>
+    ensures { (v : View) → v.book ≡ book_of book.now → Decides v name (plan v (LOAD name priority)) (settled result) }
 {
-    naming::loads(book.programs, name, priority)
+    naming::loads(&book.programs, name, priority)
 }
 
 // What program c asks.
-fn called(book: Ledger, c: u8, name: [u8; 5], q: Call) -> Result<Decision, Answer>
-    requires { CanCall book c }
-    ensures { (v : View) (nm : List ℕ) → v.book ≡ book_of book → Decides v nm (call v c (the_call name q)) (settled result) }
+fn called(book: &Ledger, c: u8, name: [u8; 5], q: Call) -> Result<Decision, Answer>
+    requires { CanCall book.now c }
+    ensures { (v : View) (nm : List ℕ) → v.book ≡ book_of book.now → Decides v nm (call v c (the_call name q)) (settled result) }
 {
     match q {
         Call::Exec4(n, w) => discs::takes(book.tracks, c, c, n, w),
@@ -111,9 +111,9 @@ fn called(book: Ledger, c: u8, name: [u8; 5], q: Call) -> Result<Decision, Answe
 }
 
 // What a request comes to where c is the caller, or 0: the one place where a call of the running program begins.
-fn decided(book: Ledger, c: u8, name: [u8; 5], q: Request) -> Result<Decision, Answer>
-    requires { CanDecide book c }
-    ensures { (v : View) → v.book ≡ book_of book → head (v.chain 1) ≡ c → Decides v name (plan v (the_request name q)) (settled result) }
+fn decided(book: &Ledger, c: u8, name: [u8; 5], q: Request) -> Result<Decision, Answer>
+    requires { CanDecide book.now c }
+    ensures { (v : View) → v.book ≡ book_of book.now → head (v.chain 1) ≡ c → Decides v name (plan v (the_request name q)) (settled result) }
 {
     match q {
         Request::Fresh(t, s, r, y) => renews(t, s, r, y),
@@ -130,9 +130,9 @@ fn decided(book: Ledger, c: u8, name: [u8; 5], q: Request) -> Result<Decision, A
 }
 
 // The same; a refusal is an answer, and nothing happens.
-pub fn decide(book: Ledger, c: u8, name: [u8; 5], q: Request) -> Decision
-    requires { CanDecide book c }
-    ensures { (v : View) → v.book ≡ book_of book → head (v.chain 1) ≡ c → Decides v name (plan v (the_request name q)) result }
+pub fn decide(book: &Ledger, c: u8, name: [u8; 5], q: Request) -> Decision
+    requires { CanDecide book.now c }
+    ensures { (v : View) → v.book ≡ book_of book.now → head (v.chain 1) ≡ c → Decides v name (plan v (the_request name q)) result }
 {
     settled(decided(book, c, name, q))
 }

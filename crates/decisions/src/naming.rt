@@ -70,13 +70,13 @@ fn is_permitted(task: Task) -> bool
 }
 
 // The program of a name.
-fn find(programs: [Program; MOST_PROGRAMS], name: [u8; 5]) -> Result<u8, Answer>
-    ensures { NamedBy programs name result }
+fn find(programs: &[Program; MOST_PROGRAMS], name: [u8; 5]) -> Result<u8, Answer>
+    ensures { NamedBy programs.now name result }
 {
     if !records::is_legal(name) {
         return Err(Answer::NotAllowed);
     }
-    records::find_program(programs, name).ok_or(Answer::NoProgram)
+    records::find_program(*programs, name).ok_or(Answer::NoProgram)
 }
 
 // p goes from one state to another, and the answer has this value.
@@ -186,7 +186,7 @@ fn performs(
 
 // A task of the program of that name, asked by program c or by the operator.
 pub(crate) fn upon(
-    programs: [Program; MOST_PROGRAMS],
+    programs: &[Program; MOST_PROGRAMS],
     tracks: Tracks,
     ticks: u64,
     c: u8,
@@ -194,7 +194,7 @@ pub(crate) fn upon(
     task: Task,
 ) -> Result<Decision, Answer>
     requires { CanAsk tracks ticks c task }
-    ensures { (v : View) (nm : List ℕ) → OfBook v programs tracks ticks → Decides v nm (asking v c name task) (settled result) }
+    ensures { (v : View) (nm : List ℕ) → OfBook v programs.now tracks ticks → Decides v nm (asking v c name task) (settled result) }
 {
     if !is_permitted(task) {
         return Err(Answer::NotAllowed);
@@ -205,11 +205,11 @@ pub(crate) fn upon(
 
 // LOAD: the lowest unused record takes the program.
 pub(crate) fn loads(
-    programs: [Program; MOST_PROGRAMS],
+    programs: &[Program; MOST_PROGRAMS],
     name: [u8; 5],
     priority: u64,
 ) -> Result<Decision, Answer>
-    ensures { (v : View) → v.book.programs ≡ programs → Decides v name (plan v (LOAD name priority)) (settled result) }
+    ensures { (v : View) → v.book.programs ≡ programs.now → Decides v name (plan v (LOAD name priority)) (settled result) }
 {
     if !records::is_legal(name) {
         return Err(Answer::NotAllowed);
@@ -217,10 +217,10 @@ pub(crate) fn loads(
     if (LAST_PRIORITY as u64) < priority {
         return Err(Answer::NotAllowed);
     }
-    if records::find_program(programs, name).is_some() {
+    if records::find_program(*programs, name).is_some() {
         return Err(Answer::NameInUse);
     }
-    let Some(p) = records::lowest_unused(programs) else {
+    let Some(p) = records::lowest_unused(*programs) else {
         return Err(Answer::AllUsed);
     };
     Ok(Decision {
