@@ -54,7 +54,7 @@ fn date_of(days: u64) -> Date
         };
     }
     Date {
-        year: year,
+        year,
         day: days - begins + 1,
     }
 }
@@ -86,16 +86,12 @@ impl Clock {
     pub fn unit(resolution: u64) -> u64
         ensures { result ≡ unit resolution }
     {
-        if resolution == 1 {
-            return Clock::HUNDREDTH;
+        match resolution {
+            1 => Clock::HUNDREDTH,
+            2 => Clock::SECOND,
+            3 => Clock::MINUTE,
+            _ => Clock::HOUR,
         }
-        if resolution == 2 {
-            return Clock::SECOND;
-        }
-        if resolution == 3 {
-            return Clock::MINUTE;
-        }
-        Clock::HOUR
     }
 
     // The parts of the time.
@@ -103,7 +99,7 @@ impl Clock {
         ensures { parts_of result ≡ time_of self.year self.ticks }
     {
         let t = self.ticks;
-        let date = date_of(days_before(self.year as u64) + t / Clock::DAY);
+        let date = date_of(days_before(u64::from(self.year)) + t / Clock::DAY);
         Time {
             year: date.year,
             day: date.day,

@@ -60,8 +60,8 @@ pub(crate) fn name_field(s: &[u8], at: usize) -> NameField
         return NameField::Not;
     }
     let end = text::part_end(s, at, b',');
-    let Some([a, b, c, d, e]) = records::read_name(&s[at..end]) else {
+    let Some(name) = records::read_name(&s[at..end]) else {
         return NameField::Not;
     };
-    NameField::Is(a, b, c, d, e, end + 1)
+    NameField::Is(name[0], name[1], name[2], name[3], name[4], end + 1)
 }

@@ -1,21 +1,29 @@
 -- Laws of a name without its blanks: its bytes, stored over five blanks, are the name padded, and no blank is among them.
 -- Assumes nothing.
-use Prim.Native.Nat.{ℕ, zero, suc, ◌+◌, ◌-◌, ◌<◌, ◌≤◌}
-use native.Mathlib.Numerals.{add-one}
+use Prim.Native.Nat.{ℕ, zero, suc, ◌-◌, ◌<◌}
 use native.Mathlib.Omega.{arith}
 use mathlib.Core.Path.{◌≡◌, refl, sym, ap, ap₂, ◌∙◌}
 use mathlib.Core.Bool.{Bool, true, false, cond, not, ◌&&◌, ◌||◌}
 use mathlib.Core.List.{List, [], ◌∷◌, ◌++◌}
 use mathlib.Core.Option.{none, some}
-use lib.ListN.{length, get_or, set, drop, replicate, length-append, length-replicate, length-set}
-use lib.Seq.{sets, sets-eq, slice, slice-cons, slice_empty, length-slice}
-use borrow.Author.Tests.{eq-eqb, ne_eqb}
+use lib.ListN.{length, get_or, drop, replicate, length-append, length-replicate}
+use borrow.Author.Tests.{ne_eqb}
 use Rattle.std.specs.List.{list_any}
 use Rattle.lists.specs.Lists.{every}
 use Rattle.records.specs.Names.{letter, blank, rest, legal, padded, name_of}
 
 abbrev plain : List ℕ → Bool
 plain f = every (λ c. not (blank c)) f
+
+-- five bytes
+pub five : (l : List ℕ) → length l ≡ 5 → l ≡ get_or l 0 0 ∷ get_or l 1 0 ∷ get_or l 2 0 ∷ get_or l 3 0 ∷ get_or l 4 0 ∷ []
+five [] h = absurd (omega arith)
+five (a ∷ []) h = absurd (omega arith)
+five (a ∷ b ∷ []) h = absurd (omega arith)
+five (a ∷ b ∷ c ∷ []) h = absurd (omega arith)
+five (a ∷ b ∷ c ∷ d ∷ []) h = absurd (omega arith)
+five (a ∷ b ∷ c ∷ d ∷ e ∷ []) h = refl
+five (a ∷ b ∷ c ∷ d ∷ e ∷ f ∷ l) h = absurd (omega arith)
 
 -- the bytes with the rest of five blanks behind them
 blanks-left : (n m : ℕ) → drop m (replicate {A = ℕ} n 32) ≡ replicate (n - m) 32

@@ -57,16 +57,10 @@ fn is_letter(c: u8) -> bool
     c.is_ascii_uppercase()
 }
 
-fn is_digit(c: u8) -> bool
-    ensures { result ≡ digit c }
-{
-    c.is_ascii_digit()
-}
-
 fn is_letter_or_digit(c: u8) -> bool
     ensures { result ≡ (letter c || digit c) }
 {
-    is_letter(c) || is_digit(c)
+    is_letter(c) || c.is_ascii_digit()
 }
 
 fn is_rest(s: &[u8]) -> bool
@@ -97,12 +91,6 @@ pub fn read_name(s: &[u8]) -> Option<[u8; 5]>
         return None;
     }
     Some(name)
-}
-
-pub fn same_name(a: [u8; 5], b: [u8; 5]) -> bool
-    ensures { result ≡ alike a b }
-{
-    a == b
 }
 
 fn place_named(programs: &[Program], name: [u8; 5]) -> Option<usize>
@@ -168,7 +156,7 @@ impl Program {
     fn is_named(self, name: [u8; 5]) -> bool
         ensures { result ≡ (self.used && alike self.name name) }
     {
-        self.used && same_name(self.name, name)
+        self.used && self.name == name
     }
 
     // The mark goes with the state that it stood in.
@@ -209,10 +197,8 @@ impl Program {
     pub fn wait_over(self) -> Program
         ensures { result ≡ wait_over self }
     {
-        if self.suspend {
-            return self.in_state(SUSPENDED, Why::Nothing);
-        }
-        self.in_state(SCHEDULED, Why::Nothing)
+        let state = if self.suspend { SUSPENDED } else { SCHEDULED };
+        self.in_state(state, Why::Nothing)
     }
 }
 
@@ -246,7 +232,6 @@ impl Resource {
         }
         if self.lock == p {
             self.lock = 0;
-            return self;
         }
         self
     }

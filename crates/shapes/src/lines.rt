@@ -68,10 +68,10 @@ pub fn name_at(s: &[u8], at: usize, key: &[u8]) -> NameLine
     let Value::Is(from, to) = value_at(s, at, key) else {
         return NameLine::Not;
     };
-    let Some([a, b, c, d, e]) = records::read_name(&s[from..to]) else {
+    let Some(name) = records::read_name(&s[from..to]) else {
         return NameLine::Not;
     };
-    NameLine::Is(a, b, c, d, e, to + 1)
+    NameLine::Is(name[0], name[1], name[2], name[3], name[4], to + 1)
 }
 
 pub fn reason_at(s: &[u8], at: usize, key: &[u8]) -> Reason

@@ -1,16 +1,14 @@
 -- Programs that are treated one after another: each once, its record alone, and some of them enter the scheduled chain. What comes of it is
 -- told at once: the records put at their places, and the programs that enter put into the chain, by priorities that nothing alters.
 -- Assumes nothing.
-use Prim.Native.Nat.{ℕ, zero, suc, ◌-◌, ◌≤◌, ◌<◌}
+use Prim.Native.Nat.{ℕ, suc, ◌-◌, ◌≤◌, ◌<◌}
 use native.Mathlib.Omega.{arith}
 use native.Mathlib.Decide.{ℕ_discrete}
-use mathlib.Core.Path.{◌≡◌, refl, sym, ap, ap₂, ◌∙◌, subst}
-use mathlib.Core.Logic.{◌≢◌}
+use mathlib.Core.Path.{◌≡◌, refl, sym, ap, ap₂, ◌∙◌}
 use mathlib.Core.Bool.{Bool, true, false, cond}
-use mathlib.Core.List.{List, [], ◌∷◌, ◌++◌, map}
-use lib.ListN.{length, get_or, set, length-set, length-map, get_or-map}
+use mathlib.Core.List.{List, [], ◌∷◌, map}
+use lib.ListN.{length, get_or, set, length-set, get_or-map}
 use lib.Seq.{get_or-set_same, get_or-set_other, map-set_same}
-use lib.Dec.{eqb}
 use borrow.Author.Tests.{eq-eqb}
 use Rattle.lists.specs.Lists.{same, count, keep, insert, join}
 use Rattle.lists.proofs.Laws.{same_refl, same-ne}

@@ -2,38 +2,37 @@
 -- The idea: the rule's events treat the programs whose timers are due one after another, which comes to the records put at their places and the
 -- dormant among them put into the scheduled chain; of sound states no due lies at or below the clock, so due now is due by now.
 -- Assumes nothing.
-use Prim.Native.Nat.{ℕ, zero, suc, ◌+◌, ◌-◌, ◌≤◌, ◌<◌}
+use Prim.Native.Nat.{ℕ, suc, ◌+◌, ◌-◌, ◌≤◌, ◌<◌}
 use native.Mathlib.Omega.{arith}
 use native.Mathlib.Decide.{ℕ_discrete}
-use mathlib.Core.Path.{◌≡◌, refl, sym, ap, ap₂, ◌∙◌, subst}
+use mathlib.Core.Path.{◌≡◌, refl, sym, ap, ap₂, ◌∙◌}
 use mathlib.Core.Logic.{◌≢◌}
 use mathlib.Core.Bool.{Bool, true, false, cond, ◌&&◌}
-use mathlib.Core.List.{List, [], ◌∷◌, ◌++◌, map}
-use lib.ListN.{length, get_or, set, length-map, get_or-map}
+use mathlib.Core.List.{List, [], ◌∷◌, map}
+use lib.ListN.{length, get_or, length-map, get_or-map}
 use lib.Seq.{ext_get_or, set-set}
 use lib.Dec.{eqb}
-use borrow.Author.Tests.{lt-ltb, eq-eqb, ne_eqb, eqb-true, eqb-false}
-use Rattle.lists.specs.Lists.{sum, same, count, keep, join}
+use borrow.Author.Tests.{lt-ltb, eq-eqb, ne_eqb, eqb-true}
+use Rattle.lists.specs.Lists.{sum, count, keep, join}
 use Rattle.lists.proofs.Laws.{same_refl, keep-in, keep-le, count-keep}
-use Rattle.lists.proofs.Tests.{both, and}
 use Rattle.clock.specs.Clock.{ceiling}
 use Rattle.records.specs.declared.Program.{Program}
 use Rattle.records.specs.declared.Why.TheVariants.{Nothing}
 use Rattle.records.specs.Records.{Known, all, missing, in_state, with_timer}
 use Rattle.rules.specs.Book.{Book, at, state_of, prio_of, put, altered}
 use Rattle.rules.specs.Requests.{TICK}
-use Rattle.rules.specs.Plans.{Event, Plan, on, becomes, timed, clocked, done, values_of, events_of}
+use Rattle.rules.specs.Plans.{Plan, on, becomes, timed, clocked, done, values_of, events_of}
 use Rattle.rules.specs.Rules.{plan, due_at, ticked}
 use Rattle.rules.specs.Keeper.{lists, State, act, step, play, view, asks, after}
 use Rattle.rules.specs.Sound.{Sound}
 use Rattle.rules.proofs.shared.Paths.{need-met}
-use Rattle.rules.proofs.shared.Places.{all_one, all_once, all_in, at_same, put-long}
+use Rattle.rules.proofs.shared.Places.{all_one, all_once, all_in, at_same}
 use Rattle.rules.proofs.shared.Deeds.{step-put}
-use Rattle.timers.specs.Inner.{falls_due, due_beyond, moved, starts, struck, starters, enter_all, moved_to, NoStart}
+use Rattle.timers.specs.Inner.{falls_due, due_beyond, starts, struck, starters, enter_all, moved_to, NoStart}
 use Rattle.timers.proofs.Beyond.{beyond-none, beyond-now}
-use Rattle.timers.proofs.Striking.{falls-is, falls-not, struck-by, starts_by, struck-not, starts-not, struck-priority}
+use Rattle.timers.proofs.Striking.{falls-is, falls-not, struck-by, struck-not, struck-priority}
 use Rattle.timers.proofs.Striking.{missing-stays, struck-again, starts-again}
-use Rattle.timers.proofs.InTurn.{set_all, prios, same-prios, prios-put, joined, scheduled-put, Ahead, in-turn, put_in, put-out, length-put}
+use Rattle.timers.proofs.InTurn.{set_all, same-prios, prios-put, joined, scheduled-put, in-turn, put_in, put-out, length-put}
 
 -- those that pass one test and then another; tests that agree on a list keep the same of it; one that nobody passes keeps none
 pub keep-keep : (f g : ℕ → Bool) (c : List ℕ) → keep g (keep f c) ≡ keep (λ p. f p && g p) c

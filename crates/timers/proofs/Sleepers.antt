@@ -3,12 +3,12 @@
 use Prim.Native.Nat.{ℕ, suc, ◌+◌, ◌-◌, ◌≤◌, ◌<◌}
 use native.Mathlib.Omega.{arith}
 use mathlib.Core.Path.{◌≡◌, refl, sym, ap, ◌∙◌}
-use mathlib.Core.Bool.{Bool, true, false, cond, ◌&&◌}
+use mathlib.Core.Bool.{Bool, true, false, cond}
 use mathlib.Core.List.{List, [], ◌∷◌}
 use lib.ListN.{length, get_or}
 use lib.Dec.{eqb}
-use Rattle.lists.specs.Lists.{hit, same, count, keep, from}
-use Rattle.lists.proofs.Laws.{same_refl, same-le, count-keep}
+use Rattle.lists.specs.Lists.{hit, count, keep}
+use Rattle.lists.proofs.Laws.{same-le, count-keep}
 use Rattle.records.specs.declared.Program.{Program}
 use Rattle.records.specs.Records.{Known, all, missing}
 use Rattle.rules.specs.Book.{Book, at, state_of}

@@ -1,20 +1,19 @@
 -- What a move of the clock makes of a record: what it leaves, and that a move in which the program does not start, and a later one behind it,
 -- are one move.
 -- Assumes nothing.
-use Prim.Native.Nat.{ℕ, suc, ◌+◌, ◌-◌, ◌*◌, ◌/◌, ◌≤◌, ◌<◌}
+use Prim.Native.Nat.{ℕ, ◌≤◌, ◌<◌}
 use native.Mathlib.Omega.{arith}
 use native.Mathlib.Decide.{ℕ_discrete, dec_le}
 use mathlib.Core.Path.{◌≡◌, refl, sym, ap, ap₂, ◌∙◌}
-use mathlib.Core.Logic.{◌≢◌}
 use mathlib.Core.Bool.{Bool, true, false, cond, ◌&&◌}
 use lib.Dec.{leb, ltb, eqb}
-use borrow.Author.Tests.{ltb-true, leb-true, lt-ltb, le-leb, lt-leb, ltb-false, eq-eqb, ne_eqb, eqb-true, eqb-false}
+use borrow.Author.Tests.{ltb-true, leb-true, lt-ltb, le-leb}
 use Rattle.lists.proofs.Tests.{both, and, clash}
 use Rattle.records.specs.declared.Program.{Program}
 use Rattle.records.specs.declared.Why.TheVariants.{Nothing}
 use Rattle.records.specs.Records.{missing, in_state, with_timer}
 use Rattle.timers.specs.Inner.{falls_due, due_beyond, moved, starts, struck}
-use Rattle.timers.proofs.Beyond.{Beyond, due-beyond, beyond-none, beyond-again, beyond-still}
+use Rattle.timers.proofs.Beyond.{due-beyond, beyond-none, beyond-again, beyond-still}
 
 -- the test of a due
 pub falls-true : (now : ℕ) (r : Program) → falls_due now r ≡ true → (1 ≤ r.due) × (r.due ≤ now)

@@ -2,20 +2,18 @@
 -- Assumes nothing.
 use Prim.Native.Nat.{ℕ, zero, suc, ◌+◌, ◌-◌, ◌≤◌, ◌<◌}
 use native.Mathlib.Omega.{arith}
-use mathlib.Core.Path.{◌≡◌, refl, sym, ap, ap₂, ◌∙◌, subst}
+use mathlib.Core.Path.{◌≡◌, refl, sym, ap, ◌∙◌, subst}
 use mathlib.Core.Bool.{Bool, true, false, cond}
-use mathlib.Core.List.{List, []}
+use mathlib.Core.List.{List}
 use lib.ListN.{length, get_or}
 use lib.Dec.{eqb}
-use Rattle.lists.specs.Lists.{sum}
 use Rattle.clock.specs.Clock.{ceiling}
 use Rattle.records.specs.declared.Program.{Program}
 use Rattle.records.specs.Records.{Known, missing}
 use Rattle.rules.specs.Book.{at}
 use Rattle.rules.specs.Rules.{due_at}
 use Rattle.rules.specs.Requests.{TICK}
-use Rattle.rules.specs.Plans.{values_of}
-use Rattle.rules.specs.Keeper.{lists, State, asks, after}
+use Rattle.rules.specs.Keeper.{lists, State, after}
 use Rattle.rules.specs.Sound.{Sound}
 use Rattle.rules.proofs.soundness.SoundRuns.{sound-after}
 use Rattle.timers.specs.Inner.{falls_due, starts, starters, moved_to, NoStart, ticks_on, started_on}

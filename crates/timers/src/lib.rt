@@ -31,23 +31,19 @@ pub fn span_of(clock: u64, n: u64) -> Result<u64, NoSpan>
 }
 
 // Whether a record's timer falls due by the time the clock stands at `now`.
+#[tactic(auto, unfolding(crate::specs::Inner::falls_due))]
 pub fn falls_due(r: Program, now: u64) -> bool
     ensures { result ≡ falls_due now r }
 {
-    if r.due == 0 {
-        return false;
-    }
-    r.due <= now
+    0 < r.due && r.due <= now
 }
 
 // Whether its program starts with that.
+#[tactic(auto, unfolding(crate::specs::Inner::starts))]
 pub fn starts(r: Program, now: u64) -> bool
     ensures { result ≡ starts now r }
 {
-    if falls_due(r, now) {
-        return r.state == DORMANT;
-    }
-    false
+    falls_due(r, now) && r.state == DORMANT
 }
 
 // The first due beyond `now` of a timer that fell due by then; none where it runs once.
@@ -63,13 +59,13 @@ fn due_beyond(now: u64, due: u64, interval: u64) -> u64
 }
 
 // The record with its timer beyond `now`, where it fell due by then.
+#[tactic(auto, unfolding(crate::specs::Inner::falls_due))]
 pub fn moved(r: Program, now: u64) -> Program
     requires { CanMove now r }
     ensures { result ≡ moved now r }
 {
     if falls_due(r, now) {
-        let due = due_beyond(now, r.due, r.interval);
-        return r.with_timer(due, r.interval);
+        return r.with_timer(due_beyond(now, r.due, r.interval), r.interval);
     }
     r
 }
@@ -78,16 +74,10 @@ pub fn moved(r: Program, now: u64) -> Program
 fn sooner(r: Program, end: u64) -> u64
     ensures { result ≡ sooner r end }
 {
-    if r.due == 0 {
-        return end;
+    if 0 < r.due && r.due < end && r.state == DORMANT {
+        return r.due;
     }
-    if end <= r.due {
-        return end;
-    }
-    if r.state != DORMANT {
-        return end;
-    }
-    r.due
+    end
 }
 
 // The next moment at which a dormant program falls due, or `end` where none does before.
@@ -95,9 +85,8 @@ pub fn next_start(programs: [Program; MOST_PROGRAMS], end: u64) -> u64
     ensures { result ≡ next_start end programs }
 {
     let mut least = end;
-    for i in 0..MOST_PROGRAMS {
-        let r = programs[i];
-        least = sooner(r, least);
+    for r in &programs {
+        least = sooner(*r, least);
     }
     least
 }

@@ -11,6 +11,12 @@ use mathlib.Core.Option.{none, some}
 use lib.ListN.{length, get_or, set, take, drop, replicate, drop_of_length-le, replicate-append-replicate}
 use lib.Seq.{drop-cons, set-get_or, set-append_left, take_at, drop_at}
 use lib.Dec.{eqb}
+use native.Mathlib.Decide.{ℕ_discrete}
+use native.Mathlib.Nat.{min-le_left}
+use lib.ListN.{length-take}
+use Rattle.std.specs.List.{count_by}
+use Rattle.std.proofs.lemmas.List.Sums.{count_by-le-length}
+use Rattle.std.proofs.lemmas.List.Recursion.{is_count_by}
 use borrow.Author.Tests.{eq-eqb, ne_eqb}
 use Rattle.lists.specs.Lists.{same, count}
 use Rattle.lists.proofs.Laws.{same_refl, same-ne}
@@ -82,6 +88,25 @@ pub filled-first : (i n h : ℕ) (xs : List ℕ) → filled (i + 1) n h (set xs 
 filled-first i zero h xs = let here : i ≡ i + 0 = omega arith in ap (λ (k : ℕ). set xs k h) here
 filled-first i (suc n) h xs =
     let next : i + 1 + n ≡ i + suc n = omega arith in ap₂ (λ (ys : List ℕ) (k : ℕ). set ys k h) (filled-first i n h xs) next
+
+-- those before them stand, and those behind
+filled-behind : (i n h x : ℕ) (xs : List ℕ) → filled (i + 1) n h (x ∷ xs) ≡ x ∷ filled i n h xs
+filled-behind i zero h x xs = refl
+filled-behind i (suc n) h x xs =
+    let next : i + 1 + n ≡ suc (i + n) = omega arith in ap₂ (λ (ys : List ℕ) (k : ℕ). set ys k h) (filled-behind i n h x xs) next
+
+filled-front : (n h : ℕ) (xs : List ℕ) → n ≤ length xs → replicate n h ++ drop n xs ≡ filled 0 n h xs
+filled-front zero h xs l = refl
+filled-front (suc n) h [] l = absurd (omega arith)
+filled-front (suc n) h (x ∷ xs) l =
+    ap (λ (ys : List ℕ). h ∷ ys) (filled-front n h xs (omega arith)) ∙ sym (filled-behind 0 n h h xs) ∙ filled-first 0 n h (x ∷ xs)
+
+pub filled-mid : (i n h : ℕ) (xs : List ℕ) → i + n ≤ length xs → take i xs ++ (replicate n h ++ drop n (drop i xs)) ≡ filled i n h xs
+filled-mid zero n h xs l = filled-front n h xs (omega arith)
+filled-mid (suc i) n h [] l = absurd (omega arith)
+filled-mid (suc i) n h (x ∷ xs) l =
+    ap (λ (ys : List ℕ). x ∷ ys) (filled-mid i n h xs (omega arith)) ∙ sym (filled-behind i n h x xs)
+    ∙ ap (λ (k : ℕ). filled k n h (x ∷ xs)) (let e : i + 1 ≡ suc i = omega arith in e)
 
 filled-append : (i n h : ℕ) (xs ys : List ℕ) → i + n ≤ length xs → filled i n h (xs ++ ys) ≡ filled i n h xs ++ ys
 filled-append i zero h xs ys l = refl
@@ -160,3 +185,40 @@ fresh-done a b N T S l m =
     ap (λ (k : ℕ). replicate S a ++ replicate k b) e
     ∙ ap (λ (ys : List ℕ). replicate S a ++ ys) (sym (replicate-append-replicate (T - S) (N - T) b))
     ∙ sym (append_assoc (replicate S a) (replicate (T - S) b) (replicate (N - T) b))
+
+-- counts by the library's word
+pub counted : (p : ℕ) (xs : List ℕ) → count p xs ≡ count_by (λ x. eqb x p) xs
+counted p xs = is_count_by (count p) (λ x. eqb x p) refl step xs
+  where
+    step : (x : ℕ) (xs : List ℕ) → same p x + count p xs ≡ cond (eqb x p) (1 + count p xs) (count p xs)
+    step x xs = go (ℕ_discrete x p)
+      where
+        go : Dec (x ≡ p) → same p x + count p xs ≡ cond (eqb x p) (1 + count p xs) (count p xs)
+        go (yes w) = rw (eq-eqb x p w) (omega (arith, ap (same p) w, same_refl p))
+        go (no w) = rw (ne_eqb x p w) (omega (arith, same-ne p x (λ e. w (sym e))))
+
+eqb-suc : (a b : ℕ) → eqb (suc a) (suc b) ≡ eqb a b
+eqb-suc a b = go (ℕ_discrete a b)
+  where
+    go : Dec (a ≡ b) → eqb (suc a) (suc b) ≡ eqb a b
+    go (yes w) = eq-eqb (suc a) (suc b) (ap suc w) ∙ sym (eq-eqb a b w)
+    go (no w) = ne_eqb (suc a) (suc b) (λ e. w (omega arith)) ∙ sym (ne_eqb a b w)
+
+-- n tracks are a run where n of the first n are h's
+run-count : (h n : ℕ) (xs : List ℕ) → eqb (count h (take n xs)) n ≡ run h n xs
+run-count h zero xs = refl
+run-count h (suc n) [] = ne_eqb 0 (suc n) (λ e. omega arith)
+run-count h (suc n) (x ∷ xs) = go (ℕ_discrete x h) (run-count h n xs)
+  where
+    few : count h (take n xs) ≤ n
+    few = omega (arith, counted h (take n xs), count_by-le-length (λ (y : ℕ). eqb y h) (take n xs), length-take n xs, min-le_left n (length xs))
+
+    go : Dec (x ≡ h) → eqb (count h (take n xs)) n ≡ run h n xs
+        → eqb (same h x + count h (take n xs)) (suc n) ≡ elim (eqb x h) [ true ↦ run h n xs | false ↦ false ]
+    go (yes w) e =
+        let one : same h x + count h (take n xs) ≡ suc (count h (take n xs)) = omega (arith, ap (same h) w, same_refl h) in
+        rw (eq-eqb x h w, one) (eqb-suc (count h (take n xs)) n ∙ e)
+    go (no w) e = rw (ne_eqb x h w) (ne_eqb (same h x + count h (take n xs)) (suc n) (λ k. omega (arith, few, same-ne h x (λ z. w (sym z)))))
+
+pub run-counted : (h n : ℕ) (xs : List ℕ) → eqb (count_by (λ x. eqb x h) (take n xs)) n ≡ run h n xs
+run-counted h n xs = ap (λ (k : ℕ). eqb k n) (sym (counted h (take n xs))) ∙ run-count h n xs

@@ -25,16 +25,16 @@ pub fn run_in(places: &[u8; MOST_TRACKS], count: usize, first: usize) -> Run
     while last + 1 < count {
         if all[last + 1] != holder {
             return Run {
-                first: first,
-                last: last,
-                holder: holder,
+                first,
+                last,
+                holder,
             };
         }
         last += 1;
     }
     Run {
-        first: first,
-        last: last,
-        holder: holder,
+        first,
+        last,
+        holder,
     }
 }

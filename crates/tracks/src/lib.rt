@@ -5,7 +5,7 @@ mod held;
 mod places;
 mod sound;
 
-ghost use Rattle.std.specs.Prelude.{◌-◌, ◌≡◌, ◌++◌, drop, replicate};
+ghost use Rattle.std.specs.Prelude.{◌-◌, ◌≡◌, ◌==◌, ◌++◌, count_by, drop, replicate, take};
 ghost use Rattle.lists.specs.Lists.{count};
 ghost use Rattle.tracks.specs.Tracks.{nobody, system, holders, table_of, run, lowest, filled, replaced};
 ghost use Rattle.tracks.specs.Inner.{Fit, HasTracks, Sizes, found_is};
@@ -21,6 +21,20 @@ pub struct Tracks {
     pub count: u16,
     pub system: u16,
     pub holders: [u8; MOST_TRACKS],
+}
+
+// How many of these tracks are h's.
+fn count_of(held: &[u8], h: u8) -> usize
+    ensures { result ≡ count_by (λ x. x == h) held.now }
+{
+    held.iter().filter(|x| **x == h).count()
+}
+
+// How many of the n tracks from `start` on are there and h's.
+fn run_length(held: &[u8], start: usize, n: usize, h: u8) -> usize
+    ensures { result ≡ count_by (λ x. x == h) (take n (drop start held.now)) }
+{
+    held.iter().skip(start).take(n).filter(|x| **x == h).count()
 }
 
 impl Tracks {
@@ -43,7 +57,7 @@ impl Tracks {
         Tracks {
             count: all,
             system: own,
-            holders: holders,
+            holders,
         }
     }
 
@@ -52,20 +66,7 @@ impl Tracks {
         requires { Fit self }
         ensures { result ≡ run h n (drop start (holders self)) }
     {
-        let end = self.count as usize;
-        let mut i = start;
-        let mut left = n;
-        while 0 < left {
-            if end <= i {
-                return false;
-            }
-            if self.holders[i] != h {
-                return false;
-            }
-            i += 1;
-            left -= 1;
-        }
-        true
+        run_length(&self.holders[..self.count as usize], start, n, h) == n
     }
 
     // Where the lowest run of n free tracks begins. To follow it, keep two numbers: `track`, the track looked at, from 0 up, and `length`, how
@@ -104,14 +105,8 @@ impl Tracks {
         ensures { result ≡ table_of self.count self.system (filled start n h (holders self)) }
     {
         let mut holders = self.holders;
-        if 0 < n {
-            fill(&mut holders, start, start + n - 1, h);
-        }
-        Tracks {
-            count: self.count,
-            system: self.system,
-            holders: holders,
-        }
+        holders[start..start + n].fill(h);
+        Tracks { holders, ..self }
     }
 
     // All of p's tracks become h's.
@@ -126,11 +121,7 @@ impl Tracks {
                 holders[i] = h;
             }
         }
-        Tracks {
-            count: self.count,
-            system: self.system,
-            holders: holders,
-        }
+        Tracks { holders, ..self }
     }
 
     // How many tracks p holds.
@@ -138,13 +129,6 @@ impl Tracks {
         requires { Fit self }
         ensures { result ≡ count p (holders self) }
     {
-        let end = self.count as usize;
-        let mut n: usize = 0;
-        for i in 0..end {
-            if self.holders[i] == p {
-                n += 1;
-            }
-        }
-        n
+        count_of(&self.holders[..self.count as usize], p)
     }
 }

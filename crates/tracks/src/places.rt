@@ -26,14 +26,11 @@ impl Tracks {
     }
 }
 
-// The places from `first` to `last` become h's. The first is set by itself: most runs have no other, and for these no loop is begun.
+// The places from `first` to `last` become h's.
 pub fn fill(places: &mut [u8; MOST_TRACKS], first: usize, last: usize, h: u8)
     requires first_le_last { first ≤ last }
     requires last_lt_most_tracks { last < most_tracks }
     ensures { places.new ≡ filled first (suc last - first) h places.old }
 {
-    places[first] = h;
-    for i in first + 1..last + 1 {
-        places[i] = h;
-    }
+    places[first..last + 1].fill(h);
 }

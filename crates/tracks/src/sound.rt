@@ -17,10 +17,7 @@ fn wide(x: u8) -> usize
 fn larger(a: u8, b: u8) -> u8
     ensures { Larger a b result }
 {
-    if a < b {
-        return b;
-    }
-    a
+    a.max(b)
 }
 
 // The first tracks are the system's.
@@ -28,12 +25,7 @@ fn own_ok(own: usize, holders: &[u8; MOST_TRACKS]) -> bool
     requires { own ≤ most_tracks }
     ensures { Tells result (SystemHolds own holders.now) }
 {
-    for i in 0..own {
-        if holders[i] != Tracks::SYSTEM {
-            return false;
-        }
-    }
-    true
+    holders[..own].iter().all(|h| *h == Tracks::SYSTEM)
 }
 
 // No stranger holds any other track: the marks of the holders sum up to 0.
@@ -68,12 +60,8 @@ impl Tracks {
     {
         let all = self.count as usize;
         let own = self.system as usize;
-        if !own_ok(own, &self.holders) {
-            return false;
-        }
-        if !others_ok(own, all, &self.holders, marks) {
-            return false;
-        }
-        blank_ok(all, &self.holders)
+        own_ok(own, &self.holders)
+            && others_ok(own, all, &self.holders, marks)
+            && blank_ok(all, &self.holders)
     }
 }

@@ -1,5 +1,5 @@
 -- `records::find_program` meets its contract. Assumes nothing.
-use Rattle.std.proofs.Common.{ℕ, ◌≡◌, ◌+◌, ◌∙◌, sym, ap, arith, rules}
+use Rattle.std.proofs.Common.{◌≡◌, ◌+◌, ◌∙◌, sym, ap, arith, rules}
 use Rattle.std.specs.Option.{option_map}
 use Rattle.records.proofs.Find.{find-place}
 use Rattle.records.proofs.find_program.Goals as goal

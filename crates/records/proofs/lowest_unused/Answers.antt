@@ -1,5 +1,5 @@
 -- `records::lowest_unused` meets its contract. Assumes nothing.
-use Rattle.std.proofs.Common.{ℕ, ◌≡◌, ◌+◌, ◌∙◌, sym, ap, arith, rules}
+use Rattle.std.proofs.Common.{◌≡◌, ◌+◌, ◌∙◌, sym, ap, arith, rules}
 use Rattle.std.specs.Option.{option_map}
 use Rattle.records.proofs.Find.{unused-place}
 use Rattle.records.proofs.lowest_unused.Goals as goal

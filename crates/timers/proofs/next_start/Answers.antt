@@ -1,23 +1,13 @@
--- `timers::next_start` meets its contract. The invariant: the programs from place i on are searched in the same way. Assumes nothing.
-use Prim.Native.Nat.{◌-◌}
-use native.Mathlib.Omega.{arith}
-use mathlib.Core.Path.{◌≡◌}
-use lib.ListN.{length}
-use borrow.Author.Rules.{rules}
+-- `timers::next_start` meets its contract. The invariant: the programs that are left are searched in the same way. Assumes nothing.
+use Rattle.std.proofs.Common.{arith}
 use Rattle.timers.proofs.NextStart.{looking-start, looking-next, looking-end}
-use Rattle.timers.proofs.next_start.Goals.{Start}
 use Rattle.timers.proofs.next_start.Goals as goal
 
--- there are 32 records
-long : (s : Start) → length s.args.programs ≡ 32
-long s = search rules
+pub loop-r-init : goal.loop-r-init
+loop-r-init c = looking-start _ _
 
-pub loop-i-preserved : goal.loop-i-preserved
-loop-i-preserved c =
-    looking-next c.sooner-least.result c.loop-i.invariant (omega (arith, long (goal.at.loop-i-preserved c).Start)) c.sooner-least.ensures
+pub loop-r-preserved : goal.loop-r-preserved
+loop-r-preserved c = looking-next _ c.loop-r.invariant (omega arith) c.sooner-least.ensures
 
 pub returns : goal.returns
-returns c = looking-end c.loop-i.invariant (omega (arith, long (goal.at.returns c).Start))
-
-pub loop-i-init : goal.loop-i-init
-loop-i-init c = looking-start _ _
+returns c = looking-end c.loop-r.invariant (omega arith)

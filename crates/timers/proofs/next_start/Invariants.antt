@@ -1,10 +1,6 @@
--- `timers::next_start` meets its contract. The invariant: the programs from place i on are searched in the same way. Assumes nothing.
-use Prim.Native.Nat.{◌-◌}
+-- `timers::next_start` meets its contract. The invariant: the programs that are left are searched in the same way. Assumes nothing.
 use Rattle.timers.proofs.NextStart.{Looking}
 use Rattle.timers.proofs.next_start.Given as goal
 
-abbrev pub invariant-loop-i : goal.invariant-loop-i
-invariant-loop-i l = Looking l.end l.programs l.least l.i
-
-abbrev pub decreases-loop-i : goal.decreases-loop-i
-decreases-loop-i l = 32 - l.i
+abbrev pub invariant-loop-r : goal.invariant-loop-r
+invariant-loop-r l = Looking l.end l.fn.programs l.least l.r-index

@@ -1,29 +1,18 @@
--- `tracks::Tracks::filled` meets its contract: the array with the places filled makes the table of the holders with those tracks
--- given, whether `fill` filled it or there were none to fill.
--- Assumes nothing.
-use Prim.Native.Nat.{ℕ, suc, ◌+◌, ◌-◌}
-use native.Mathlib.Omega.{arith}
-use mathlib.Core.Path.{◌≡◌, refl, ap, ◌∙◌}
-use mathlib.Core.List.{List}
-use Rattle.tracks.specs.Tracks.{places, table_at, holders, table_of, filled}
-use Rattle.tracks.proofs.Turns.{filled-table}
-use Rattle.tracks.proofs.Tracks.filled.Goals.{Start}
+-- `tracks::Tracks::filled` meets its contract. Assumes nothing.
+use Rattle.std.proofs.Common.{◌≡◌, ◌∙◌, ℕ, ◌+◌, ◌-◌, ap, arith, rules, List, ◌++◌, take, drop, replicate}
+use Rattle.tracks.specs.Tracks.{filled, places, table_at}
+use Rattle.tracks.proofs.Turns.{filled-mid, filled-table}
 use Rattle.tracks.proofs.Tracks.filled.Goals as goal
 
--- the table of an array with n places filled
-table : (s : Start) (zs : List ℕ) (n : ℕ) → let a = s.args in let t = a.self in
-    zs ≡ filled a.start n a.h (places t) → n ≡ a.n
-    → table_at t.count t.system zs ≡ table_of t.count t.system (filled a.start a.n a.h (holders t))
-table s zs n z e =
-    let a = s.args in
-    let t = a.self in
-    ap (table_at t.count t.system) (z ∙ ap (λ (k : ℕ). filled a.start k a.h (places t)) e)
-    ∙ filled-table t s.requires.fit a.start a.n a.h s.requires.within
-
-pub returns-then-n-gt0 : goal.returns-then-n-gt0
-returns-then-n-gt0 c =
+pub returns : goal.returns
+returns c =
     let a = c.args in
-    table (goal.at.returns-then-n-gt0 c).Start c.fill.new.places (suc (a.start + a.n - 1) - a.start) c.fill.ensures (omega arith)
-
-pub returns-else-n-gt0 : goal.returns-else-n-gt0
-returns-else-n-gt0 c = table (goal.at.returns-else-n-gt0 c).Start c.args.self.holders 0 refl (omega arith)
+    let t = a.self in
+    let n = a.start + a.n - a.start in
+    let e : c.fill.new.self ≡ replicate n a.h = search rules in
+    let k : n ≡ a.n = omega arith in
+    ap (table_at t.count t.system)
+    (ap (λ (ys : List ℕ). take a.start t.holders ++ (ys ++ drop n (drop a.start t.holders))) e
+    ∙ filled-mid a.start n a.h t.holders (omega (arith, c.requires.within, c.requires.fit.most))
+    ∙ ap (λ (m : ℕ). filled a.start m a.h t.holders) k)
+    ∙ filled-table t c.requires.fit a.start a.n a.h c.requires.within
