@@ -3,7 +3,7 @@
 use Prim.Native.Nat.{ℕ, ◌+◌, ◌*◌, ◌≤◌, ◌<◌}
 use native.Mathlib.Omega.{arith}
 use native.Mathlib.Nat.{mul-le-mul_right}
-use mathlib.Core.Path.{◌≡◌, sym, ap, ◌∙◌, subst}
+use mathlib.Core.Path.{◌≡◌, refl, sym, ap, ◌∙◌, subst}
 use mathlib.Core.Logic.{◌≢◌}
 use mathlib.Core.Bool.{Bool, true, false, not, cond, ◌&&◌}
 use mathlib.Core.List.{List, [], ◌∷◌, ◌++◌}
@@ -25,28 +25,37 @@ use Rattle.rules.proofs.shared.Finding.{find-bears, unused-known}
 use Rattle.rules.proofs.shared.Paths.{need-met, need-failed, either-so, either-not, named-illegal, named-missing, named-found}
 use Rattle.rules.proofs.shared.Paths.{inside-met, inside-failed}
 use Rattle.decisions.specs.declared.naming.Task.{Task}
-use Rattle.decisions.specs.declared.naming.Named.{Named}
-use Rattle.decisions.specs.declared.naming.Named.TheVariants.{Is, Missing, Illegal}
+use Rattle.rules.specs.declared.Answer.{Answer}
+use Rattle.rules.specs.declared.Answer.TheVariants.{NotAllowed, NoProgram}
+use Rattle.std.specs.Prelude.{Option, Some, None, Result, Ok, Err, ok_or}
+use Rattle.records.specs.Inner.{unless_0}
+use Rattle.records.proofs.Search.{unless-none, unless-some}
 use Rattle.decisions.specs.Inner.{NamedBy, on_named, timer_allowed, permitted, going, awaiting, winding, performed, asking}
 use Rattle.decisions.proofs.Laws.{fails}
 
 -- a name
 module _ (ps : List Program) (nm : List ℕ) (b : Bool) (B : b ≡ legal nm) where
-  pub is-illegal : not b ≡ true → NamedBy ps nm Illegal
-  is-illegal e = record { says = λ v O f. named-illegal v nm f (sym B ∙ not-true b e); known = tt }
+  pub is-illegal : not b ≡ true → NamedBy ps nm (Err NotAllowed)
+  is-illegal e = record { says = λ v O f. named-illegal v nm f (sym B ∙ not-true b e); known = refl }
 
   module _ (l : not b ≡ false) (p : ℕ) (P : p ≡ find ps nm) where
     here : (v : View) → v.book.programs ≡ ps → find v.book.programs nm ≡ p
     here v O = ap (λ (xs : List Program). find xs nm) O ∙ sym P
 
-    pub is-missing : p ≡ 0 → NamedBy ps nm Missing
-    is-missing e = record { says = λ v O f. named-missing v nm f (sym B ∙ not-false b l) (here v O ∙ e); known = tt }
+    pub is-missing : p ≡ 0 → NamedBy ps nm (Err NoProgram)
+    is-missing e = record { says = λ v O f. named-missing v nm f (sym B ∙ not-false b l) (here v O ∙ e); known = refl }
 
-    pub is-named : p ≢ 0 → NamedBy ps nm (Is p)
+    pub is-named : p ≢ 0 → NamedBy ps nm (Ok p)
     is-named n = record {
       says = λ v O f. named-found v nm f p (sym B ∙ not-false b l) (here v O) (omega (arith, n));
       known = subst Known (sym P) (find-bears ps nm (omega (arith, P, n))).known;
     }
+
+-- what the search for it comes to
+module _ (ps : List Program) (nm : List ℕ) (b : Bool) (B : b ≡ legal nm) (l : not b ≡ false) where
+  pub is-found : (r : Option ℕ) → r ≡ unless_0 (find ps nm) → NamedBy ps nm (ok_or r NoProgram)
+  is-found None e = is-missing ps nm b B l (find ps nm) refl (unless-none (find ps nm) e)
+  is-found (Some p) e = let k = unless-some (find ps nm) p e in is-named ps nm b B l p k.0 k.1
 
 -- a task of the program of that name
 module _ (v : View) (c : ℕ) (nm : List ℕ) (q : Task) (b : Bool) (B : b ≡ permitted q) where
@@ -54,11 +63,11 @@ module _ (v : View) (c : ℕ) (nm : List ℕ) (q : Task) (b : Bool) (B : b ≡ p
   unfolding asking
   asked-not e = need-failed 3 0 _ (sym B ∙ not-true b e)
 
-  pub asked_of : not b ≡ false → (ps : List Program) (r x : Named) → NamedBy ps nm r → v.book.programs ≡ ps → r ≡ x
+  pub asked_of : not b ≡ false → (ps : List Program) (r x : Result ℕ Answer) → NamedBy ps nm r → v.book.programs ≡ ps → r ≡ x
       → asking v c nm q ≡ on_named x (performed v c q)
   unfolding asking
   asked_of e ps r x N O R = need-met 3 0 _ (sym B ∙ not-false b e) ∙ N.says v O (performed v c q)
-      ∙ ap (λ (y : Named). on_named y (performed v c q)) R
+      ∙ ap (λ (y : Result ℕ Answer). on_named y (performed v c q)) R
 
 -- its state
 module _ (v : View) (p s : ℕ) (S : state_of v.book p ≡ s) where

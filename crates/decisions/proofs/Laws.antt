@@ -22,9 +22,9 @@ module _ (v : View) (nm : List ℕ) where
   pub same : {x : Plan} {d e : Decision} → d ≡ e → Decides v nm x e → Decides v nm x d
   same {x = x} e D = subst (Decides v nm x) (sym e) D
 
-  pub stays : (a : Answer) (n : ℕ) {x : Plan} {d : Decision} → d ≡ record { answer = a; effect = Stay } → values a ≡ n ∷ []
-      → x ≡ refused (number a) n → Decides v nm x d
-  stays a n D w e = like e (same D (record { number = refl; values = w; events = refl; apt = tt }))
+  pub stays : (a : Answer) (n : ℕ) {x : Plan} → values a ≡ n ∷ [] → x ≡ refused (number a) n
+      → Decides v nm x (record { answer = a; effect = Stay })
+  stays a n w e = like e (record { number = refl; values = w; events = refl; apt = tt })
 
   pub rests : (a : Answer) (vs : List ℕ) {x : Plan} {d : Decision} → d ≡ record { answer = a; effect = Stay } → number a ≡ 0 → values a ≡ vs
       → x ≡ done vs [] → Decides v nm x d

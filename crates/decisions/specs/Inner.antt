@@ -1,7 +1,7 @@
 -- What a decision says, and what the functions that decide ask and promise each other. Nothing here need be believed for the calls:
 -- what they hand back is said by the rules.
 -- Assumes nothing.
-use Rattle.std.specs.Prelude.{ℕ, ◌+◌, ◌*◌, ◌≤◌, ◌<◌, ◌≡◌, Bool, true, false, ◌&&◌, ◌||◌, List, [], ◌∷◌, ◌++◌, map, length, leb, eqb}
+use Rattle.std.specs.Prelude.{Result, Ok, Err, ℕ, ◌+◌, ◌*◌, ◌≤◌, ◌<◌, ◌≡◌, Bool, true, false, ◌&&◌, ◌||◌, List, [], ◌∷◌, ◌++◌, map, length, leb, eqb}
 use Rattle.lists.specs.Lists.{count, keep, up_to, join}
 use Rattle.limits.specs.Limits.{dormant, scheduled, general, suspended, states, most_tracks, most_numbers, most_units, last_priority, first_year, last_year}
 use Rattle.clock.specs.Clock.{ceiling, unit}
@@ -32,8 +32,6 @@ use Rattle.decisions.specs.declared.Effect.TheVariants.{Take, Give, GiveAll, Num
 use Rattle.decisions.specs.declared.Decision.{Decision}
 use Rattle.decisions.specs.declared.naming.Task.{Task}
 use Rattle.decisions.specs.declared.naming.Task.TheVariants as task
-use Rattle.decisions.specs.declared.naming.Named.{Named}
-use Rattle.decisions.specs.declared.naming.Named.TheVariants.{Is, Missing, Illegal}
 use Rattle.decisions.specs.declared.numbering.Wanted.{Wanted}
 use Rattle.decisions.specs.declared.numbering.Wanted.TheVariants as wants
 
@@ -118,6 +116,11 @@ pub record Decides (v : View) (nm : List ℕ) (x : Plan) (d : Decision) : Type 0
   pub events : events_for v nm d.effect ≡ events_of v x
   pub apt : Apt v d.effect
 
+-- what it comes to where it may be refused: a refusal leaves everything as it is
+abbrev pub settled : Result Decision Answer → Decision
+settled (Ok d) = d
+settled (Err a) = record { answer = a; effect = Stay }
+
 -- a view of a book in which these parts stand
 pub record OfTracks (v : View) (x : Tracks) : Type 0 where
   pub size : v.book.tracks ≡ x.count
@@ -179,17 +182,16 @@ unfoldable pub of_number : View → ℕ → ℕ → Wanted → Plan
 of_number v c r q = need (leb (waiting_of q) 1) 3 0 (allocated v r (wanted v c r q))
 
 -- programs by their names
-abbrev pub on_named : Named → (ℕ → Plan) → Plan
-on_named (Is p) f = f p
-on_named Missing f = refused 4 0
-on_named Illegal f = refused 3 0
+abbrev pub on_named : Result ℕ Answer → (ℕ → Plan) → Plan
+on_named (Ok p) f = f p
+on_named (Err a) f = refused (number a) 0
 
-abbrev pub KnownIn : Named → Type 0
-KnownIn (Is p) = Known p
-KnownIn Missing = Unit {0}
-KnownIn Illegal = Unit {0}
+-- a known program, or a refusal whose value is 0
+abbrev pub KnownIn : Result ℕ Answer → Type 0
+KnownIn (Ok p) = Known p
+KnownIn (Err a) = values a ≡ 0 ∷ []
 
-pub record NamedBy (ps : List Program) (nm : List ℕ) (r : Named) : Type 0 where
+pub record NamedBy (ps : List Program) (nm : List ℕ) (r : Result ℕ Answer) : Type 0 where
   pub says : (v : View) → v.book.programs ≡ ps → (f : ℕ → Plan) → named v nm f ≡ on_named r f
   pub known : KnownIn r
 

@@ -5,11 +5,11 @@ ghost use Rattle.rules.specs.Rules.{head, may_start, plan, call};
 ghost use Rattle.rules.specs.Requests.{FRESH, LOAD, TICK};
 ghost use Rattle.rules.specs.Coded.{the_call, the_request};
 ghost use Rattle.ledger.specs.Ledger.{book_of};
-ghost use Rattle.decisions.specs.Inner.{CanAsk, CanCall, CanDecide, Decides, asking, task_of};
+ghost use Rattle.decisions.specs.Inner.{CanAsk, CanCall, CanDecide, Decides, settled, asking, task_of};
 
 use super::naming::Task;
 use super::numbering::Wanted;
-use super::{Decision, Effect, discs, naming, numbering, stay};
+use super::{Decision, Effect, discs, naming, numbering, settled, stay};
 use clock::Clock;
 use ledger::Ledger;
 use limits::{DORMANT, FIRST_YEAR, LAST_YEAR, MOST_NUMBERS, MOST_TRACKS, SCHEDULED, SUSPENDED};
@@ -21,47 +21,37 @@ use tracks::Tracks;
 pub fn may_start(tracks: u64, system: u64, numbers: u64, year: u64) -> bool
     ensures { result ≡ may_start tracks system numbers year }
 {
-    if tracks < 1 {
-        return false;
-    }
-    if (MOST_TRACKS as u64) < tracks {
-        return false;
-    }
-    if tracks < system {
-        return false;
-    }
-    if (MOST_NUMBERS as u64) < numbers {
-        return false;
-    }
-    if year < FIRST_YEAR as u64 {
-        return false;
-    }
-    year <= LAST_YEAR as u64
+    1 <= tracks
+        && tracks <= MOST_TRACKS as u64
+        && system <= tracks
+        && numbers <= MOST_NUMBERS as u64
+        && FIRST_YEAR as u64 <= year
+        && year <= LAST_YEAR as u64
 }
 
-fn renews(tracks: u64, system: u64, numbers: u64, year: u64) -> Decision
-    ensures { (v : View) (nm : List ℕ) → Decides v nm (plan v (FRESH tracks system numbers year)) result }
+fn renews(tracks: u64, system: u64, numbers: u64, year: u64) -> Result<Decision, Answer>
+    ensures { (v : View) (nm : List ℕ) → Decides v nm (plan v (FRESH tracks system numbers year)) (settled result) }
 {
-    if may_start(tracks, system, numbers, year) {
-        return Decision {
-            answer: Answer::Done(0),
-            effect: Effect::Renew(tracks as u16, system as u16, numbers as u8, year as u16),
-        };
+    if !may_start(tracks, system, numbers, year) {
+        return Err(Answer::NotAllowed);
     }
-    stay(Answer::NotAllowed)
+    Ok(Decision {
+        answer: Answer::Done(0),
+        effect: Effect::Renew(tracks as u16, system as u16, numbers as u8, year as u16),
+    })
 }
 
 // TICK, unless the clock stands at its ceiling.
-fn ticks_on(ticks: u64) -> Decision
-    ensures { (v : View) (nm : List ℕ) → v.book.clock ≡ ticks → Decides v nm (plan v TICK) result }
+fn ticks_on(ticks: u64) -> Result<Decision, Answer>
+    ensures { (v : View) (nm : List ℕ) → v.book.clock ≡ ticks → Decides v nm (plan v TICK) (settled result) }
 {
     if Clock::CEILING <= ticks {
-        return stay(Answer::AtCeiling);
+        return Err(Answer::AtCeiling);
     }
-    Decision {
+    Ok(Decision {
         answer: Answer::Done(0),
         effect: Effect::Tick,
-    }
+    })
 }
 
 fn task_of(o: Order) -> Task
@@ -76,42 +66,40 @@ fn task_of(o: Order) -> Task
     }
 }
 
-// A task of the program of that name. The records are copied here, where they are looked at.
-fn asks(book: Ledger, c: u8, name: [u8; 5], task: Task) -> Decision
-    requires { CanAsk book.tracks book.clock.ticks c task }
-    ensures { (v : View) (nm : List ℕ) → v.book ≡ book_of book → Decides v nm (asking v c name task) result }
+// A task of the program of that name.
+fn asks(book: &Ledger, c: u8, name: [u8; 5], task: Task) -> Result<Decision, Answer>
+    requires { CanAsk book.now.tracks book.now.clock.ticks c task }
+    ensures { (v : View) (nm : List ℕ) → v.book ≡ book_of book.now → Decides v nm (asking v c name task) (settled result) }
 {
-    let programs = book.programs;
-    naming::upon(programs, book.tracks, book.clock.ticks, c, name, task)
+    naming::upon(&book.programs, book.tracks, book.clock.ticks, c, name, task)
 }
 
-fn loads(book: Ledger, name: [u8; 5], priority: u64) -> Decision
-    ensures { (v : View) → v.book ≡ book_of book → Decides v name (plan v (LOAD name priority)) result }
+fn loads(book: &Ledger, name: [u8; 5], priority: u64) -> Result<Decision, Answer>
+    ensures { (v : View) → v.book ≡ book_of book.now → Decides v name (plan v (LOAD name priority)) (settled result) }
 {
-    let programs = book.programs;
-    naming::loads(programs, name, priority)
+    naming::loads(&book.programs, name, priority)
 }
 
 // What program c asks.
-fn called(book: Ledger, c: u8, name: [u8; 5], q: Call) -> Decision
-    requires { CanCall book c }
-    ensures { (v : View) (nm : List ℕ) → v.book ≡ book_of book → Decides v nm (call v c (the_call name q)) result }
+fn called(book: &Ledger, c: u8, name: [u8; 5], q: Call) -> Result<Decision, Answer>
+    requires { CanCall book.now c }
+    ensures { (v : View) (nm : List ℕ) → v.book ≡ book_of book.now → Decides v nm (call v c (the_call name q)) (settled result) }
 {
     match q {
         Call::Exec4(n, w) => discs::takes(book.tracks, c, c, n, w),
         Call::Exec15(n, w) => discs::takes(book.tracks, c, Tracks::GLOBAL, n, w),
         Call::Exec5(n, start) => discs::gives(book.tracks, c, n, start),
         Call::Exec16(n, start) => discs::gives(book.tracks, Tracks::GLOBAL, n, start),
-        Call::Exec5All => discs::gives_all(book.tracks, c),
-        Call::Exec6 => Decision {
+        Call::Exec5All => Ok(discs::gives_all(book.tracks, c)),
+        Call::Exec6 => Ok(Decision {
             answer: Answer::Done(0),
             effect: Effect::End(c),
-        },
-        Call::Exec7 => Decision {
+        }),
+        Call::Exec7 => Ok(Decision {
             answer: Answer::Done(0),
             effect: Effect::Become(c, SUSPENDED, Why::Nothing),
-        },
-        Call::Exec11 => stay(Answer::Told(book.clock.time())),
+        }),
+        Call::Exec11 => Ok(stay(Answer::Told(book.clock.time()))),
         Call::Exec9 => asks(book, c, name, Task::Await),
         Call::Exec10 => asks(book, c, name, Task::Send),
         Call::Exec12(r, m, o) => asks(book, c, name, Task::Time(r, m, o)),
@@ -123,9 +111,9 @@ fn called(book: Ledger, c: u8, name: [u8; 5], q: Call) -> Decision
 }
 
 // What a request comes to where c is the caller, or 0: the one place where a call of the running program begins.
-pub fn decide(book: Ledger, c: u8, name: [u8; 5], q: Request) -> Decision
-    requires { CanDecide book c }
-    ensures { (v : View) → v.book ≡ book_of book → head (v.chain 1) ≡ c → Decides v name (plan v (the_request name q)) result }
+fn decided(book: &Ledger, c: u8, name: [u8; 5], q: Request) -> Result<Decision, Answer>
+    requires { CanDecide book.now c }
+    ensures { (v : View) → v.book ≡ book_of book.now → head (v.chain 1) ≡ c → Decides v name (plan v (the_request name q)) (settled result) }
 {
     match q {
         Request::Fresh(t, s, r, y) => renews(t, s, r, y),
@@ -134,9 +122,17 @@ pub fn decide(book: Ledger, c: u8, name: [u8; 5], q: Request) -> Decision
         Request::Tick => ticks_on(book.clock.ticks),
         Request::Running(call) => {
             if c == 0 {
-                return stay(Answer::NoCaller);
+                return Err(Answer::NoCaller);
             }
             called(book, c, name, call)
         }
     }
+}
+
+// The same; a refusal is an answer, and nothing happens.
+pub fn decide(book: &Ledger, c: u8, name: [u8; 5], q: Request) -> Decision
+    requires { CanDecide book.now c }
+    ensures { (v : View) → v.book ≡ book_of book.now → head (v.chain 1) ≡ c → Decides v name (plan v (the_request name q)) result }
+{
+    settled(decided(book, c, name, q))
 }

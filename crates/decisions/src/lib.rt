@@ -11,7 +11,7 @@ ghost use Rattle.std.specs.Prelude.{ℕ, ◌≡◌, List};
 ghost use Rattle.rules.specs.Plans.{View};
 ghost use Rattle.rules.specs.Rules.{waits};
 ghost use Rattle.decisions.specs.declared.Effect.TheVariants.{Stay};
-ghost use Rattle.decisions.specs.Inner.{Decides, CanWait};
+ghost use Rattle.decisions.specs.Inner.{Decides, settled, CanWait};
 
 pub use deciding::{decide, may_start};
 use records::Why;
@@ -45,26 +45,36 @@ pub struct Decision {
     pub effect: Effect,
 }
 
-// A refusal, or what is done without anything happening.
+// What is done without anything happening.
 fn stay(answer: Answer) -> Decision
     ensures { result ≡ record { answer = answer; effect = Stay } }
 {
     Decision {
-        answer: answer,
+        answer,
         effect: Effect::Stay,
     }
 }
 
-// c waits in a state for a reason, or is told that there is no room.
-fn waits(c: u8, w: u64, state: u8, why: Why) -> Decision
-    requires { CanWait c state }
-    ensures { (v : View) (nm : List ℕ) → Decides v nm (waits c w state why) result }
+// A refusal leaves everything as it is.
+fn settled(decided: Result<Decision, Answer>) -> Decision
+    ensures { result ≡ settled decided }
 {
-    if w == 0 {
-        return Decision {
-            answer: Answer::Waits(state),
-            effect: Effect::Become(c, state, why),
-        };
+    match decided {
+        Ok(decision) => decision,
+        Err(refusal) => stay(refusal),
     }
-    stay(Answer::NoRoom)
+}
+
+// c waits in a state for a reason, or is told that there is no room.
+fn waits(c: u8, w: u64, state: u8, why: Why) -> Result<Decision, Answer>
+    requires { CanWait c state }
+    ensures { (v : View) (nm : List ℕ) → Decides v nm (waits c w state why) (settled result) }
+{
+    if w != 0 {
+        return Err(Answer::NoRoom);
+    }
+    Ok(Decision {
+        answer: Answer::Waits(state),
+        effect: Effect::Become(c, state, why),
+    })
 }

@@ -9,7 +9,7 @@ ghost use Rattle.rules.specs.Requests.{LOAD};
 ghost use Rattle.rules.specs.Book.{at, state_of, prio_of};
 ghost use Rattle.rules.specs.Rules.{order};
 ghost use Rattle.rules.specs.Requests.{SS, PR, OF};
-ghost use Rattle.decisions.specs.Inner.{Decides, OfTracks, OfBook, OfParts, NamedBy, CanWait, CanAwait};
+ghost use Rattle.decisions.specs.Inner.{Decides, settled, OfTracks, OfBook, OfParts, NamedBy, CanWait, CanAwait};
 ghost use Rattle.decisions.specs.Inner.{CanDismiss, CanTime, CanPrice, CanPerform, CanAsk, timer_allowed};
 ghost use Rattle.decisions.specs.Inner.{permitted, going, awaiting, winding, performed, asking};
 
@@ -33,50 +33,28 @@ pub(crate) enum Task {
     Time(u64, u64, u64),
 }
 
-// The program of a name.
-#[derive(Clone, Copy)]
-pub(crate) enum Named {
-    Is(u8),
-    Missing,
-    Illegal,
-}
-
 // Whether OF takes k.
 fn ends(k: u64) -> bool
     ensures { result ≡ (eqb k 1 || eqb k 8) }
 {
-    if k == 1 {
-        return true;
-    }
-    k == 8
+    matches!(k, 1 | 8)
 }
 
 fn is_priority(n: u64) -> bool
     ensures { result ≡ up_to 1 last_priority n }
 {
-    if n < 1 {
-        return false;
-    }
-    n <= LAST_PRIORITY as u64
+    1 <= n && n <= LAST_PRIORITY as u64
 }
 
 // A timer's resolution is 1 to 4, its multiple at most 4095, its offset 1 to 4095.
 fn timer_allowed(resolution: u64, multiple: u64, offset: u64) -> bool
     ensures { result ≡ timer_allowed resolution multiple offset }
 {
-    if resolution < 1 {
-        return false;
-    }
-    if 4 < resolution {
-        return false;
-    }
-    if MOST_UNITS < multiple {
-        return false;
-    }
-    if offset < 1 {
-        return false;
-    }
-    offset <= MOST_UNITS
+    1 <= resolution
+        && resolution <= 4
+        && multiple <= MOST_UNITS
+        && 1 <= offset
+        && offset <= MOST_UNITS
 }
 
 // Whether the figures of a task are allowed.
@@ -84,72 +62,67 @@ fn is_permitted(task: Task) -> bool
     ensures { result ≡ permitted task }
 {
     match task {
-        Task::Shift(_, _) => true,
-        Task::Suspend => true,
+        Task::Shift(_, _) | Task::Suspend | Task::Await | Task::Send => true,
         Task::Price(n) => is_priority(n),
         Task::Dismiss(k) => ends(k),
-        Task::Await => true,
-        Task::Send => true,
         Task::Time(r, m, o) => timer_allowed(r, m, o),
     }
 }
 
-pub(crate) fn find(programs: [Program; MOST_PROGRAMS], name: [u8; 5]) -> Named
-    ensures { NamedBy programs name result }
+// The program of a name.
+fn find(programs: &[Program; MOST_PROGRAMS], name: [u8; 5]) -> Result<u8, Answer>
+    ensures { NamedBy programs.now name result }
 {
     if !records::is_legal(name) {
-        return Named::Illegal;
+        return Err(Answer::NotAllowed);
     }
-    let Some(p) = records::find_program(programs, name) else {
-        return Named::Missing;
-    };
-    Named::Is(p)
+    records::find_program(*programs, name).ok_or(Answer::NoProgram)
 }
 
 // p goes from one state to another, and the answer has this value.
-fn shifts(state: u8, p: u8, from: u8, to: u8, value: u64) -> Decision
+fn shifts(state: u8, p: u8, from: u8, to: u8, value: u64) -> Result<Decision, Answer>
     requires { CanWait p to }
-    ensures { (v : View) (nm : List ℕ) → state_of v.book p ≡ state → Decides v nm (going v p from to value) result }
+    ensures { (v : View) (nm : List ℕ) → state_of v.book p ≡ state → Decides v nm (going v p from to value) (settled result) }
 {
     if state != from {
-        return stay(Answer::WrongState(state));
+        return Err(Answer::WrongState(state));
     }
-    Decision {
+    Ok(Decision {
         answer: Answer::Done(value),
         effect: Effect::Become(p, to, Why::Nothing),
-    }
+    })
 }
 
 // SS: who waits is marked, and who is marked stays so; any other is suspended if it is scheduled.
-fn suspends(state: u8, mark: bool, p: u8) -> Decision
+fn suspends(state: u8, mark: bool, p: u8) -> Result<Decision, Answer>
     requires { Known p }
     ensures { (v : View) (nm : List ℕ) → state_of v.book p ≡ state → (at v.book p).suspend ≡ mark
-        → Decides v nm (order v SS p) result }
+        → Decides v nm (order v SS p) (settled result) }
 {
     if records::in_wait(state) {
         if mark {
-            return stay(Answer::Done(0));
+            return Ok(stay(Answer::Done(0)));
         }
-        return Decision {
+        return Ok(Decision {
             answer: Answer::Done(0),
             effect: Effect::Mark(p),
-        };
+        });
     }
     shifts(state, p, SCHEDULED, SUSPENDED, 0)
 }
 
 // EXEC 9: p is sent off, and c waits for it.
-fn awaits(state: u8, c: u8, p: u8) -> Decision
+fn awaits(state: u8, c: u8, p: u8) -> Result<Decision, Answer>
     requires { CanAwait c p }
-    ensures { (v : View) (nm : List ℕ) → state_of v.book p ≡ state → Decides v nm (awaiting v c p) result }
+    ensures { (v : View) (nm : List ℕ) → state_of v.book p ≡ state → Decides v nm (awaiting v c p) (settled result) }
 {
     if state != DORMANT {
-        return stay(Answer::WrongState(state));
+        return Err(Answer::WrongState(state));
     }
-    Decision {
+    Ok(Decision {
         answer: Answer::Waits(GENERAL),
         effect: Effect::Await(p, c),
-    }
+    })
 }
 
 // OF: how many tracks p gives up.
@@ -189,61 +162,69 @@ fn prices(priority: u16, p: u8, n: u64) -> Decision
 }
 
 // The task of program p, whose record is x.
-fn performs(x: Program, tracks: Tracks, ticks: u64, c: u8, p: u8, task: Task) -> Decision
+fn performs(
+    x: Program,
+    tracks: Tracks,
+    ticks: u64,
+    c: u8,
+    p: u8,
+    task: Task,
+) -> Result<Decision, Answer>
     requires { CanPerform tracks ticks c p task }
-    ensures { (v : View) (nm : List ℕ) → OfParts v p x tracks ticks → Decides v nm (performed v c task p) result }
+    ensures { (v : View) (nm : List ℕ) → OfParts v p x tracks ticks → Decides v nm (performed v c task p) (settled result) }
 {
     match task {
         Task::Shift(from, to) => shifts(x.state, p, from, to, 0),
         Task::Suspend => suspends(x.state, x.suspend, p),
-        Task::Price(n) => prices(x.priority, p, n),
-        Task::Dismiss(k) => dismisses(tracks, p, k),
+        Task::Price(n) => Ok(prices(x.priority, p, n)),
+        Task::Dismiss(k) => Ok(dismisses(tracks, p, k)),
         Task::Await => awaits(x.state, c, p),
         Task::Send => shifts(x.state, p, DORMANT, SCHEDULED, p as u64),
-        Task::Time(r, m, o) => times(ticks, p, r, m, o),
+        Task::Time(r, m, o) => Ok(times(ticks, p, r, m, o)),
     }
 }
 
 // A task of the program of that name, asked by program c or by the operator.
 pub(crate) fn upon(
-    programs: [Program; MOST_PROGRAMS],
+    programs: &[Program; MOST_PROGRAMS],
     tracks: Tracks,
     ticks: u64,
     c: u8,
     name: [u8; 5],
     task: Task,
-) -> Decision
+) -> Result<Decision, Answer>
     requires { CanAsk tracks ticks c task }
-    ensures { (v : View) (nm : List ℕ) → OfBook v programs tracks ticks → Decides v nm (asking v c name task) result }
+    ensures { (v : View) (nm : List ℕ) → OfBook v programs.now tracks ticks → Decides v nm (asking v c name task) (settled result) }
 {
     if !is_permitted(task) {
-        return stay(Answer::NotAllowed);
+        return Err(Answer::NotAllowed);
     }
-    match find(programs, name) {
-        Named::Illegal => stay(Answer::NotAllowed),
-        Named::Missing => stay(Answer::NoProgram),
-        Named::Is(p) => performs(programs[p as usize - 1], tracks, ticks, c, p, task),
-    }
+    let p = find(programs, name)?;
+    performs(programs[p as usize - 1], tracks, ticks, c, p, task)
 }
 
 // LOAD: the lowest unused record takes the program.
-pub(crate) fn loads(programs: [Program; MOST_PROGRAMS], name: [u8; 5], priority: u64) -> Decision
-    ensures { (v : View) → v.book.programs ≡ programs → Decides v name (plan v (LOAD name priority)) result }
+pub(crate) fn loads(
+    programs: &[Program; MOST_PROGRAMS],
+    name: [u8; 5],
+    priority: u64,
+) -> Result<Decision, Answer>
+    ensures { (v : View) → v.book.programs ≡ programs.now → Decides v name (plan v (LOAD name priority)) (settled result) }
 {
     if !records::is_legal(name) {
-        return stay(Answer::NotAllowed);
+        return Err(Answer::NotAllowed);
     }
     if (LAST_PRIORITY as u64) < priority {
-        return stay(Answer::NotAllowed);
+        return Err(Answer::NotAllowed);
     }
-    if records::find_program(programs, name).is_some() {
-        return stay(Answer::NameInUse);
+    if records::find_program(*programs, name).is_some() {
+        return Err(Answer::NameInUse);
     }
-    let Some(p) = records::lowest_unused(programs) else {
-        return stay(Answer::AllUsed);
+    let Some(p) = records::lowest_unused(*programs) else {
+        return Err(Answer::AllUsed);
     };
-    Decision {
+    Ok(Decision {
         answer: Answer::Done(p as u64),
         effect: Effect::Load(p, priority as u16),
-    }
+    })
 }

@@ -5,7 +5,7 @@ ghost use Rattle.rules.specs.Plans.{View};
 ghost use Rattle.rules.specs.Rules.{call};
 ghost use Rattle.rules.specs.Requests.{ALLOC};
 ghost use Rattle.decisions.specs.declared.numbering.Wanted.TheVariants.{Lock, Clear, Free};
-ghost use Rattle.decisions.specs.Inner.{Decides, CanAllocate, OfNumbers, Ours, of_number, wanted, waiting_of, may_free};
+ghost use Rattle.decisions.specs.Inner.{Decides, settled, CanAllocate, OfNumbers, Ours, of_number, wanted, waiting_of, may_free};
 
 use super::{Decision, Effect, stay, waits};
 use limits::GENERAL;
@@ -24,97 +24,82 @@ pub(crate) enum Wanted {
 fn owner_of(global: bool, c: u8) -> u8
     ensures { result ≡ cond global globally c }
 {
-    if global {
-        return Numbers::GLOBAL;
-    }
-    c
-}
-
-fn one_of(x: u8, a: u8, b: u8) -> bool
-    ensures { result ≡ (eqb x a || eqb x b) }
-{
-    if x == a {
-        return true;
-    }
-    x == b
+    if global { Numbers::GLOBAL } else { c }
 }
 
 // Whether program c may free a number: its own or a global one, that nobody else has locked.
 fn may_free(c: u8, owner: u8, lock: u8) -> bool
     ensures { result ≡ may_free c owner lock }
 {
-    if !one_of(owner, c, Numbers::GLOBAL) {
-        return false;
-    }
-    one_of(lock, c, 0)
+    (owner == c || owner == Numbers::GLOBAL) && (lock == c || lock == 0)
 }
 
 // RN ALLOC: the lowest free number becomes c's, or everybody's.
-pub(crate) fn allocates(numbers: Numbers, c: u8, global: bool, w: u64) -> Decision
+pub(crate) fn allocates(numbers: Numbers, c: u8, global: bool, w: u64) -> Result<Decision, Answer>
     requires { CanAllocate numbers c }
-    ensures { (v : View) (nm : List ℕ) → OfNumbers v numbers → Decides v nm (call v c (ALLOC global w)) result }
+    ensures { (v : View) (nm : List ℕ) → OfNumbers v numbers → Decides v nm (call v c (ALLOC global w)) (settled result) }
 {
     if 1 < w {
-        return stay(Answer::NotAllowed);
+        return Err(Answer::NotAllowed);
     }
     let Some(r) = numbers.lowest_free() else {
         return waits(c, w, GENERAL, Why::Number);
     };
-    Decision {
+    Ok(Decision {
         answer: Answer::Done(r as u64),
         effect: Effect::Number(r, owner_of(global, c), 0),
-    }
+    })
 }
 
 // RN LOCK of a number x that is allocated.
-fn locks(c: u8, r: usize, w: u64, owner: u8, lock: u8) -> Decision
+fn locks(c: u8, r: usize, w: u64, owner: u8, lock: u8) -> Result<Decision, Answer>
     requires { Ours c r }
     ensures { (v : View) (nm : List ℕ) → r ≤ v.book.numbers
-        → Decides v nm (wanted v c r (Lock w) (record { owner = owner; lock = lock })) result }
+        → Decides v nm (wanted v c r (Lock w) (record { owner = owner; lock = lock })) (settled result) }
 {
     if lock == c {
-        return stay(Answer::Done(r as u64));
+        return Ok(stay(Answer::Done(r as u64)));
     }
     if lock == 0 {
-        return Decision {
+        return Ok(Decision {
             answer: Answer::Done(r as u64),
             effect: Effect::Number(r, owner, c),
-        };
+        });
     }
     waits(c, w, GENERAL, Why::Lock(r as u8))
 }
 
 // RN CLEAR of it.
-fn clears(c: u8, r: usize, owner: u8, lock: u8) -> Decision
+fn clears(c: u8, r: usize, owner: u8, lock: u8) -> Result<Decision, Answer>
     requires { Ours c r }
     ensures { (v : View) (nm : List ℕ) → r ≤ v.book.numbers
-        → Decides v nm (wanted v c r Clear (record { owner = owner; lock = lock })) result }
+        → Decides v nm (wanted v c r Clear (record { owner = owner; lock = lock })) (settled result) }
 {
     if lock == 0 {
-        return stay(Answer::Done(0));
+        return Ok(stay(Answer::Done(0)));
     }
     if lock != c {
-        return stay(Answer::NotHolder);
+        return Err(Answer::NotHolder);
     }
-    Decision {
+    Ok(Decision {
         answer: Answer::Done(0),
         effect: Effect::Release(r, owner, 0, false),
-    }
+    })
 }
 
 // RN FREE of it.
-fn frees(c: u8, r: usize, owner: u8, lock: u8) -> Decision
+fn frees(c: u8, r: usize, owner: u8, lock: u8) -> Result<Decision, Answer>
     requires { Ours c r }
     ensures { (v : View) (nm : List ℕ) → r ≤ v.book.numbers
-        → Decides v nm (wanted v c r Free (record { owner = owner; lock = lock })) result }
+        → Decides v nm (wanted v c r Free (record { owner = owner; lock = lock })) (settled result) }
 {
-    if may_free(c, owner, lock) {
-        return Decision {
-            answer: Answer::Done(0),
-            effect: Effect::Release(r, 0, 0, true),
-        };
+    if !may_free(c, owner, lock) {
+        return Err(Answer::NotHolder);
     }
-    stay(Answer::NotHolder)
+    Ok(Decision {
+        answer: Answer::Done(0),
+        effect: Effect::Release(r, 0, 0, true),
+    })
 }
 
 // How LOCK is to be answered where the number is locked: 0 where nothing is said of it.
@@ -123,29 +108,22 @@ fn waiting(q: Wanted) -> u64
 {
     match q {
         Wanted::Lock(w) => w,
-        Wanted::Clear => 0,
-        Wanted::Free => 0,
+        Wanted::Clear | Wanted::Free => 0,
     }
 }
 
 // What is wanted of number r: it is one of ours, and allocated.
-pub(crate) fn of_number(numbers: Numbers, c: u8, r: u64, q: Wanted) -> Decision
+pub(crate) fn of_number(numbers: Numbers, c: u8, r: u64, q: Wanted) -> Result<Decision, Answer>
     requires { CanAllocate numbers c }
-    ensures { (v : View) (nm : List ℕ) → OfNumbers v numbers → Decides v nm (of_number v c r q) result }
+    ensures { (v : View) (nm : List ℕ) → OfNumbers v numbers → Decides v nm (of_number v c r q) (settled result) }
 {
-    if 1 < waiting(q) {
-        return stay(Answer::NotAllowed);
-    }
-    if r < 1 {
-        return stay(Answer::NotAllowed);
-    }
-    if (numbers.count as u64) < r {
-        return stay(Answer::NotAllowed);
+    if 1 < waiting(q) || r < 1 || (numbers.count as u64) < r {
+        return Err(Answer::NotAllowed);
     }
     let k = r as usize;
     let x = numbers.number(k);
     if x.owner == 0 {
-        return stay(Answer::NotAllocated);
+        return Err(Answer::NotAllocated);
     }
     match q {
         Wanted::Lock(w) => locks(c, k, w, x.owner, x.lock),

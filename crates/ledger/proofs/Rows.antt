@@ -11,14 +11,11 @@ use mathlib.Core.List.{List}
 use lib.ListN.{length, get_or, set, replicate, length-set}
 use lib.Seq.{get_or-set_same, get_or-set_other}
 use borrow.Author.Count.{below_more}
-use Rattle.lists.proofs.Tests.{clash}
 use Rattle.records.specs.declared.Program.{Program}
 use Rattle.records.specs.Records.{missing}
 use Rattle.rules.specs.Test.{son_of}
-use Rattle.tracks.specs.Inner.{Tells}
-use Rattle.ledger.specs.Inner.{fits, name_code, name_key, son_key, used_key, Keyed, Fresh, Ended, Distinct, Apart, Sons}
-use Rattle.ledger.specs.Inner.{Awaited, Roster, Enrolled, slot_of, Marked}
-use Rattle.tracks.proofs.Tells.{tells-no}
+use Rattle.ledger.specs.Inner.{fits, name_code, name_key, son_key, used_key, Keyed, Fresh, Ended, Distinct, Sons}
+use Rattle.ledger.specs.Inner.{Awaited, slot_of, Marked}
 use Rattle.ledger.proofs.Turns.{fits-parts, unused-zeros, son-most}
 
 -- nothing is noted at first
@@ -89,10 +86,6 @@ pub noted-same : {c T R : ℕ} {ps : List Program} {ns ks ss qs us : List ℕ} {
     → Noted c T R ps ms js rs os vs top i
 noted-same N a b d o e f = rw (a, b, d, o, e, f) N
 
--- what is refused is neither marked nor noted
-refused : {c T R : ℕ} {ps : List Program} → (Roster c T R ps → ⊥) → (us ss qs : List ℕ) → Enrolled c T R ps false us ss qs
-refused f us ss qs = record { verdict = tells-no f; marked = λ z. clash z refl; columns = λ z. clash z refl }
-
 module _ {c T R : ℕ} {ps : List Program} {names sons states priorities used : List ℕ} {high i : ℕ}
     (N : Noted c T R ps names sons states priorities used high i) (h : i < 32) where
   pub noted-used : fits c T R (i + 1) (get_or ps i missing) ≡ true → (get_or ps i missing).used ≡ true → (name son : ℕ)
@@ -125,24 +118,11 @@ module _ {c T R : ℕ} {ps : List Program} {names sons states priorities used : 
     used = row-unused N.used N.low (ap (λ (b : Bool). cond b 1 0) u);
   }
 
-  pub noted-refused : fits c T R (i + 1) (get_or ps i missing) ≡ false → Enrolled c T R ps false used states priorities
-  noted-refused e = refused (λ S. clash (S.fitting i h) e) used states priorities
-
--- keys that are distinct are those of records apart, and back
-apart_of : (f : Program → ℕ) (ps : List Program) (ks : List ℕ) → Keyed f ps ks → Distinct ks → Apart f ps
-apart_of f ps ks K D i h n j m o e = D i h (λ z. n (sym (K.each i h) ∙ z)) j m o (K.each j m ∙ e ∙ sym (K.each i h))
-
-distinct_of : (f : Program → ℕ) (ps : List Program) (ks : List ℕ) → Keyed f ps ks → Apart f ps → Distinct ks
-distinct_of f ps ks K A i h n j m o e = A i h (λ z. n (K.each i h ∙ z)) j m o (sym (K.each j m) ∙ e ∙ K.each i h)
-
 -- the pass is done
 module _ {c T R : ℕ} {ps : List Program} {names sons states priorities used : List ℕ} {high i : ℕ}
     (N : Noted c T R ps names sons states priorities used high i) (h : 32 ≤ i) where
   keyed : (f : Program → ℕ) (ks : List ℕ) → Row f ps high i ks → Keyed f ps ks
   keyed f ks r = record { each = λ k l. r.each k (omega arith) }
-
-  pub names-ended : Ended names high
-  names-ended = record { most = omega (arith, N.low, N.most); rest = N.names.rest }
 
   pub sons-ended : Sons sons high
   unfolding son_key
@@ -158,47 +138,11 @@ module _ {c T R : ℕ} {ps : List Program} {names sons states priorities used : 
           )
       go k (no l) = omega (arith, N.sons.rest k (omega (arith, l, N.low, N.most)))
 
-  pub names-refused : (Distinct names → ⊥) → Enrolled c T R ps false used states priorities
-  names-refused f = refused (λ S. f (distinct_of name_key ps names (keyed name_key names N.names) S.names)) used states priorities
-
-  -- the state that is noted for a son
-  son-state : (k : ℕ) → k < 32 → get_or sons k 0 ≡ son_key (get_or ps k missing)
-      → get_or states (get_or sons k 0 - 1) 0 ≡ (get_or ps (son_key (get_or ps k missing) - 1) missing).state
-  son-state k l e =
-      ap (λ (x : ℕ). get_or states (x - 1) 0) e
-      ∙ N.states.each (son_key (get_or ps k missing) - 1) (omega (arith, sons-ended.known k))
-
-  pub noted-end : Distinct names → (ok : Bool) → Tells ok (Awaited sons states) → Enrolled c T R ps ok used states priorities
-  noted-end D ok t = record {
-    verdict = record {
-      yes = λ e. let A = t.yes e in record {
-        fitting = λ k l. N.fitting k (omega arith);
-        names = apart_of name_key ps names (keyed name_key names N.names) D;
-        live = λ k l n z.
-            A.live k l (λ y. n (sym (N.sons.each k (omega arith)) ∙ y)) (son-state k l (N.sons.each k (omega arith)) ∙ z);
-        sons = apart_of son_key ps sons (keyed son_key sons N.sons) A.once;
-      };
-      nay = λ e S. t.nay e (record {
-        live = λ k l n z.
-            S.live k l (λ y. n (N.sons.each k (omega arith) ∙ y)) (sym (son-state k l (N.sons.each k (omega arith))) ∙ z);
-        once = distinct_of son_key ps sons (keyed son_key sons N.sons) S.sons;
-      });
-    };
-    marked = λ e. keyed used_key used N.used;
-    columns = λ e. record {
-      states = keyed (λ (r : Program). r.state) states N.states;
-      priorities = keyed (λ (r : Program). r.priority) priorities N.priorities;
-    };
-  }
-
 -- keys with marks: each key before i has left one, and is new
 pub record Seen (ks seen : List ℕ) (i : ℕ) : Type 0 where
   pub long : length seen ≡ 251
   pub marks : (k : ℕ) → k < i → get_or seen (slot_of (get_or ks k 0)) 0 ≢ 0
   pub new : (k : ℕ) → k < i → Fresh ks k
-
-pub seen_start : (ks : List ℕ) → Seen ks (replicate 251 0) 0
-seen_start ks = record { long = refl; marks = λ k h. absurd (omega arith); new = λ k h. absurd (omega arith) }
 
 pub slot_small : (k : ℕ) → slot_of k < 251
 unfolding slot_of
@@ -289,15 +233,3 @@ module _ {ks states met : List ℕ} {i : ℕ} (M : Meeting ks states met i) wher
         back : (q : ℕ) → ((k : ℕ) → k < i + 1 → get_or ks k 0 ≢ q + 1) → Dec (q ≡ p) → get_or (set met p 1) q 0 ≡ 0
         back q f (yes w) = absurd (f i (omega arith) (omega arith))
         back q f (no w) = get_or-set_other met p q 1 0 w ∙ M.back q (λ k l. f k (omega arith))
-
-pub meeting-end : {ks states met : List ℕ} {i high : ℕ} → Meeting ks states met i → Ended ks high → high ≤ i → Awaited ks states
-meeting-end {ks} {states} {met} {i} {high} M E h =
-    record { live = λ k l n. live k n (dec_le (suc k) i); once = λ a l n b m o e. once a n b o e (dec_le (suc b) i) }
-  where
-    live : (k : ℕ) → get_or ks k 0 ≢ 0 → Dec (k < i) → get_or states (get_or ks k 0 - 1) 0 ≢ 0
-    live k n (yes w) = M.live k w n
-    live k n (no w) = absurd (n (E.rest k (omega (arith, w))))
-
-    once : (a : ℕ) → get_or ks a 0 ≢ 0 → (b : ℕ) → a < b → get_or ks b 0 ≡ get_or ks a 0 → Dec (b < i) → ⊥
-    once a n b o e (yes w) = M.new b w (λ z. n (sym e ∙ z)) a o (sym e)
-    once a n b o e (no w) = n (sym e ∙ E.rest b (omega (arith, w)))

@@ -6,10 +6,9 @@ use native.Mathlib.Decide.{ℕ_discrete, dec_le}
 use mathlib.Core.Path.{◌≡◌, refl, sym, ap, ◌∙◌}
 use mathlib.Core.Bool.{Bool, true, false, cond}
 use mathlib.Core.List.{List}
-use lib.ListN.{length, get_or, set, replicate, length-set, get_or-replicate}
-use lib.Seq.{get_or-set_same, get_or-set_other}
+use lib.ListN.{length, get_or, set, replicate, get_or-replicate}
+use lib.Seq.{get_or-set_other}
 use lib.Dec.{eqb}
-use borrow.Author.Count.{below_more}
 use Rattle.records.specs.declared.Program.{Program}
 use Rattle.records.specs.declared.Resource.{Resource}
 use Rattle.records.specs.Records.{Known}
@@ -40,21 +39,6 @@ marking-start used = record {
   other = λ h l m. get_or-set_other {A = ℕ} (set (replicate 256 1) 0 0) 33 h 0 0 (λ z. omega arith)
       ∙ get_or-set_other {A = ℕ} (replicate 256 1) 0 h 0 0 (λ z. omega arith) ∙ get_or-replicate {A = ℕ} 256 h 1 0 m;
 }
-
-pub marking-more : {used marks : List ℕ} {i : ℕ} → Marking used marks i → i < 32 → (v : ℕ) → v ≡ strange (get_or used i 0)
-    → Marking used (set marks (i + 1) v) (i + 1)
-marking-more {used} {marks} {i} M l v e = record {
-  most = omega arith;
-  long = length-set marks (i + 1) v ∙ M.long;
-  nobody = get_or-set_other marks (i + 1) 0 v 0 (λ z. omega arith) ∙ M.nobody;
-  global = get_or-set_other marks (i + 1) 33 v 0 (λ z. omega arith) ∙ M.global;
-  program = below_more _ _ (λ k h. get_or-set_other marks (i + 1) (k + 1) v 0 (λ z. omega arith) ∙ M.program k h)
-      (get_or-set_same marks (i + 1) v 0 (omega (arith, M.long)) ∙ e);
-  other = λ h a b. get_or-set_other marks (i + 1) h v 0 (λ z. omega arith) ∙ M.other h a b;
-}
-
-pub marking-end : {used marks : List ℕ} {i : ℕ} → Marking used marks i → 32 ≤ i → Strangers used marks
-marking-end M h = record { nobody = M.nobody; global = M.global; program = λ k l. M.program k (omega arith); other = M.other }
 
 -- the mark of a program
 mark-used : (r : Program) → strange (used_key r) ≡ 0 → r.used ≡ true

@@ -1,6 +1,6 @@
 -- What inner functions ask and promise; nothing here need be believed for the calls.
 -- Assumes nothing.
-use Rattle.std.specs.Prelude.{ℕ, ◌-◌, ◌≤◌, ◌+◌, ◌*◌, ◌<◌, ◌%◌, ◌≡◌, Bool, false, ◌&&◌, true, cond, not, ◌||◌, List, get_or, take, eqb, leb, ltb, ◌≢◌}
+use Rattle.std.specs.Prelude.{ℕ, ◌-◌, ◌≤◌, ◌+◌, ◌*◌, ◌<◌, ◌%◌, ◌≡◌, Bool, false, ◌&&◌, true, cond, not, ◌||◌, List, length, get_or, take, eqb, leb, ltb, ◌≢◌}
 use Rattle.limits.specs.Limits.{dormant, scheduled, general, disc, suspended, most_programs, most_numbers, last_priority, first_year, last_year}
 use Rattle.lists.specs.Lists.{count, up_to}
 use Rattle.records.specs.declared.Numbers.{Numbers}
@@ -16,9 +16,11 @@ use Rattle.records.specs.declared.Why.{Why}
 use Rattle.records.specs.declared.Why.TheVariants.{Nothing, Tracks, Son, Lock, Number}
 use Rattle.records.specs.Names.{legal}
 use Rattle.tracks.specs.Tracks.{system}
-use Rattle.tracks.specs.Inner.{Sizes, Tells}
+use Rattle.tracks.specs.Inner.{Sizes}
 use Rattle.rules.specs.Book.{Book, at}
 use Rattle.ledger.specs.declared.Ledger.{Ledger}
+use Rattle.ledger.specs.declared.roll.Roll.{Roll}
+use Rattle.ledger.specs.declared.sound.Review.{Review}
 use Rattle.ledger.specs.Ledger.{book_of, test_blank}
 use Rattle.rules.specs.Plans as rules
 use Rattle.rules.specs.Rules.{ends_in}
@@ -154,15 +156,16 @@ pub record Roster (c T R : ℕ) (ps : List Program) : Type 0 where
   pub live : (i : ℕ) → i < most_programs → son_key (get_or ps i missing) ≢ 0 → (get_or ps (son_key (get_or ps i missing) - 1) missing).state ≢ 0
   pub sons : Apart son_key ps
 
-pub record Enrolled (c T R : ℕ) (ps : List Program) (ok : Bool) (us ss qs : List ℕ) : Type 0 where
-  pub verdict : Tells ok (Roster c T R ps)
-  pub marked : ok ≡ true → Keyed used_key ps us
-  pub columns : ok ≡ true → Columns ps ss qs
+-- what is noted of sound records
+pub record Enrolled (c T R : ℕ) (ps : List Program) (x : Roll) : Type 0 where
+  pub sound : Roster c T R ps
+  pub marked : Keyed used_key ps x.used
+  pub columns : Columns ps x.states x.priorities
 
--- the ledger but its chains, and what a walk along these asks of its records
-pub record Reviewed (l : Ledger) (ok : Bool) (ss qs : List ℕ) : Type 0 where
-  pub verdict : ok ≡ test_book l
-  pub columns : ok ≡ true → Columns l.programs ss qs
+-- of a ledger that is sound but for its chains, what a walk along these asks of its records
+pub record Reviewed (l : Ledger) (x : Review) : Type 0 where
+  pub sound : test_book l ≡ true
+  pub columns : Columns l.programs x.states x.priorities
 
 -- who may hold no track: a mark for every number but 0, those of used programs, and GLOBAL
 unfoldable pub strange : ℕ → ℕ
@@ -179,6 +182,13 @@ pub record User (b : Book) (h : ℕ) : Type 0 where
   pub low : h < system
   pub used : Known h → (at b h).used ≡ true
 
+-- a number that nobody owns or locks; and all of them
+abbrev pub Bare : Resource → Type 0
+Bare x = (x.owner ≡ 0) × (x.lock ≡ 0)
+
+abbrev pub AllBare : List Resource → Type 0
+AllBare rs = (i : ℕ) → i < length rs → Bare (get_or rs i free)
+
 -- a number of ours, by who may own or lock it; all of them; those behind; and both
 pub record Sits (May : ℕ → Type 0) (x : Resource) : Type 0 where
   pub owner : May x.owner
@@ -190,7 +200,7 @@ abbrev pub Seated : ℕ → (ℕ → Type 0) → List Resource → Type 0
 Seated R May rs = (i : ℕ) → i < R → Sits May (get_or rs i free)
 
 abbrev pub Unowned : ℕ → List Resource → Type 0
-Unowned R rs = (i : ℕ) → i < most_numbers → R ≤ i → ((get_or rs i free).owner ≡ 0) × ((get_or rs i free).lock ≡ 0)
+Unowned R rs = (i : ℕ) → i < most_numbers → R ≤ i → Bare (get_or rs i free)
 
 pub record Numbered (R : ℕ) (May : ℕ → Type 0) (rs : List Resource) : Type 0 where
   pub ours : Seated R May rs

@@ -14,22 +14,13 @@ use records::{Program, Why, in_wait, is_legal};
 fn one_to(high: usize, n: usize) -> bool
     ensures { result ≡ up_to 1 high n }
 {
-    if n == 0 {
-        return false;
-    }
-    n <= high
+    1 <= n && n <= high
 }
 
 fn is_nothing(w: Why) -> bool
     ensures { result ≡ nothing w }
 {
-    match w {
-        Why::Nothing => true,
-        Why::Tracks(_) => false,
-        Why::Son(_) => false,
-        Why::Lock(_) => false,
-        Why::Number => false,
-    }
+    matches!(w, Why::Nothing)
 }
 
 // The son that is awaited, or 0.
@@ -37,28 +28,23 @@ pub fn son_of(w: Why) -> u8
     ensures { result ≡ son_of w }
 {
     match w {
-        Why::Nothing => 0,
-        Why::Tracks(_) => 0,
         Why::Son(k) => k,
-        Why::Lock(_) => 0,
-        Why::Number => 0,
+        Why::Nothing | Why::Tracks(_) | Why::Lock(_) | Why::Number => 0,
     }
 }
 
 fn is_unnamed(name: [u8; 5]) -> bool
     ensures { result ≡ alike name unused.name }
 {
-    (name[0] == 0) & (name[1] == 0) & (name[2] == 0) & (name[3] == 0) & (name[4] == 0)
+    name == [0; 5]
 }
 
 // Zeros all over, and no mark. Every part is looked at, so that no branch is taken.
 fn holds_zeros(r: Program) -> bool
     ensures { result ≡ zeros r }
 {
-    let name = r.name;
-    let w = r.why;
-    let idle = is_unnamed(name) & (r.priority == 0) & (r.state == 0);
-    idle & is_nothing(w) & (r.due == 0) & (r.interval == 0) & !r.suspend
+    let idle = is_unnamed(r.name) & (r.priority == 0) & (r.state == 0);
+    idle & is_nothing(r.why) & (r.due == 0) & (r.interval == 0) & !r.suspend
 }
 
 // A legal name, or zeros where the record is unused.
@@ -66,67 +52,44 @@ fn is_named(r: Program) -> bool
     ensures { result ≡ cond r.used (legal r.name) (zeros r) }
 {
     if r.used {
-        let name = r.name;
-        return is_legal(name);
+        is_legal(r.name)
+    } else {
+        holds_zeros(r)
     }
-    holds_zeros(r)
 }
 
+#[tactic(auto, unfolding(crate::specs::Inner::timed))]
 fn is_timed(ticks: u64, due: u64, interval: u64) -> bool
     ensures { result ≡ timed ticks due interval }
 {
     if due == 0 {
         return interval == 0;
     }
-    if due < ticks {
-        return false;
-    }
-    let ahead = due - ticks;
-    if ahead == 0 {
-        return false;
-    }
-    if Clock::FARTHEST < ahead {
-        return false;
-    }
-    interval <= Clock::FARTHEST
+    ticks < due && due - ticks <= Clock::FARTHEST && interval <= Clock::FARTHEST
 }
 
 // The mark stands only where a program waits. Few are marked, so the state is looked at last.
 fn mark_fits(mark: bool, state: u8) -> bool
     ensures { result ≡ mark_fits mark state }
 {
-    if mark {
-        return in_wait(state);
-    }
-    true
+    !mark || in_wait(state)
 }
 
 // A record but its why.
+#[tactic(auto, unfolding(crate::specs::Inner::trim))]
 fn is_trim(ticks: u64, r: Program) -> bool
     ensures { result ≡ trim ticks r }
 {
-    if !is_named(r) {
-        return false;
-    }
-    if LAST_PRIORITY < r.priority {
-        return false;
-    }
-    if !mark_fits(r.suspend, r.state) {
-        return false;
-    }
-    is_timed(ticks, r.due, r.interval)
+    is_named(r)
+        && r.priority <= LAST_PRIORITY
+        && mark_fits(r.suspend, r.state)
+        && is_timed(ticks, r.due, r.interval)
 }
 
 fn is_at_rest(state: u8) -> bool
     ensures { result ≡ (eqb state dormant || eqb state scheduled || eqb state suspended) }
 {
-    if state == DORMANT {
-        return true;
-    }
-    if state == SCHEDULED {
-        return true;
-    }
-    state == SUSPENDED
+    matches!(state, DORMANT | SCHEDULED | SUSPENDED)
 }
 
 fn state_fits(w: Why, state: u8) -> bool
@@ -135,9 +98,7 @@ fn state_fits(w: Why, state: u8) -> bool
     match w {
         Why::Nothing => is_at_rest(state),
         Why::Tracks(_) => state == DISC,
-        Why::Son(_) => state == GENERAL,
-        Why::Lock(_) => state == GENERAL,
-        Why::Number => state == GENERAL,
+        Why::Son(_) | Why::Lock(_) | Why::Number => state == GENERAL,
     }
 }
 
@@ -145,37 +106,27 @@ fn state_fits(w: Why, state: u8) -> bool
 fn son_fits(p: usize, k: u8) -> bool
     ensures { result ≡ (known k && not (eqb k p)) }
 {
-    if !one_to(MOST_PROGRAMS, k as usize) {
-        return false;
-    }
-    k as usize != p
+    one_to(MOST_PROGRAMS, k as usize) && k as usize != p
 }
 
 fn reason_fits(all: u16, numbers: u8, p: usize, w: Why) -> bool
     ensures { result ≡ reason_fits all numbers p w }
 {
     match w {
-        Why::Nothing => true,
+        Why::Nothing | Why::Number => true,
         Why::Tracks(n) => one_to(all as usize, n as usize),
         Why::Son(k) => son_fits(p, k),
         Why::Lock(r) => one_to(numbers as usize, r as usize),
-        Why::Number => true,
     }
 }
 
 // A record and its why; an unused one is sound where it holds zeros.
+#[tactic(auto, unfolding(crate::specs::Inner::fits))]
 pub fn record_fits(ticks: u64, all: u16, numbers: u8, p: usize, r: Program) -> bool
     ensures { result ≡ fits ticks all numbers p r }
 {
     if !r.used {
         return holds_zeros(r);
     }
-    if !is_trim(ticks, r) {
-        return false;
-    }
-    let w = r.why;
-    if !state_fits(w, r.state) {
-        return false;
-    }
-    reason_fits(all, numbers, p, w)
+    is_trim(ticks, r) && state_fits(r.why, r.state) && reason_fits(all, numbers, p, r.why)
 }

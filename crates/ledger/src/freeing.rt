@@ -1,8 +1,8 @@
 // What a call sets free, and whose reason to wait is gone.
-ghost use Rattle.std.specs.Prelude.{◌≤◌, ◌≡◌, take};
+ghost use Rattle.std.specs.Prelude.{ℕ, ◌≤◌, ◌≡◌, Bool, take};
 ghost use Rattle.limits.specs.Limits.{most_numbers};
 ghost use Rattle.lists.specs.Lists.{keep, remove};
-ghost use Rattle.records.specs.Records.{record_at};
+ghost use Rattle.records.specs.Records.{Known, record_at};
 ghost use Rattle.records.specs.Inner.{Fit};
 ghost use Rattle.rules.specs.Plans.{awaits};
 ghost use Rattle.rules.specs.Rules.{frees, clears};
@@ -37,8 +37,8 @@ impl Release {
         Release {
             ended: 0,
             tracks: 0,
-            cleared: cleared,
-            dealt: dealt,
+            cleared,
+            dealt,
         }
     }
 
@@ -49,15 +49,16 @@ impl Release {
         ensures { Releases result (ending_of numbers p n) }
     {
         let mut cleared = [false; MOST_NUMBERS];
-        let count = numbers.count as usize;
-        for i in 0..count {
-            let x = numbers.resources[i];
+        for (i, x) in numbers.resources[..numbers.count as usize]
+            .iter()
+            .enumerate()
+        {
             cleared[i] = x.concerns(p);
         }
         Release {
             ended: p,
             tracks: n,
-            cleared: cleared,
+            cleared,
             dealt: numbers.owns_any(p),
         }
     }
@@ -67,23 +68,31 @@ impl Release {
         ensures { (y : Rattle.rules.specs.Plans.Release) → Releases self y → result ≡ awaits y why }
     {
         match why {
-            Why::Nothing => false,
-            Why::Tracks(_) => false,
+            Why::Nothing | Why::Tracks(_) => false,
             Why::Son(k) => k != 0 && k == self.ended,
             Why::Lock(r) => {
                 let k = r as usize;
-                if k == 0 {
-                    return false;
-                }
-                if MOST_NUMBERS < k {
-                    return false;
-                }
-                let i = k - 1;
-                self.cleared[i]
+                1 <= k && k <= MOST_NUMBERS && self.cleared[k - 1]
             }
             Why::Number => self.dealt,
         }
     }
+}
+
+// Those of the list that pass a test.
+fn keep<F: Fn(u8) -> bool>(list: Listing, passes: F) -> Listing
+    requires listed { Listed list.ids list.len }
+    requires callable { (q : ℕ) → Known q → F.pre passes q }
+    ensures { (t : ℕ → Bool) → ((q : ℕ) → Known q → (b : Bool) → F.post passes q b → b ≡ t q)
+        → Lists result.ids result.len (keep t (take list.len list.ids)) }
+{
+    let mut kept = Listing::empty();
+    for &q in list.as_slice() {
+        if passes(q) {
+            kept.push(q);
+        }
+    }
+    kept
 }
 
 // The list without program p.
@@ -91,37 +100,14 @@ pub fn without(list: Listing, p: u8) -> Listing
     requires { Listed list.ids list.len }
     ensures { Lists result.ids result.len (remove p (take list.len list.ids)) }
 {
-    let n = list.len;
-    let mut ids: [u8; MOST_PROGRAMS] = [0; MOST_PROGRAMS];
-    let mut len: usize = 0;
-    for i in 0..n {
-        let q = list.ids[i];
-        if q != p {
-            ids[len] = q;
-            len += 1;
-        }
-    }
-    Listing { ids: ids, len: len }
+    keep(list, |q| q != p)
 }
 
 // Those of the list whose reason to wait is gone.
-pub fn sift(programs: [Program; MOST_PROGRAMS], list: Listing, release: Release) -> Listing
+pub fn sift(programs: &[Program; MOST_PROGRAMS], list: Listing, release: Release) -> Listing
     requires { Listed list.ids list.len }
     ensures { (y : Rattle.rules.specs.Plans.Release) → Releases release y
-        → Lists result.ids result.len (keep (λ q. awaits y (record_at programs q).why) (take list.len list.ids)) }
+        → Lists result.ids result.len (keep (λ q. awaits y (record_at programs.now q).why) (take list.len list.ids)) }
 {
-    let n = list.len;
-    let mut ids: [u8; MOST_PROGRAMS] = [0; MOST_PROGRAMS];
-    let mut len: usize = 0;
-    for i in 0..n {
-        let q = list.ids[i];
-        let k = q as usize - 1;
-        let r = programs[k];
-        let why = r.why;
-        if release.awaited(why) {
-            ids[len] = q;
-            len += 1;
-        }
-    }
-    Listing { ids: ids, len: len }
+    keep(list, |q| release.awaited(programs[q as usize - 1].why))
 }

@@ -2,19 +2,17 @@
 ghost use Rattle.std.specs.Prelude.{◌≤◌, ◌≡◌};
 ghost use Rattle.limits.specs.Limits.{most_numbers};
 ghost use Rattle.tracks.specs.Inner.{Tells, Serves};
-ghost use Rattle.ledger.specs.Inner.{strange, Strangers, Sits, Seated, Unowned, Numbered};
+ghost use Rattle.ledger.specs.Inner.{strange, Strangers, Sits, Seated, Bare, AllBare, Unowned, Numbered};
 
 use limits::{MOST_NUMBERS, MOST_PROGRAMS};
 use records::{Numbers, Resource};
 
 // The mark of a program that is not used.
+#[tactic(auto, unfolding(crate::specs::Inner::strange))]
 fn stranger(used: u8) -> u8
     ensures { result ≡ strange used }
 {
-    if used == 0 {
-        return 1;
-    }
-    0
+    if used == 0 { 1 } else { 0 }
 }
 
 // A mark for each number that is neither 0, nor a used program's, nor GLOBAL.
@@ -24,8 +22,8 @@ pub fn strangers(used: &[u8; MOST_PROGRAMS]) -> [u8; 256]
     let mut marks = [1u8; 256];
     marks[0] = 0;
     marks[Numbers::GLOBAL as usize] = 0;
-    for i in 0..MOST_PROGRAMS {
-        marks[i + 1] = stranger(used[i]);
+    for (i, u) in used.iter().enumerate() {
+        marks[i + 1] = stranger(*u);
     }
     marks
 }
@@ -34,55 +32,44 @@ pub fn strangers(used: &[u8; MOST_PROGRAMS]) -> [u8; 256]
 fn number_fits(x: Resource, marks: &[u8; 256]) -> bool
     ensures { Tells result (Sits (Serves marks.now) x) }
 {
-    let lock = x.lock;
-    if marks[x.owner as usize] != 0 {
-        return false;
-    }
-    if marks[lock as usize] != 0 {
-        return false;
-    }
-    if lock == Numbers::GLOBAL {
-        return false;
-    }
-    if x.owner == 0 {
-        return lock == 0;
-    }
-    true
+    marks[x.owner as usize] == 0
+        && marks[x.lock as usize] == 0
+        && x.lock != Numbers::GLOBAL
+        && (x.owner != 0 || x.lock == 0)
 }
 
-fn ours_ok(count: usize, resources: [Resource; MOST_NUMBERS], marks: &[u8; 256]) -> bool
+fn ours_ok(count: usize, resources: &[Resource; MOST_NUMBERS], marks: &[u8; 256]) -> bool
     requires { count ≤ most_numbers }
-    ensures { Tells result (Seated count (Serves marks.now) resources) }
+    ensures { Tells result (Seated count (Serves marks.now) resources.now) }
 {
-    for i in 0..count {
-        let x = resources[i];
-        if !number_fits(x, marks) {
-            return false;
-        }
-    }
-    true
+    resources[..count].iter().all(|x| number_fits(*x, marks))
 }
 
-// Nobody owns or locks a number behind them: owners and locks sum up to 0.
-fn rest_ok(count: usize, resources: [Resource; MOST_NUMBERS]) -> bool
-    requires { count ≤ most_numbers }
-    ensures { Tells result (Unowned count resources) }
+// Nobody owns or locks the number; and so with all of them.
+fn is_blank(x: Resource) -> bool
+    ensures { Tells result (Bare x) }
 {
-    let mut sum: usize = 0;
-    for i in count..MOST_NUMBERS {
-        let x = resources[i];
-        sum += x.owner as usize + x.lock as usize;
-    }
-    sum == 0
+    x.owner == 0 && x.lock == 0
+}
+
+fn are_blank(numbers: &[Resource]) -> bool
+    ensures { Tells result (AllBare numbers.now) }
+{
+    numbers.iter().all(|x| is_blank(*x))
+}
+
+// Nobody owns or locks a number behind them.
+fn rest_ok(count: usize, resources: &[Resource; MOST_NUMBERS]) -> bool
+    requires { count ≤ most_numbers }
+    ensures { Tells result (Unowned count resources.now) }
+{
+    are_blank(&resources[count..])
 }
 
 // Every place of the numbers.
-pub fn numbers_ok(count: usize, resources: [Resource; MOST_NUMBERS], marks: &[u8; 256]) -> bool
+pub fn numbers_ok(count: usize, resources: &[Resource; MOST_NUMBERS], marks: &[u8; 256]) -> bool
     requires { count ≤ most_numbers }
-    ensures { Tells result (Numbered count (Serves marks.now) resources) }
+    ensures { Tells result (Numbered count (Serves marks.now) resources.now) }
 {
-    if !ours_ok(count, resources, marks) {
-        return false;
-    }
-    rest_ok(count, resources)
+    ours_ok(count, resources, marks) && rest_ok(count, resources)
 }

@@ -1,16 +1,15 @@
 // All records: each by itself in one pass, which notes what is asked of one by another; then names and sons from the notes.
-ghost use Rattle.std.specs.Prelude.{◌<◌, ◌≡◌};
+ghost use Rattle.std.specs.Prelude.{◌<◌, ◌≡◌, MatchOption};
 ghost use Rattle.tracks.specs.Inner.{Tells};
-ghost use Rattle.ledger.specs.Inner.{joined, name_code, slot_of, Fresh, Ended, Distinct, Marked, Sons, Awaited, Enrolled};
+ghost use Rattle.ledger.specs.Inner.{joined, name_code, slot_of, Fresh, Ended, Distinct, Marked, Sons, Awaited, Roster, Enrolled};
 
 use super::entries::{record_fits, son_of};
 use limits::MOST_PROGRAMS;
 use records::Program;
 
-// Whether the records are sound; a mark for each used one; and their states and priorities.
+// Of sound records: a mark for each used one; and their states and priorities.
 #[derive(Clone, Copy)]
 pub struct Roll {
-    pub ok: bool,
     pub used: [u8; MOST_PROGRAMS],
     pub states: [u8; MOST_PROGRAMS],
     pub priorities: [u16; MOST_PROGRAMS],
@@ -23,6 +22,7 @@ fn join(a: u8, b: u8, c: u8, d: u8, e: u8) -> u64
     (high * 256 + d as u64) * 256 + e as u64
 }
 
+#[tactic(auto, unfolding(crate::specs::Inner::name_code))]
 fn name_code(name: [u8; 5]) -> u64
     ensures { result ≡ name_code name }
 {
@@ -30,6 +30,7 @@ fn name_code(name: [u8; 5]) -> u64
 }
 
 // Where a key leaves its mark: equal keys leave it at one place.
+#[tactic(auto, unfolding(crate::specs::Inner::slot_of))]
 fn slot(key: u64) -> usize
     ensures { result ≡ slot_of key }
 {
@@ -41,19 +42,7 @@ fn is_new(keys: &[u64; MOST_PROGRAMS], i: usize, mark: u8) -> bool
     requires { Marked keys.now i mark }
     ensures { Tells result (Fresh keys.now i) }
 {
-    if mark == 0 {
-        return true;
-    }
-    let own = keys[i];
-    if own == 0 {
-        return true;
-    }
-    for j in 0..i {
-        if keys[j] == own {
-            return false;
-        }
-    }
-    true
+    mark == 0 || keys[i] == 0 || !keys[..i].contains(&keys[i])
 }
 
 // Whether no two keys are the same, but zeros.
@@ -62,8 +51,8 @@ fn are_distinct(keys: &[u64; MOST_PROGRAMS], high: usize) -> bool
     ensures { Tells result (Distinct keys.now) }
 {
     let mut seen = [0u8; 251];
-    for i in 0..high {
-        let h = slot(keys[i]);
+    for (i, key) in keys[..high].iter().enumerate() {
+        let h = slot(*key);
         if !is_new(keys, i, seen[h]) {
             return false;
         }
@@ -78,14 +67,10 @@ fn sons_ok(sons: &[u8; MOST_PROGRAMS], states: &[u8; MOST_PROGRAMS], high: usize
     ensures { Tells result (Awaited sons.now states.now) }
 {
     let mut met = [0u8; MOST_PROGRAMS];
-    for i in 0..high {
-        let son = sons[i];
+    for &son in &sons[..high] {
         if son != 0 {
             let k = son as usize - 1;
-            if states[k] == 0 {
-                return false;
-            }
-            if met[k] != 0 {
+            if states[k] == 0 || met[k] != 0 {
                 return false;
             }
             met[k] = 1;
@@ -94,50 +79,40 @@ fn sons_ok(sons: &[u8; MOST_PROGRAMS], states: &[u8; MOST_PROGRAMS], high: usize
     true
 }
 
-// The records, one by one; then their names, and their sons.
-pub fn enrolled(programs: [Program; MOST_PROGRAMS], ticks: u64, all: u16, numbers: u8) -> Roll
-    ensures { Enrolled ticks all numbers programs result.ok result.used result.states result.priorities }
+// The records, one by one; then their names, and their sons. Nothing where they are not sound.
+pub fn enrolled(
+    programs: &[Program; MOST_PROGRAMS],
+    ticks: u64,
+    all: u16,
+    numbers: u8,
+) -> Option<Roll>
+    ensures { MatchOption result (Roster ticks all numbers programs.now → ⊥) (Enrolled ticks all numbers programs.now) }
 {
     let mut names = [0u64; MOST_PROGRAMS];
     let mut sons = [0u8; MOST_PROGRAMS];
     let mut states = [0u8; MOST_PROGRAMS];
     let mut priorities = [0u16; MOST_PROGRAMS];
     let mut used = [0u8; MOST_PROGRAMS];
-    let mut high: usize = 0;
-    for i in 0..MOST_PROGRAMS {
-        let r = programs[i];
-        if !record_fits(ticks, all, numbers, i + 1, r) {
-            return Roll {
-                ok: false,
-                used,
-                states,
-                priorities,
-            };
+    let mut high = 0;
+    for (i, r) in programs.iter().enumerate() {
+        if !record_fits(ticks, all, numbers, i + 1, *r) {
+            return None;
         }
         if r.used {
-            let name = r.name;
-            names[i] = name_code(name);
-            let w = r.why;
-            sons[i] = son_of(w);
+            names[i] = name_code(r.name);
+            sons[i] = son_of(r.why);
             states[i] = r.state;
             priorities[i] = r.priority;
             used[i] = 1;
             high = i + 1;
         }
     }
-    if !are_distinct(&names, high) {
-        return Roll {
-            ok: false,
-            used,
-            states,
-            priorities,
-        };
+    if !are_distinct(&names, high) || !sons_ok(&sons, &states, high) {
+        return None;
     }
-    let ok = sons_ok(&sons, &states, high);
-    Roll {
-        ok,
+    Some(Roll {
         used,
         states,
         priorities,
-    }
+    })
 }

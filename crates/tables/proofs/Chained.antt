@@ -91,12 +91,8 @@ module _ {st pr : ℕ → ℕ} {l : List ℕ} {state : ℕ} {met : List ℕ} (S 
         go s a b (yes e) = subst (λ (x : ℕ). Ordered st pr l x (walk l x 32)) (sym e) (W.ordered (not-false ok t))
         go s a b (no w) = S.ordered s a (omega arith)
 
-    pub sofar-refused : not ok ≡ true → Walks st pr l ok marks
-    sofar-refused t = record {
-      ordered = λ e. clash e (not-true ok t);
-      marked = λ e. clash e (not-true ok t);
-      refused = λ e A. W.refused e (A state S.low h) (unmet A);
-    }
+    pub sofar-refused : not ok ≡ true → AllOrdered st pr l 6 → ⊥
+    sofar-refused t A = W.refused (not-true ok t) (A state S.low h) (unmet A)
       where
         -- who is in the chain of this state is in none below
         below : (p : ℕ) → st p ≡ state → (n : ℕ) → standing l (state - 1) p ≡ n → standing l (state - 1) p ≡ 0
@@ -110,11 +106,10 @@ module _ {st pr : ℕ → ℕ} {l : List ℕ} {state : ℕ} {met : List ℕ} (S 
             let O = A state S.low h in
             S.marked p (O.within p k) ∙ below p (O.state p k) (standing l (state - 1) p) refl
 
-  pub sofar-end : 6 < state → Walks st pr l true met
+  pub sofar-end : 6 < state → Walks st pr l met
   sofar-end h = record {
-    ordered = λ e s a b. S.ordered s a (omega (arith, S.high));
-    marked = λ e p P. S.marked p P ∙ ap (λ (x : ℕ). standing l x p) six;
-    refused = λ e. false-true (sym e);
+    ordered = λ s a b. S.ordered s a (omega (arith, S.high));
+    marked = λ p P. S.marked p P ∙ ap (λ (x : ℕ). standing l x p) six;
   }
     where
       six : state - 1 ≡ 6
@@ -202,14 +197,10 @@ module _ {st pr st' pr' : ℕ → ℕ} (A : Alike st pr st' pr') {l : List ℕ} 
     others = λ p P. ap (settled (get_or marks (p - 1) 0) (get_or l (7 + p) 0)) (sym (A.state p P)) ∙ R.others p P;
   }
 
-module _ {st pr st' pr' : ℕ → ℕ} (A : Alike st pr st' pr') {l : List ℕ} {ok : Bool} {marks : List ℕ} where
-  walks-alike : Walks st pr l ok marks → Walks st' pr' l ok marks
-  walks-alike W = record {
-    ordered = λ e s a b. ordered-alike A s (walk l s 32) (W.ordered e s a b);
-    marked = W.marked;
-    refused = λ e O. W.refused e (λ s a b. ordered-alike (alike-back A) s (walk l s 32) (O s a b));
-  }
+all-alike : {st pr st' pr' : ℕ → ℕ} → Alike st pr st' pr' → {l : List ℕ} → AllOrdered st pr l 6 → AllOrdered st' pr' l 6
+all-alike A {l} O s a b = ordered-alike A s (walk l s 32) (O s a b)
 
+module _ {st pr st' pr' : ℕ → ℕ} (A : Alike st pr st' pr') {l : List ℕ} {ok : Bool} {marks : List ℕ} where
   rests-alike : Rests st l marks ok → Rests st' l marks ok
   rests-alike R = record { fine = λ e. rest-alike A marks (R.fine e); refused = λ e F. R.refused e (rest-alike (alike-back A) marks F) }
 
@@ -326,18 +317,16 @@ module _ (ps : List Program) (l : List ℕ) where
   yes-test C L = sym (and (chains-test (book_with ps) (read l) C) (links-test l L))
 
 -- the test passes where the walks are in order and the rest is settled, and else fails
-module _ (ss qs l : List ℕ) {ok : Bool} {marks : List ℕ} (W : Walks (of_program ss) (of_program qs) l ok marks) where
-  pub walks-refused : not ok ≡ true → Chained ss qs l false
-  walks-refused t ps K = no_test ps l (λ C L. (walks-alike (columns-alike K) W).refused (not-true ok t) (chains-ordered ps l C L))
+pub walks-refused : (ss qs l : List ℕ) → (AllOrdered (of_program ss) (of_program qs) l 6 → ⊥) → Chained ss qs l false
+walks-refused ss qs l f ps K = no_test ps l (λ C L. f (all-alike (alike-back (columns-alike K)) (chains-ordered ps l C L)))
 
-  pub walks-rest : not ok ≡ false → (fine : Bool) → Rests (of_program ss) l marks fine → Chained ss qs l fine
-  walks-rest t fine R ps K = go fine (rests-alike (columns-alike K) R)
+module _ (ss qs l : List ℕ) {marks : List ℕ} (W : Walks (of_program ss) (of_program qs) l marks) where
+  pub walks-rest : (fine : Bool) → Rests (of_program ss) l marks fine → Chained ss qs l fine
+  walks-rest fine R ps K = go fine (rests-alike (columns-alike K) R)
     where
-      M : Marked l 6 marks
-      M = W.marked (not-false ok t)
+      O : AllOrdered (state_in ps) (prio_in ps) l 6
+      O = all-alike (columns-alike K) W.ordered
 
       go : (b : Bool) → Rests (state_in ps) l marks b → b ≡ test_chained ps l
-      go true F =
-          yes-test ps l (ordered-chains ps l marks M ((walks-alike (columns-alike K) W).ordered (not-false ok t)) (F.fine refl))
-          (ordered-links ps l marks M ((walks-alike (columns-alike K) W).ordered (not-false ok t)) (F.fine refl))
-      go false F = no_test ps l (λ C L. F.refused refl (chains-rest ps l marks M C L))
+      go true F = yes-test ps l (ordered-chains ps l marks W.marked O (F.fine refl)) (ordered-links ps l marks W.marked O (F.fine refl))
+      go false F = no_test ps l (λ C L. F.refused refl (chains-rest ps l marks W.marked C L))

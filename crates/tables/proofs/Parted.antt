@@ -1,9 +1,8 @@
 -- The test of soundness is the test of the book and that of the chains: the same tests in another order.
 -- Assumes nothing.
 use mathlib.Core.Path.{◌≡◌, refl, sym, ap, ◌∙◌}
-use mathlib.Core.Bool.{Bool, true, false, not, ◌&&◌}
+use mathlib.Core.Bool.{Bool, true, false, ◌&&◌}
 use mathlib.Core.List.{List, [], ◌∷◌}
-use borrow.Author.Tests.{not-true, not-false}
 use Rattle.rules.specs.Test.{test_names, test_zeros, test_chains, test_whys, test_marks, test_system, test_users, test_unlocked}
 use Rattle.rules.specs.Test.{test_limits, test_dues}
 use Rattle.chains.specs.Links.{read, test_links}
@@ -44,9 +43,9 @@ sound-parts t =
     sym (ap (λ (x : Bool). all_of x more) (and_assoc first c l) ∙ last first (c && l) more)
 
 -- so the chains are looked at only where the book is sound
-module _ (t : Tables) (b : Bool) (e : b ≡ test_book t.ledger) where
-  pub book-fails : not b ≡ true → false ≡ sound t
-  book-fails h = ap (λ (x : Bool). x && test_chained t.ledger.programs t.links) (sym (not-true b h) ∙ e) ∙ sound-parts t
+module _ (t : Tables) where
+  pub book-fails : test_book t.ledger ≡ false → false ≡ sound t
+  book-fails h = ap (λ (x : Bool). x && test_chained t.ledger.programs t.links) (sym h) ∙ sound-parts t
 
-  pub book-passes : not b ≡ false → (c : Bool) → c ≡ test_chained t.ledger.programs t.links → c ≡ sound t
-  book-passes h c k = k ∙ ap (λ (x : Bool). x && test_chained t.ledger.programs t.links) (sym (not-false b h) ∙ e) ∙ sound-parts t
+  pub book-passes : test_book t.ledger ≡ true → (c : Bool) → c ≡ test_chained t.ledger.programs t.links → c ≡ sound t
+  book-passes h c k = k ∙ ap (λ (x : Bool). x && test_chained t.ledger.programs t.links) (sym h) ∙ sound-parts t

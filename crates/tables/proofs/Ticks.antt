@@ -90,56 +90,48 @@ module _ (t : Tables) (O : Orderly t) (now : ℕ) where
   was-passed : (ps : List Program) → ps ≡ map (moved now) t.ledger.programs → Says (with ps) (passed now (plain t))
   was-passed ps P = subst (λ (qs : List Program). Says (with qs) (passed now (plain t))) (sym P) passed-says
 
--- one record after another: the first i of a ledger have their timers moved on
-pub record Passing (s : Tables) (now : ℕ) (l : Ledger) (i : ℕ) : Type 0 where
+-- one record after another: the first i have their timers moved on
+pub record Passing (s : Tables) (now : ℕ) (ps : List Program) (i : ℕ) : Type 0 where
   pub within : i ≤ 32
-  pub is : l
-      ≡ record {
-        programs = changed (moved now) i s.ledger.programs;
-        clock = s.ledger.clock;
-        tracks = s.ledger.tracks;
-        numbers = s.ledger.numbers;
-      }
+  pub is : ps ≡ changed (moved now) i s.ledger.programs
 
 module _ (s : Tables) (now : ℕ) where
-  abbrev over : List Program → Ledger
-  over ps = record { programs = ps; clock = s.ledger.clock; tracks = s.ledger.tracks; numbers = s.ledger.numbers }
-
   -- the same at that time
-  abbrev clocked_at : Ledger → Ledger
-  clocked_at x =
-      record { programs = x.programs; clock = record { ticks = now; year = x.clock.year }; tracks = x.tracks; numbers = x.numbers }
+  abbrev clocked_with : List Program → Ledger
+  clocked_with ps = record {
+    programs = ps;
+    clock = record { ticks = now; year = s.ledger.clock.year };
+    tracks = s.ledger.tracks;
+    numbers = s.ledger.numbers;
+  }
 
-  pub passing-start : Passing s now s.ledger 0
+  pub passing-start : Passing s now s.ledger.programs 0
   passing-start = record { within = omega arith; is = refl }
 
-  module _ {l : Ledger} {i : ℕ} (P : Passing s now l i) where
+  module _ {ps : List Program} {i : ℕ} (P : Passing s now ps i) where
     -- the record that comes next is still as it was
-    pub passing-at : get_or l.programs i missing ≡ get_or s.ledger.programs i missing
-    passing-at =
-        ap (λ (x : Ledger). get_or x.programs i missing) P.is ∙ changed-at (moved now) i s.ledger.programs
+    pub passing-at : get_or ps i missing ≡ get_or s.ledger.programs i missing
+    passing-at = ap (λ (xs : List Program). get_or xs i missing) P.is ∙ changed-at (moved now) i s.ledger.programs
 
-    pub passing-moved : i < 32 → (r : Program) → r ≡ moved now (get_or l.programs i missing)
-        → Passing s now (record { programs = set l.programs i r; clock = l.clock; tracks = l.tracks; numbers = l.numbers }) (i + 1)
+    pub passing-moved : i < 32 → (r : Program) → r ≡ moved now (get_or ps i missing) → Passing s now (set ps i r) (i + 1)
     passing-moved h r e = record {
       within = omega arith;
-      is = ap (λ (x : Ledger). record { programs = set x.programs i r; clock = x.clock; tracks = x.tracks; numbers = x.numbers }) P.is
-          ∙ ap over (changed-next (moved now) i s.ledger.programs (changed (moved now) i s.ledger.programs) r refl
-          (e ∙ ap (moved now) passing-at));
+      is = ap (λ (xs : List Program). set xs i r) P.is
+          ∙ changed-next (moved now) i s.ledger.programs (changed (moved now) i s.ledger.programs) r refl (e ∙ ap (moved now) passing-at);
     }
 
-    pub passing-past : i < 32 → length s.ledger.programs ≡ 32 → falls_due now (get_or l.programs i missing) ≡ false → Passing s now l (i + 1)
+    pub passing-past : i < 32 → length s.ledger.programs ≡ 32 → falls_due now (get_or ps i missing) ≡ false → Passing s now ps (i + 1)
     passing-past h L f = record {
       within = omega arith;
       is = P.is
-          ∙ ap over (changed-skip (moved now) i s.ledger.programs (omega arith)
-          (moved-not now (get_or s.ledger.programs i missing) (ap (falls_due now) (sym passing-at) ∙ f)));
+          ∙ changed-skip (moved now) i s.ledger.programs (omega arith)
+          (moved-not now (get_or s.ledger.programs i missing) (ap (falls_due now) (sym passing-at) ∙ f));
     }
 
     -- all of them, and the clock
-    pub passing-done : Orderly s → 32 ≤ i → Says (record { ledger = clocked_at l; links = s.links }) (passed now (plain s))
+    pub passing-done : Orderly s → 32 ≤ i → Says (record { ledger = clocked_with ps; links = s.links }) (passed now (plain s))
     passing-done O h =
-        subst (λ (x : Ledger). Says (record { ledger = clocked_at x; links = s.links }) (passed now (plain s))) (sym P.is)
+        subst (λ (xs : List Program). Says (record { ledger = clocked_with xs; links = s.links }) (passed now (plain s))) (sym P.is)
         (was-passed s O now (changed (moved now) i s.ledger.programs)
         (changed-all (moved now) i s.ledger.programs (omega (arith, O.long, h))))
 

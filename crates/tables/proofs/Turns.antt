@@ -228,20 +228,24 @@ module _ (t u : Tables) (p : ℕ) (C : CanTurn t p) (S : Says u (leave lists p (
 
 -- p's record is amended and p stays in its chain: its timer, its mark
 module _ (t : Tables) (p : ℕ) (C : CanTurn t p) where
-  noted : (d : Deed) (x y : Program) → x ≡ y → y.state ≡ state_of (plain t).book p → y.priority ≡ prio_of (plain t).book p
-      → act lists p d (plain t) ≡ amend lists p y (plain t) → Played t (on p d ∷ []) (with_record p x t)
-  noted d x y X s n e =
-      says-as (ap (λ (z : Program). amend lists p z (plain t)) X ∙ sym e ∙ act-step p C.known d (plain t)) (amended-says t p x (record {
-        orderly = C.orderly;
-        known = C.known;
-        state = ap (λ (z : Program). z.state) X ∙ s;
-        priority = λ k. ap (λ (z : Program). z.priority) X ∙ n;
-      }))
+  pub can-note : (x y : Program) → x ≡ y → y.state ≡ state_of (plain t).book p → y.priority ≡ prio_of (plain t).book p → CanAmend t p x
+  can-note x y X s n = record {
+    orderly = C.orderly;
+    known = C.known;
+    state = ap (λ (z : Program). z.state) X ∙ s;
+    priority = λ k. ap (λ (z : Program). z.priority) X ∙ n;
+  }
 
-  pub was-timed : (d i : ℕ) (x : Program) → x ≡ with_timer d i (at (plain t).book p) → Played t (on p (timed d i) ∷ []) (with_record p x t)
-  unfolding act
-  was-timed d i x X = noted (timed d i) x (with_timer d i (at (plain t).book p)) X refl refl refl
+  noted : (d : Deed) (x y : Program) → x ≡ y → act lists p d (plain t) ≡ amend lists p y (plain t) → (r : Tables)
+      → Says r (amend lists p x (plain t)) → Played t (on p d ∷ []) r
+  noted d x y X e r = says-as (ap (λ (z : Program). amend lists p z (plain t)) X ∙ sym e ∙ act-step p C.known d (plain t))
 
-  pub was-marked : (x : Program) → x ≡ with_mark (at (plain t).book p) → Played t (on p marked ∷ []) (with_record p x t)
+  pub was-timed : (d i : ℕ) (x : Program) → x ≡ with_timer d i (at (plain t).book p) → (r : Tables) → Says r (amend lists p x (plain t))
+      → Played t (on p (timed d i) ∷ []) r
   unfolding act
-  was-marked x X = noted marked x (with_mark (at (plain t).book p)) X refl refl refl
+  was-timed d i x X = noted (timed d i) x (with_timer d i (at (plain t).book p)) X refl
+
+  pub was-marked : (x : Program) → x ≡ with_mark (at (plain t).book p) → (r : Tables) → Says r (amend lists p x (plain t))
+      → Played t (on p marked ∷ []) r
+  unfolding act
+  was-marked x X = noted marked x (with_mark (at (plain t).book p)) X refl

@@ -54,20 +54,22 @@ standing l (suc n) p = count p (walk l (suc n) most_programs) + standing l n p
 abbrev pub Marked : List ℕ → ℕ → List ℕ → Type 0
 Marked l n marks = (p : ℕ) → Known p → get_or marks (p - 1) 0 ≡ standing l n p
 
-pub record Walks (st pr : ℕ → ℕ) (l : List ℕ) (ok : Bool) (marks : List ℕ) : Type 0 where
-  pub ordered : ok ≡ true → AllOrdered st pr l suspended
-  pub marked : ok ≡ true → Marked l suspended marks
-  pub refused : ok ≡ false → AllOrdered st pr l suspended → ⊥
+pub record Walks (st pr : ℕ → ℕ) (l : List ℕ) (marks : List ℕ) : Type 0 where
+  pub ordered : AllOrdered st pr l suspended
+  pub marked : Marked l suspended marks
 
 -- who was met in no chain has link 0, and is in none of the states 1 to 6
 unfoldable pub settled : ℕ → ℕ → ℕ → Bool
 settled mark link state = not (eqb mark 0) || (eqb link 0 && (eqb state dormant || ltb suspended state))
 
 -- that of every program, and the heads of no chain are 0
+abbrev pub Others : (ℕ → ℕ) → List ℕ → List ℕ → Type 0
+Others st l marks = (p : ℕ) → Known p → settled (get_or marks (p - 1) 0) (get_or l (states + p) 0) (st p) ≡ true
+
 pub record Rest (st : ℕ → ℕ) (l : List ℕ) (marks : List ℕ) : Type 0 where
   pub dormant : get_or l dormant 0 ≡ 0
   pub nobody : get_or l states 0 ≡ 0
-  pub others : (p : ℕ) → Known p → settled (get_or marks (p - 1) 0) (get_or l (states + p) 0) (st p) ≡ true
+  pub others : Others st l marks
 
 pub record Rests (st : ℕ → ℕ) (l : List ℕ) (marks : List ℕ) (ok : Bool) : Type 0 where
   pub fine : ok ≡ true → Rest st l marks

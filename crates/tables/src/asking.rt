@@ -12,10 +12,9 @@ use rules::{Answer, Request};
 pub(crate) fn count_of(x: Counted) -> Outcome
     ensures { told result ≡ counted x.number x.tables }
 {
-    let tables = x.tables;
     Outcome {
         answer: Answer::Done(x.number),
-        tables: tables,
+        tables: x.tables,
     }
 }
 
@@ -25,63 +24,31 @@ impl Tables {
         requires { CanCarry self d.effect }
         ensures { told result ≡ carried self name d.answer d.effect }
     {
-        let answer = d.answer;
-        let effect = d.effect;
-        match effect {
-            Effect::Stay => Outcome {
-                answer: answer,
-                tables: self,
-            },
-            Effect::Renew(t, s, r, y) => Tables::fresh(t as u64, s as u64, r as u64, y as u64),
-            Effect::Load(p, n) => Outcome {
-                answer: answer,
-                tables: self.loaded(p, name, n),
-            },
-            Effect::Price(p, n) => Outcome {
-                answer: answer,
-                tables: self.priced(p, n),
-            },
-            Effect::Time(p, due, interval) => Outcome {
-                answer: answer,
-                tables: self.timed(p, due, interval),
-            },
-            Effect::Mark(p) => Outcome {
-                answer: answer,
-                tables: self.marked(p),
-            },
-            Effect::Become(p, state, why) => Outcome {
-                answer: answer,
-                tables: self.becomes(p, state, why),
-            },
-            Effect::Await(p, c) => Outcome {
-                answer: answer,
-                tables: self.awaited(p, c),
-            },
-            Effect::Dismiss(p, k, n) => Outcome {
-                answer: answer,
-                tables: self.ended(p, k, n),
-            },
-            Effect::End(p) => count_of(self.ended_self(p)),
-            Effect::Take(at, n, h) => Outcome {
-                answer: answer,
-                tables: self.taken(at, n, h),
-            },
-            Effect::Give(at, n) => Outcome {
-                answer: answer,
-                tables: self.given(at, n),
-            },
-            Effect::GiveAll(c, n) => Outcome {
-                answer: answer,
-                tables: self.given_all(c, n),
-            },
-            Effect::Number(r, owner, lock) => Outcome {
-                answer: answer,
-                tables: self.with_number(r, owner, lock),
-            },
-            Effect::Release(r, owner, lock, dealt) => count_of(self.released(
-                r, owner, lock, dealt,
-            )),
-            Effect::Tick => count_of(self.ticked_on()),
+        let tables = match d.effect {
+            Effect::Stay => self,
+            Effect::Renew(t, s, r, y) => {
+                return Tables::fresh(t as u64, s as u64, r as u64, y as u64);
+            }
+            Effect::Load(p, n) => self.loaded(p, name, n),
+            Effect::Price(p, n) => self.priced(p, n),
+            Effect::Time(p, due, interval) => self.timed(p, due, interval),
+            Effect::Mark(p) => self.marked(p),
+            Effect::Become(p, state, why) => self.becomes(p, state, why),
+            Effect::Await(p, c) => self.awaited(p, c),
+            Effect::Dismiss(p, k, n) => self.ended(p, k, n),
+            Effect::End(p) => return count_of(self.ended_self(p)),
+            Effect::Take(at, n, h) => self.taken(at, n, h),
+            Effect::Give(at, n) => self.given(at, n),
+            Effect::GiveAll(c, n) => self.given_all(c, n),
+            Effect::Number(r, owner, lock) => self.with_number(r, owner, lock),
+            Effect::Release(r, owner, lock, dealt) => {
+                return count_of(self.released(r, owner, lock, dealt));
+            }
+            Effect::Tick => return count_of(self.ticked_on()),
+        };
+        Outcome {
+            answer: d.answer,
+            tables,
         }
     }
 
@@ -90,10 +57,10 @@ impl Tables {
         ensures { told result ≡ asked self (the_request name q) }
     {
         let o = self.opened();
-        if o.sound {
-            return self.carry(name, decisions::decide(self.ledger, o.caller, name, q));
+        if !o.sound {
+            return self.refused(Answer::NotSound);
         }
-        self.refused(Answer::NotSound)
+        self.carry(name, decisions::decide(&self.ledger, o.caller, name, q))
     }
 
     // A refusal: the tables as they came.
@@ -101,7 +68,7 @@ impl Tables {
         ensures { result ≡ record { answer = answer; tables = self } }
     {
         Outcome {
-            answer: answer,
+            answer,
             tables: self,
         }
     }

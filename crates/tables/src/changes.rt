@@ -6,6 +6,7 @@ ghost use Rattle.rules.specs.Plans.{held, numbered};
 ghost use Rattle.tables.specs.Inner.{Played, CanHold, CanNumber};
 
 use super::Tables;
+use ledger::Ledger;
 use records::Numbers;
 use tracks::Tracks;
 
@@ -15,10 +16,13 @@ impl Tables {
         requires { CanHold self tracks }
         ensures { Played self (held (holders tracks) ∷ []) result }
     {
-        let mut ledger = self.ledger;
-        ledger.tracks = tracks;
-        let links = self.links;
-        Tables { ledger, links }
+        Tables {
+            ledger: Ledger {
+                tracks,
+                ..self.ledger
+            },
+            ..self
+        }
     }
 
     // The resource numbers are others.
@@ -26,9 +30,12 @@ impl Tables {
         requires { CanNumber self numbers }
         ensures { Played self (numbered (resources numbers) ∷ []) result }
     {
-        let mut ledger = self.ledger;
-        ledger.numbers = numbers;
-        let links = self.links;
-        Tables { ledger, links }
+        Tables {
+            ledger: Ledger {
+                numbers,
+                ..self.ledger
+            },
+            ..self
+        }
     }
 }

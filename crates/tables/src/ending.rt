@@ -26,8 +26,7 @@ impl Tables {
         if k == 8 {
             return self.unloaded(p);
         }
-        let t = self.becomes(p, DORMANT, Why::Nothing);
-        t.timed(p, 0, 0)
+        self.becomes(p, DORMANT, Why::Nothing).timed(p, 0, 0)
     }
 
     // The rest of p's ending: its numbers are deallocated and its locks cleared, and those who waited wake.
@@ -36,10 +35,7 @@ impl Tables {
         ensures { Played self (numbered (map (without p) (resources self.ledger.numbers))
             ∷ (wake (take w.disc.len w.disc.ids) ++ wake (take w.general.len w.general.ids))) result }
     {
-        let book = self.ledger;
-        let numbers = book.numbers;
-        let t = self.numbered(numbers.without(p));
-        t.roused(w)
+        self.numbered(self.ledger.numbers.without(p)).roused(w)
     }
 
     // OF 1 and 8: p is dismissed, its n tracks are freed, and the rest of its ending.
@@ -48,12 +44,9 @@ impl Tables {
         ensures { Played self (dismissed k p ++ (held (replaced p nobody (plain self).book.holders)
             ∷ settle (view lists (plain self)) p (ends (view lists (plain self)) p n))) result }
     {
-        let book = self.ledger;
-        let tracks = book.tracks;
-        let numbers = book.numbers;
-        let w = self.waiters(Release::of_ending(numbers, p, n));
+        let w = self.waiters(Release::of_ending(self.ledger.numbers, p, n));
         let gone = self.dismissed(p, k);
-        let freed = gone.held(tracks.replace_all(p, Tracks::FREE));
+        let freed = gone.held(self.ledger.tracks.replace_all(p, Tracks::FREE));
         freed.settled(p, w)
     }
 
@@ -64,9 +57,7 @@ impl Tables {
             (on p (becomes dormant Nothing) ∷ settle (view lists (plain self)) p (ends (view lists (plain self)) p 0))
             (woken (view lists (plain self)) (ends (view lists (plain self)) p 0)) result.tables result.number }
     {
-        let book = self.ledger;
-        let numbers = book.numbers;
-        let w = self.waiters(Release::of_ending(numbers, p, 0));
+        let w = self.waiters(Release::of_ending(self.ledger.numbers, p, 0));
         let idle = self.becomes(p, DORMANT, Why::Nothing);
         let tables = idle.settled(p, w);
         Counted {

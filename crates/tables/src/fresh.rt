@@ -36,21 +36,14 @@ impl Tables {
         requires { Sizes tracks system numbers year }
         ensures { result ≡ lay (fresh lists tracks system numbers year) }
     {
-        let unused = records::unused_record();
-        let programs = [unused; MOST_PROGRAMS];
-        let clock = Clock::from_ticks(0, year);
-        let holders = Tracks::fresh(tracks, system);
-        let free = Numbers::fresh(numbers);
-        let ledger = Ledger {
-            programs: programs,
-            clock: clock,
-            tracks: holders,
-            numbers: free,
-        };
-        let links = [0; SLOTS];
         Tables {
-            ledger: ledger,
-            links: links,
+            ledger: Ledger {
+                programs: [records::unused_record(); MOST_PROGRAMS],
+                clock: Clock::from_ticks(0, year),
+                tracks: Tracks::fresh(tracks, system),
+                numbers: Numbers::fresh(numbers),
+            },
+            links: [0; SLOTS],
         }
     }
 }

@@ -1,8 +1,10 @@
 // The steps that calls are made of: a program leaves its chain, enters one, has its record replaced; and the deeds made of these. Each step
-// takes the ledger and the links out of the tables once, changes them where they are, and puts tables together again.
-ghost use Rattle.std.specs.Prelude.{[], ◌∷◌};
+// changes the tables where they are.
+ghost use Rattle.std.specs.Prelude.{◌≡◌, [], ◌∷◌};
 ghost use Rattle.limits.specs.Limits.{scheduled, general};
 ghost use Rattle.records.specs.declared.Why.TheVariants.{Nothing, Son};
+ghost use Rattle.records.specs.Records.{Known};
+ghost use Rattle.rules.specs.Book.{at};
 ghost use Rattle.rules.specs.Plans.{becomes, wakes, priced, loaded, unloaded, timed, marked, on};
 ghost use Rattle.rules.specs.Keeper.{lists, leave, enter, amend};
 ghost use Rattle.tables.specs.Tables.{plain};
@@ -13,56 +15,47 @@ use limits::{DORMANT, GENERAL, SCHEDULED};
 use records::{Program, Why};
 
 impl Tables {
+    // p's record.
+    fn record_of(&self, p: u8) -> Program
+        requires { Known p }
+        ensures { result ≡ at (plain self.now).book p }
+    {
+        self.ledger.programs[p as usize - 1]
+    }
+
     // p's record is replaced.
-    pub(crate) fn amended(self, p: u8, r: Program) -> Tables
+    fn amended(mut self, p: u8, r: Program) -> Tables
         requires { CanAmend self p r }
         ensures { Says result (amend lists p r (plain self)) }
     {
-        let i = p as usize - 1;
-        let mut ledger = self.ledger;
-        ledger.programs[i] = r;
-        let links = self.links;
-        Tables { ledger, links }
+        self.ledger.programs[p as usize - 1] = r;
+        self
     }
 
     // p leaves its chain and is dormant.
-    pub(crate) fn left(self, p: u8) -> Tables
+    fn left(mut self, p: u8) -> Tables
         requires { CanTurn self p }
         ensures { Says result (leave lists p (plain self)) }
     {
         let i = p as usize - 1;
-        let mut ledger = self.ledger;
-        let links = self.links;
-        let r = ledger.programs[i];
-        ledger.programs[i] = r.in_state(DORMANT, Why::Nothing);
-        if r.state == DORMANT {
-            return Tables { ledger, links };
+        let r = self.ledger.programs[i];
+        self.ledger.programs[i] = r.in_state(DORMANT, Why::Nothing);
+        if r.state != DORMANT {
+            self.links = chains::leave(self.links, r.state as usize, p);
         }
-        let rest = chains::leave(links, r.state as usize, p);
-        Tables {
-            ledger,
-            links: rest,
-        }
+        self
     }
 
     // p, which stands in no chain, has this record from now on, and enters the chain of its state.
-    pub(crate) fn entered(self, p: u8, x: Program) -> Tables
+    fn entered(mut self, p: u8, x: Program) -> Tables
         requires { CanJoin self p x.state }
         ensures { Says result (enter lists p x (plain self)) }
     {
-        let i = p as usize - 1;
-        let mut ledger = self.ledger;
-        let links = self.links;
-        ledger.programs[i] = x;
-        if x.state == DORMANT {
-            return Tables { ledger, links };
+        self.ledger.programs[p as usize - 1] = x;
+        if x.state != DORMANT {
+            self.links = chains::enter(self.links, self.ledger.programs, x.state as usize, p);
         }
-        let programs = ledger.programs;
-        let more = chains::enter(links, programs, x.state as usize, p);
-        Tables {
-            ledger,
-            links: more,
-        }
+        self
     }
 
     // p takes a state for a reason.
@@ -70,11 +63,8 @@ impl Tables {
         requires { CanBecome self p state }
         ensures { Played self (on p (becomes state why) ∷ []) result }
     {
-        let i = p as usize - 1;
-        let book = self.ledger;
-        let r = book.programs[i];
-        let t = self.left(p);
-        t.entered(p, r.in_state(state, why))
+        self.left(p)
+            .entered(p, self.record_of(p).in_state(state, why))
     }
 
     // p's wait is over: it is scheduled, or suspended where its mark stood.
@@ -82,11 +72,7 @@ impl Tables {
         requires { CanTurn self p }
         ensures { Played self (on p wakes ∷ []) result }
     {
-        let i = p as usize - 1;
-        let book = self.ledger;
-        let r = book.programs[i];
-        let t = self.left(p);
-        t.entered(p, r.wait_over())
+        self.left(p).entered(p, self.record_of(p).wait_over())
     }
 
     // p is sent off, and c waits for it.
@@ -103,11 +89,7 @@ impl Tables {
         requires { CanTurn self p }
         ensures { Played self (on p (priced n) ∷ []) result }
     {
-        let i = p as usize - 1;
-        let book = self.ledger;
-        let r = book.programs[i];
-        let t = self.left(p);
-        t.entered(p, r.with_priority(n))
+        self.left(p).entered(p, self.record_of(p).with_priority(n))
     }
 
     // p's record takes a new program.
@@ -115,8 +97,7 @@ impl Tables {
         requires { CanTurn self p }
         ensures { Played self (on p (loaded name n) ∷ []) result }
     {
-        let t = self.left(p);
-        t.amended(p, records::newcomer(name, n))
+        self.left(p).amended(p, records::newcomer(name, n))
     }
 
     // p's record is made unused.
@@ -124,8 +105,7 @@ impl Tables {
         requires { CanTurn self p }
         ensures { Played self (on p unloaded ∷ []) result }
     {
-        let t = self.left(p);
-        t.amended(p, records::unused_record())
+        self.left(p).amended(p, records::unused_record())
     }
 
     // p's timer is set, or goes where the due is 0.
@@ -133,12 +113,7 @@ impl Tables {
         requires { CanTurn self p }
         ensures { Played self (on p (timed due interval) ∷ []) result }
     {
-        let i = p as usize - 1;
-        let mut ledger = self.ledger;
-        let r = ledger.programs[i];
-        ledger.programs[i] = r.with_timer(due, interval);
-        let links = self.links;
-        Tables { ledger, links }
+        self.amended(p, self.record_of(p).with_timer(due, interval))
     }
 
     // p's mark is set.
@@ -146,11 +121,6 @@ impl Tables {
         requires { CanTurn self p }
         ensures { Played self (on p marked ∷ []) result }
     {
-        let i = p as usize - 1;
-        let mut ledger = self.ledger;
-        let r = ledger.programs[i];
-        ledger.programs[i] = r.with_mark();
-        let links = self.links;
-        Tables { ledger, links }
+        self.amended(p, self.record_of(p).with_mark())
     }
 }

@@ -12,7 +12,7 @@ ghost use Rattle.tables.specs.Inner.{Orderly, Played, CanSettle, CanHold, CanFil
 use super::{Counted, Tables, Waiters};
 use chains::Listing;
 use ledger::Release;
-use limits::{DISC, GENERAL, MOST_PROGRAMS};
+use limits::{DISC, GENERAL};
 use tracks::Tracks;
 
 // How many they are.
@@ -20,51 +20,43 @@ pub(crate) fn how_many(w: Waiters) -> u64
     requires { Few w.disc.len w.general.len }
     ensures { result ≡ w.disc.len + w.general.len }
 {
-    let disc = w.disc;
-    let general = w.general;
-    (disc.len + general.len) as u64
+    (w.disc.len + w.general.len) as u64
 }
 
 impl Tables {
     // Where a track was freed, all of chain 5 but the one that ended.
-    fn disc_waiters(self, release: Release) -> Listing
-        requires { Orderly self }
+    fn disc_waiters(&self, release: Release) -> Listing
+        requires { Orderly self.now }
         ensures { (y : Rattle.rules.specs.Plans.Release) → Releases release y
-            → Lists result.ids result.len (from_disc (view lists (plain self)) y) }
+            → Lists result.ids result.len (from_disc (view lists (plain self.now)) y) }
     {
         if release.tracks == 0 {
-            return Listing {
-                ids: [0; MOST_PROGRAMS],
-                len: 0,
-            };
+            return Listing::empty();
         }
-        let links = self.links;
-        let list = chains::chain_of(links, DISC as usize);
+        let list = chains::chain_of(self.links, DISC as usize);
         ledger::without(list, release.ended)
     }
 
     // Those of chain 3 whose reason to wait is gone, but not the one that ended.
-    fn general_waiters(self, release: Release) -> Listing
-        requires { Orderly self }
+    fn general_waiters(&self, release: Release) -> Listing
+        requires { Orderly self.now }
         ensures { (y : Rattle.rules.specs.Plans.Release) → Releases release y
-            → Lists result.ids result.len (from_general (view lists (plain self)) y) }
+            → Lists result.ids result.len (from_general (view lists (plain self.now)) y) }
     {
-        let links = self.links;
-        let list = chains::chain_of(links, GENERAL as usize);
+        let list = chains::chain_of(self.links, GENERAL as usize);
         let rest = ledger::without(list, release.ended);
-        let book = self.ledger;
-        let programs = book.programs;
-        ledger::sift(programs, rest, release)
+        ledger::sift(&self.ledger.programs, rest, release)
     }
 
     // Those whom a release wakes, read out before anything changes.
-    pub(crate) fn waiters(self, release: Release) -> Waiters
-        requires { Orderly self }
-        ensures { (y : Rattle.rules.specs.Plans.Release) → Releases release y → Awaits self y result.disc result.general }
+    pub(crate) fn waiters(&self, release: Release) -> Waiters
+        requires { Orderly self.now }
+        ensures { (y : Rattle.rules.specs.Plans.Release) → Releases release y → Awaits self.now y result.disc result.general }
     {
-        let disc = self.disc_waiters(release);
-        let general = self.general_waiters(release);
-        Waiters { disc, general }
+        Waiters {
+            disc: self.disc_waiters(release),
+            general: self.general_waiters(release),
+        }
     }
 
     // They wake.
@@ -72,10 +64,7 @@ impl Tables {
         requires { CanSettle self w.disc.ids w.disc.len w.general.ids w.general.len }
         ensures { Played self (wake (take w.disc.len w.disc.ids) ++ wake (take w.general.len w.general.ids)) result }
     {
-        let disc = w.disc;
-        let general = w.general;
-        let t = self.wake(disc);
-        t.wake(general)
+        self.wake(w.disc).wake(w.general)
     }
 
     // The tracks have other holders: n of them were freed, and who waits for tracks wakes.
@@ -84,8 +73,7 @@ impl Tables {
         ensures { Played self (held (holders tracks) ∷ wake (woken (view lists (plain self)) (frees n))) result }
     {
         let w = self.waiters(Release::of_tracks(n));
-        let t = self.held(tracks);
-        t.roused(w)
+        self.held(tracks).roused(w)
     }
 
     // n tracks from `at` on become h's.
@@ -93,9 +81,7 @@ impl Tables {
         requires { CanFill self at n }
         ensures { Played self (held (filled at n h (plain self).book.holders) ∷ []) result }
     {
-        let book = self.ledger;
-        let tracks = book.tracks;
-        self.held(tracks.filled(at, n, h))
+        self.held(self.ledger.tracks.filled(at, n, h))
     }
 
     // n tracks from `at` on are given back.
@@ -104,9 +90,7 @@ impl Tables {
         ensures { Played self
             (held (filled at n nobody (plain self).book.holders) ∷ wake (woken (view lists (plain self)) (frees n))) result }
     {
-        let book = self.ledger;
-        let tracks = book.tracks;
-        self.freed(tracks.filled(at, n, Tracks::FREE), n)
+        self.freed(self.ledger.tracks.filled(at, n, Tracks::FREE), n)
     }
 
     // All of c's tracks, n of them, are given back.
@@ -115,9 +99,7 @@ impl Tables {
         ensures { Played self
             (held (replaced c nobody (plain self).book.holders) ∷ wake (woken (view lists (plain self)) (frees n))) result }
     {
-        let book = self.ledger;
-        let tracks = book.tracks;
-        self.freed(tracks.replace_all(c, Tracks::FREE), n)
+        self.freed(self.ledger.tracks.replace_all(c, Tracks::FREE), n)
     }
 
     // Number r has another owner and lock.
@@ -125,9 +107,7 @@ impl Tables {
         requires { CanPut self r }
         ensures { Played self (assigned (view lists (plain self)) r owner lock ∷ []) result }
     {
-        let book = self.ledger;
-        let numbers = book.numbers;
-        self.numbered(numbers.with_number(r, owner, lock))
+        self.numbered(self.ledger.numbers.with_number(r, owner, lock))
     }
 
     // Number r is cleared or deallocated, and those wake who waited for that; how many.
@@ -138,10 +118,8 @@ impl Tables {
             (woken (view lists (plain self)) (clears r dealt)) result.tables result.number }
     {
         let w = self.waiters(Release::of_number(r, dealt));
-        let t = self.with_number(r, owner, lock);
-        let tables = t.roused(w);
         Counted {
-            tables,
+            tables: self.with_number(r, owner, lock).roused(w),
             number: how_many(w),
         }
     }

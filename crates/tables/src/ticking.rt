@@ -9,6 +9,7 @@ ghost use Rattle.tables.specs.Inner.{Says, CanPass, Moves, CanTick, CanTickOn, C
 ghost use Rattle.tables.specs.Tables.{plain};
 
 use super::{Counted, Outcome, Tables, asking};
+use ledger::Ledger;
 use limits::{MOST_PROGRAMS, SCHEDULED};
 use records::Why;
 use rules::Answer;
@@ -20,17 +21,18 @@ impl Tables {
         requires { CanPass self now }
         ensures { Says result (passed now (plain self)) }
     {
-        let mut ledger = self.ledger;
-        for i in 0..MOST_PROGRAMS {
-            let r = ledger.programs[i];
-            if timers::falls_due(r, now) {
-                ledger.programs[i] = timers::moved(r, now);
-                continue;
+        let mut programs = self.ledger.programs;
+        for r in &mut programs {
+            if timers::falls_due(*r, now) {
+                *r = timers::moved(*r, now);
             }
         }
+        let mut ledger = Ledger {
+            programs,
+            ..self.ledger
+        };
         ledger.clock.ticks = now;
-        let links = self.links;
-        Tables { ledger, links }
+        Tables { ledger, ..self }
     }
 
     // The same, and then the dormant programs whose timers fell due are scheduled, by their numbers; how many they are.
@@ -38,25 +40,15 @@ impl Tables {
         requires { CanPass self now }
         ensures { Moves self now result.tables result.number }
     {
-        let book = self.ledger;
-        let before = book.programs;
-        let mut t = self.passed(now);
-        let mut n: u64 = 0;
-        let mut p: u8 = 1;
-        while p <= MOST_PROGRAMS as u8 {
-            let r = before[p as usize - 1];
-            if timers::starts(r, now) {
-                t = t.becomes(p, SCHEDULED, Why::Nothing);
-                n += 1;
-                p += 1;
-                continue;
+        let mut tables = self.passed(now);
+        let mut number = 0;
+        for p in 1..=MOST_PROGRAMS as u8 {
+            if timers::starts(self.ledger.programs[p as usize - 1], now) {
+                tables = tables.becomes(p, SCHEDULED, Why::Nothing);
+                number += 1;
             }
-            p += 1;
         }
-        Counted {
-            tables: t,
-            number: n,
-        }
+        Counted { tables, number }
     }
 
     // TICK, where the clock stands below its ceiling; how many programs it starts.
@@ -64,8 +56,7 @@ impl Tables {
         requires { CanTickOn self }
         ensures { Counts self (tick_events (plain self).book) (keep (starts_now (plain self).book) all) result.tables result.number }
     {
-        let book = self.ledger;
-        self.moved_to(book.clock.ticks + 1)
+        self.moved_to(self.ledger.clock.ticks + 1)
     }
 
     // All ticks until the clock stands at `end`: a move for each moment at which programs start, and one for what is left. How many start.
@@ -73,22 +64,16 @@ impl Tables {
         requires { CanTickTo self end }
         ensures { TicksTo self end result.tables result.number }
     {
-        let book = self.ledger;
-        let mut now = book.clock.ticks;
-        let mut t = self;
-        let mut n: u64 = 0;
+        let mut now = self.ledger.clock.ticks;
+        let mut tables = self;
+        let mut number = 0;
         while now < end {
-            let ledger = t.ledger;
-            let programs = ledger.programs;
-            now = timers::next_start(programs, end);
-            let moved = t.moved_to(now);
-            n += moved.number;
-            t = moved.tables;
+            now = timers::next_start(tables.ledger.programs, end);
+            let moved = tables.moved_to(now);
+            number += moved.number;
+            tables = moved.tables;
         }
-        Counted {
-            tables: t,
-            number: n,
-        }
+        Counted { tables, number }
     }
 
     // TICK,n on sound tables: n ticks, or none.
@@ -96,8 +81,7 @@ impl Tables {
         requires { CanTick self }
         ensures { told result ≡ many_ticks self n }
     {
-        let book = self.ledger;
-        match timers::span_of(book.clock.ticks, n) {
+        match timers::span_of(self.ledger.clock.ticks, n) {
             Err(NoSpan::NotAllowed) => self.refused(Answer::NotAllowed),
             Err(NoSpan::AtCeiling) => self.refused(Answer::AtCeiling),
             Ok(end) => asking::count_of(self.ticked_to(end)),
@@ -109,9 +93,9 @@ impl Tables {
         ensures { told result ≡ many_ticks self n }
     {
         let o = self.opened();
-        if o.sound {
-            return self.ticked(n);
+        if !o.sound {
+            return self.refused(Answer::NotSound);
         }
-        self.refused(Answer::NotSound)
+        self.ticked(n)
     }
 }

@@ -11,10 +11,8 @@ impl Tables {
         requires { CanWake self list.ids list.len }
         ensures { Played self (wake (take list.len list.ids)) result }
     {
-        let n = list.len;
         let mut t = self;
-        for i in 0..n {
-            let p = list.ids[i];
+        for &p in list.as_slice() {
             t = t.waited(p);
         }
         t

@@ -7,19 +7,20 @@ use Rattle.decisions.specs.Inner.{OfTracks}
 use Rattle.decisions.proofs.Laws.{like, stays}
 use Rattle.decisions.proofs.Tracked.{Allowed, takes-not, takes-waits, takes-room, takes-done}
 use Rattle.decisions.proofs.discs.takes.Goals.{Else-w-gt1}
+use Rattle.decisions.proofs.discs.takes.Goals.{then-n-eq0-via-then-n-eq0, then-n-eq0-via-else-n-eq0+then-tracks-n}
+use Rattle.decisions.proofs.discs.takes.Goals.{then-n-eq0-via-else-n-eq0+else-tracks-n+then-w-gt1}
 use Rattle.decisions.proofs.discs.takes.Goals as goal
 
 passed : (c : Else-w-gt1) (v : View) → OfTracks v c.args.tracks → Allowed v.book.tracks c.args.n c.args.w
 passed c v O = record { least = omega arith; most = omega (arith, O.size); waits = omega arith }
 
 pub returns-then-n-eq0 : goal.returns-then-n-eq0
-returns-then-n-eq0 c = λ v nm O. stays v nm NotAllowed 0 c.stay.ensures refl (takes-not v _ _ _ _ (λ a. omega (arith, O.size)))
-
-pub returns-then-tracks-n : goal.returns-then-tracks-n
-returns-then-tracks-n c = λ v nm O. stays v nm NotAllowed 0 c.stay-then-tracks-n.ensures refl (takes-not v _ _ _ _ (λ a. omega (arith, O.size)))
-
-pub returns-then-w-gt1 : goal.returns-then-w-gt1
-returns-then-w-gt1 c = λ v nm O. stays v nm NotAllowed 0 c.stay-then-w-gt1.ensures refl (takes-not v _ _ _ _ (λ a. omega (arith, O.size)))
+returns-then-n-eq0 c = λ v nm O. stays v nm NotAllowed 0 refl (takes-not v _ _ _ _ (λ a.
+    elim c.then-n-eq0.branch [
+      | then-n-eq0-via-then-n-eq0 w ↦ omega (arith, O.size)
+      | then-n-eq0-via-else-n-eq0+then-tracks-n w ↦ omega (arith, O.size)
+      | then-n-eq0-via-else-n-eq0+else-tracks-n+then-w-gt1 w ↦ omega (arith, O.size)
+    ]))
 
 pub returns-in_default : goal.returns-in_default
 returns-in_default c =

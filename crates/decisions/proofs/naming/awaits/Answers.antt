@@ -7,7 +7,7 @@ use Rattle.decisions.proofs.naming.awaits.Goals as goal
 
 pub returns-then-state-ne-DORMANT : goal.returns-then-state-ne-DORMANT
 returns-then-state-ne-DORMANT c = λ v nm S.
-    stays v nm (WrongState c.args.state) _ c.stay.ensures refl (awaiting-not v _ _ S _ c.if-state-ne-DORMANT.true)
+    stays v nm (WrongState c.args.state) _ refl (awaiting-not v _ _ S _ c.if-state-ne-DORMANT.true)
 
 pub returns : goal.returns
 returns c = λ v nm S. like v nm (awaiting-done v _ _ S _ c.if-state-ne-DORMANT.false)

@@ -19,23 +19,23 @@ module _ {n : ℕ} {r : Option ℕ} (F : r ≡ unless_0 n) where
 
 pub returns-then-not-is_legal : goal.returns-then-not-is_legal
 returns-then-not-is_legal c = λ v O.
-    stays v _ NotAllowed 0 c.stay.ensures refl (load-illegal v _ _ _ c.is_legal.ensures (ap not c.if-not-is_legal.true))
+    stays v _ NotAllowed 0 refl (load-illegal v _ _ _ c.is_legal.ensures (ap not c.if-not-is_legal.true))
 
 pub returns-then-priority : goal.returns-then-priority
-returns-then-priority c = λ v O. stays v _ NotAllowed 0 c.stay-then-priority.ensures refl
+returns-then-priority c = λ v O. stays v _ NotAllowed 0 refl
     (load-high v _ _ _ c.is_legal.ensures c.if-priority.true)
 
 pub returns-then-is_some : goal.returns-then-is_some
 returns-then-is_some c =
     λ v O.
-    stays v _ NameInUse 0 c.stay-then-is_some.ensures refl
+    stays v _ NameInUse 0 refl
     (load-used v _ _ _ c.is_legal.ensures (ap not c.if-not-is_legal.false) c.if-priority.false _ O
     (taken c.find_program.ensures (sym c.is_some.ensures ∙ c.if-is_some.true)))
 
 pub returns-in_default : goal.returns-in_default
 returns-in_default c =
     λ v O.
-    stays v _ AllUsed 0 c.stay-in_default.ensures refl
+    stays v _ AllUsed 0 refl
     (load_full v _ _ _ c.is_legal.ensures (ap not c.if-not-is_legal.false) c.if-priority.false _ O
     (free c.find_program.ensures (sym c.is_some.ensures ∙ c.if-is_some.false)) _ refl (unless-none _ c.in_default.ensures))
 

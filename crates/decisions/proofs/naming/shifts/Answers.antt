@@ -7,7 +7,7 @@ use Rattle.decisions.proofs.naming.shifts.Goals as goal
 
 pub returns-then-state-from : goal.returns-then-state-from
 returns-then-state-from c = λ v nm S.
-    stays v nm (WrongState c.args.state) _ c.stay.ensures refl (going-not v _ _ S _ _ _ c.if-state-from.true)
+    stays v nm (WrongState c.args.state) _ refl (going-not v _ _ S _ _ _ c.if-state-from.true)
 
 pub returns : goal.returns
 returns c = λ v nm S. like v nm (going_done v _ _ S _ _ _ c.if-state-from.false)

@@ -8,7 +8,7 @@ use Rattle.decisions.proofs.Numbered.{alloc-not, alloc-waits, alloc-done, lowest
 use Rattle.decisions.proofs.numbering.allocates.Goals as goal
 
 pub returns-then-w-gt1 : goal.returns-then-w-gt1
-returns-then-w-gt1 c = λ v nm O. stays v nm NotAllowed 0 c.stay.ensures refl (alloc-not v _ _ _ c.if-w-gt1.true)
+returns-then-w-gt1 c = λ v nm O. stays v nm NotAllowed 0 refl (alloc-not v _ _ _ c.if-w-gt1.true)
 
 pub returns-in_default : goal.returns-in_default
 returns-in_default c =

@@ -10,7 +10,7 @@ returns-then-lock-eq0 c = λ v nm h. rests v nm (Done 0) _ c.stay.ensures refl r
 
 pub returns-then-lock-c : goal.returns-then-lock-c
 returns-then-lock-c c =
-    λ v nm h. stays v nm NotHolder 0 c.stay-then-lock-c.ensures refl (clear-other v _ _ _ c.if-lock-eq0.false c.if-lock-c.true)
+    λ v nm h. stays v nm NotHolder 0 refl (clear-other v _ _ _ c.if-lock-eq0.false c.if-lock-c.true)
 
 pub returns : goal.returns
 returns c = λ v nm h. like v nm (clear-own v _ _ _ c.if-lock-eq0.false c.if-lock-c.false)

@@ -1,24 +1,19 @@
--- `ledger::Release::of_ending` meets its contract. The invariant: the first i numbers are marked where
--- p owns or locks them. Assumes nothing.
-use native.Mathlib.Omega.{arith}
-use mathlib.Core.Path.{refl}
+-- `ledger::Release::of_ending` meets its contract: the numbers are marked that p owns or locks. Assumes nothing.
+use Rattle.std.proofs.Common.{rules, arith, refl, length, take, ◌≡◌}
+use lib.Seq.{length-take-le}
 use Rattle.rules.specs.Rules.{ends_in}
-use Rattle.ledger.proofs.Releasing.{marks-start, marks-step, marks-end}
+use Rattle.ledger.proofs.Releasing.{marks-end}
 use Rattle.ledger.proofs.Release.of_ending.Goals as goal
-
-pub loop-i-init : goal.loop-i-init
-loop-i-init c = marks-start c.args.numbers c.args.p
-
-pub loop-i-preserved : goal.loop-i-preserved
-loop-i-preserved c =
-    marks-step c.concerns.result c.loop-i.invariant (omega arith) c.requires.fit.most c.concerns.ensures
 
 pub returns : goal.returns
 unfolding ends_in
 returns c =
+    let t = c.args.numbers in
+    let full : length t.resources ≡ 16 = search rules in
+    let n : length (take t.count t.resources) ≡ t.count = length-take-le t.count t.resources (omega (arith, c.requires.fit.most, full)) in
     record {
       ended = refl;
       tracks = refl;
-      cleared = marks-end c.loop-i.invariant (omega arith) c.requires.le_p;
+      cleared = marks-end c.loop-i.invariant (omega (arith, n)) c.requires.le_p;
       dealt = c.owns_any.ensures;
     }

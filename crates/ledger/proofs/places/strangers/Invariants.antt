@@ -1,10 +1,6 @@
 -- `ledger::places::strangers` meets its contract. The invariant is `Marking`: the first i programs are told of. Assumes nothing.
-use Prim.Native.Nat.{◌-◌}
 use Rattle.ledger.proofs.Tallies.{Marking}
 use Rattle.ledger.proofs.places.strangers.Given as goal
 
 abbrev pub invariant-loop-i : goal.invariant-loop-i
 invariant-loop-i l = Marking l.used l.marks l.i
-
-abbrev pub decreases-loop-i : goal.decreases-loop-i
-decreases-loop-i l = 32 - l.i

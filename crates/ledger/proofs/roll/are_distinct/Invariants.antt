@@ -1,11 +1,7 @@
 -- `ledger::roll::are_distinct` meets its contract. The invariant is `Seen`: each key before i is new,
 -- and has left its mark. Assumes nothing.
-use Prim.Native.Nat.{◌-◌}
 use Rattle.ledger.proofs.Rows.{Seen}
 use Rattle.ledger.proofs.roll.are_distinct.Given as goal
 
 abbrev pub invariant-loop-i : goal.invariant-loop-i
 invariant-loop-i l = Seen l.keys l.seen l.i
-
-abbrev pub decreases-loop-i : goal.decreases-loop-i
-decreases-loop-i l = l.high - l.i

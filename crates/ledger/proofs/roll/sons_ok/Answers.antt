@@ -1,62 +1,47 @@
--- `ledger::roll::sons_ok` meets its contract. The invariant is `Meeting`: the sons before i are live, and
+-- `ledger::roll::sons_ok` meets its contract. The invariant is `Meeting`: the sons so far are live, and
 -- awaited and marked once. Assumes nothing.
-use Rattle.ledger.proofs.roll.sons_ok.Goals.{then-son-ne0+else-states-k-eq0+else-met-k-ne0}
-use Prim.Native.Nat.{◌+◌, ◌-◌, ◌<◌}
-use mathlib.Core.Path.{◌≡◌}
-use native.Mathlib.Omega.{arith}
-use lib.ListN.{get_or}
-use Rattle.tracks.proofs.Tells.{tells-yes, tells-no}
-use Rattle.ledger.proofs.Rows.{meeting-start, meeting-none, meeting-twice, meeting-dead, meeting-more, meeting-end}
-use Rattle.ledger.proofs.roll.sons_ok.Goals.{Then-son-ne0}
+use Rattle.std.proofs.Common.{rules, arith, ◌≡◌, ◌≢◌, ◌<◌, ◌+◌, ◌-◌, get_or, take, length, sym, ◌∙◌}
+use lib.Seq.{get_or-take, length-take-le}
+use Rattle.tracks.proofs.Tells.{tells-no}
+use Rattle.ledger.proofs.Rows.{meeting-start, meeting-none, meeting-twice, meeting-dead, meeting-more}
+use Rattle.ledger.proofs.roll.sons_ok.Goals.{then-states-k-eq0-via-then-states-k-eq0, then-states-k-eq0-via-else-states-k-eq0+then-met-k-ne0}
+use Rattle.ledger.proofs.roll.sons_ok.Goals.{then-son-ne0+else-states-k-eq0+else-met-k-ne0, else-son-ne0}
 use Rattle.ledger.proofs.roll.sons_ok.Goals as goal
 
-pub loop-i-init : goal.loop-i-init
-loop-i-init c = meeting-start _ _
-
--- the son's place
-place : (c : Then-son-ne0) →
-    let son = get_or c.args.sons.now c.loop-i.i 0 in
-    (son - 1 + 1 ≡ son) × (son - 1 < 32)
-place c =
-    (omega (arith, c.if-son-ne0.true), omega (arith, c.if-son-ne0.true, c.requires.known c.loop-i.i))
+pub loop-son-init : goal.loop-son-init
+loop-son-init c = meeting-start _ _
 
 pub returns-then-states-k-eq0 : goal.returns-then-states-k-eq0
 returns-then-states-k-eq0 c =
-    tells-no (meeting-dead c.loop-i.invariant c.if-son-ne0.true _ (place (goal.at.returns-then-states-k-eq0 c).Then-son-ne0).0 c.if-states-k-eq0.true (omega (arith, c.requires.ended.most)))
-
-pub returns-then-met-k-ne0 : goal.returns-then-met-k-ne0
-returns-then-met-k-ne0 c =
-    tells-no (λ A.
-    meeting-twice c.loop-i.invariant c.if-son-ne0.true _ (place (goal.at.returns-then-met-k-ne0 c).Then-son-ne0).0 c.if-met-k-ne0.true (omega (arith, c.requires.ended.most)) A.once)
-
-pub loop-i-preserved : goal.loop-i-preserved
-loop-i-preserved c =
-    elim c.if-son-ne0.branch [
-      | then-son-ne0+else-states-k-eq0+else-met-k-ne0 e ↦
-          let h = e.if-son-ne0.true in
-          rw e.met-is
-          (meeting-more c.loop-i.invariant h _ (omega (arith, h)) e.if-states-k-eq0.false e.if-met-k-ne0.false
-          (omega (arith, h, c.requires.known c.loop-i.i)))
-      | goal.else-son-ne0 e ↦ rw e.met-is (meeting-none c.loop-i.invariant e.if-son-ne0.false)
+    let ks = c.args.sons.now in
+    let i = c.loop-son.son-index in
+    let h = c.args.high in
+    let full : length ks ≡ 32 = search rules in
+    let n : length (take h ks) ≡ h = length-take-le h ks (omega (arith, full, c.requires.ended.most)) in
+    let e : get_or (take h ks) i 0 ≡ get_or ks i 0 = get_or-take h ks i 0 (omega (arith, n)) in
+    let some : get_or ks i 0 ≢ 0 = λ z. c.if-son-ne0.true (e ∙ z) in
+    let place : get_or (take h ks) i 0 - 1 + 1 ≡ get_or ks i 0 = omega (arith, some, e) in
+    let small : i < 32 = omega (arith, n, c.requires.ended.most) in
+    elim c.then-states-k-eq0.branch [
+      | then-states-k-eq0-via-then-states-k-eq0 w ↦ tells-no (meeting-dead c.loop-son.invariant some _ place w.if-states-k-eq0.true small)
+      | then-states-k-eq0-via-else-states-k-eq0+then-met-k-ne0 w ↦
+          tells-no (λ A. meeting-twice c.loop-son.invariant some _ place w.if-met-k-ne0.true small A.once)
     ]
 
-pub returns : goal.returns
-returns c = tells-yes (meeting-end c.loop-i.invariant c.requires.ended (omega arith))
-
-pub bounds-sons-i : goal.bounds-sons-i
-bounds-sons-i c = omega (arith, c.requires.ended.most)
-
-pub overflow_cast-k : goal.overflow_cast-k
-overflow_cast-k c = record { fits = omega (arith, (place (goal.at.overflow_cast-k c).Then-son-ne0).1) }
-
-pub overflow_sub-k : goal.overflow_sub-k
-overflow_sub-k c = omega (arith, c.if-son-ne0.true)
-
-pub bounds-states-k : goal.bounds-states-k
-bounds-states-k c = omega (arith, place (goal.at.bounds-states-k c).Then-son-ne0)
-
-pub bounds-met-k : goal.bounds-met-k
-bounds-met-k c = omega (arith, place (goal.at.bounds-met-k c).Then-son-ne0, c.loop-i.invariant.long)
-
-pub bounds-met-k-then-son-ne0 : goal.bounds-met-k-then-son-ne0
-bounds-met-k-then-son-ne0 c = omega (arith, place (goal.at.bounds-met-k-then-son-ne0 c).Then-son-ne0, c.loop-i.invariant.long)
+pub loop-son-preserved : goal.loop-son-preserved
+loop-son-preserved c =
+    let ks = c.args.sons.now in
+    let i = c.loop-son.son-index in
+    let h = c.args.high in
+    let full : length ks ≡ 32 = search rules in
+    let n : length (take h ks) ≡ h = length-take-le h ks (omega (arith, full, c.requires.ended.most)) in
+    let e : get_or (take h ks) i 0 ≡ get_or ks i 0 = get_or-take h ks i 0 (omega (arith, n)) in
+    elim c.if-son-ne0.branch [
+      | then-son-ne0+else-states-k-eq0+else-met-k-ne0 w ↦
+          let some : get_or ks i 0 ≢ 0 = λ z. w.if-son-ne0.true (e ∙ z) in
+          let place : get_or (take h ks) i 0 - 1 + 1 ≡ get_or ks i 0 = omega (arith, some, e) in
+          rw w.met-is
+          (meeting-more c.loop-son.invariant some _ place w.if-states-k-eq0.false w.if-met-k-ne0.false
+          (omega (arith, some, e, c.requires.known i)))
+      | else-son-ne0 w ↦ rw w.met-is (meeting-none c.loop-son.invariant (sym e ∙ w.if-son-ne0.false))
+    ]

@@ -1,11 +1,7 @@
--- `ledger::roll::sons_ok` meets its contract. The invariant is `Meeting`: the sons before i are live, and
+-- `ledger::roll::sons_ok` meets its contract. The invariant is `Meeting`: the sons so far are live, and
 -- awaited and marked once. Assumes nothing.
-use Prim.Native.Nat.{◌-◌}
 use Rattle.ledger.proofs.Rows.{Meeting}
 use Rattle.ledger.proofs.roll.sons_ok.Given as goal
 
-abbrev pub invariant-loop-i : goal.invariant-loop-i
-invariant-loop-i l = Meeting l.sons l.states l.met l.i
-
-abbrev pub decreases-loop-i : goal.decreases-loop-i
-decreases-loop-i l = l.high - l.i
+abbrev pub invariant-loop-son : goal.invariant-loop-son
+invariant-loop-son l = Meeting l.fn.sons l.states l.met l.son-index

@@ -38,64 +38,64 @@ module _ (s : Start) (e : Effect) {u : Tables} (q : s.args.d.effect ≡ e)
   counts {n} N w =
       on s q (made_counted s.args.self s.args.name s.args.d.answer e u h S n (w ∙ ap (λ (k : ℕ). (0, k ∷ [])) (sym N)))
 
-pub loaded-requires : goal.loaded-requires
-loaded-requires c =
-    record { orderly = c.requires.ready.orderly; known = apt (goal.at.loaded-requires c).Start c.in-Load.is }
+pub loaded-tables-requires : goal.loaded-tables-requires
+loaded-tables-requires c =
+    record { orderly = c.requires.ready.orderly; known = apt (goal.at.loaded-tables-requires c).Start c.in-Load.is }
 
-pub priced-requires : goal.priced-requires
-priced-requires c =
-    record { orderly = c.requires.ready.orderly; known = apt (goal.at.priced-requires c).Start c.in-Price.is }
+pub priced-tables-requires : goal.priced-tables-requires
+priced-tables-requires c =
+    record { orderly = c.requires.ready.orderly; known = apt (goal.at.priced-tables-requires c).Start c.in-Price.is }
 
-pub timed-requires : goal.timed-requires
-timed-requires c =
-    record { orderly = c.requires.ready.orderly; known = apt (goal.at.timed-requires c).Start c.in-Time.is }
+pub timed-tables-requires : goal.timed-tables-requires
+timed-tables-requires c =
+    record { orderly = c.requires.ready.orderly; known = apt (goal.at.timed-tables-requires c).Start c.in-Time.is }
 
-pub marked-requires : goal.marked-requires
-marked-requires c =
-    record { orderly = c.requires.ready.orderly; known = apt (goal.at.marked-requires c).Start c.in-Mark.is }
+pub marked-tables-requires : goal.marked-tables-requires
+marked-tables-requires c =
+    record { orderly = c.requires.ready.orderly; known = apt (goal.at.marked-tables-requires c).Start c.in-Mark.is }
 
-pub becomes-requires : goal.becomes-requires
-becomes-requires c =
+pub becomes-tables-requires : goal.becomes-tables-requires
+becomes-tables-requires c =
     record {
       orderly = c.requires.ready.orderly;
-      known = (apt (goal.at.becomes-requires c).Start c.in-Become.is).0;
-      state = (apt (goal.at.becomes-requires c).Start c.in-Become.is).1;
+      known = (apt (goal.at.becomes-tables-requires c).Start c.in-Become.is).0;
+      state = (apt (goal.at.becomes-tables-requires c).Start c.in-Become.is).1;
     }
 
-pub awaited-requires : goal.awaited-requires
-awaited-requires c =
+pub awaited-tables-requires : goal.awaited-tables-requires
+awaited-tables-requires c =
     record {
       orderly = c.requires.ready.orderly;
-      known = (apt (goal.at.awaited-requires c).Start c.in-Await.is).0;
-      caller = (apt (goal.at.awaited-requires c).Start c.in-Await.is).1;
+      known = (apt (goal.at.awaited-tables-requires c).Start c.in-Await.is).0;
+      caller = (apt (goal.at.awaited-tables-requires c).Start c.in-Await.is).1;
     }
 
-pub ended-requires : goal.ended-requires
-ended-requires c =
+pub ended-tables-requires : goal.ended-tables-requires
+ended-tables-requires c =
     record {
       orderly = c.requires.ready.orderly;
-      known = (apt (goal.at.ended-requires c).Start c.in-Dismiss.is).0;
-      held = (apt (goal.at.ended-requires c).Start c.in-Dismiss.is).1;
+      known = (apt (goal.at.ended-tables-requires c).Start c.in-Dismiss.is).0;
+      held = (apt (goal.at.ended-tables-requires c).Start c.in-Dismiss.is).1;
     }
 
 pub ended_self-requires : goal.ended_self-requires
 ended_self-requires c =
     record { orderly = c.requires.ready.orderly; known = apt (goal.at.ended_self-requires c).Start c.in-End.is }
 
-pub taken-requires : goal.taken-requires
-taken-requires c =
-    record { orderly = c.requires.ready.orderly; within = apt (goal.at.taken-requires c).Start c.in-Take.is }
+pub taken-tables-requires : goal.taken-tables-requires
+taken-tables-requires c =
+    record { orderly = c.requires.ready.orderly; within = apt (goal.at.taken-tables-requires c).Start c.in-Take.is }
 
-pub given-requires : goal.given-requires
-given-requires c =
-    record { orderly = c.requires.ready.orderly; within = apt (goal.at.given-requires c).Start c.in-Give.is }
+pub given-tables-requires : goal.given-tables-requires
+given-tables-requires c =
+    record { orderly = c.requires.ready.orderly; within = apt (goal.at.given-tables-requires c).Start c.in-Give.is }
 
-pub with_number-requires : goal.with_number-requires
-with_number-requires c =
+pub with_number-tables-requires : goal.with_number-tables-requires
+with_number-tables-requires c =
     record {
       orderly = c.requires.ready.orderly;
-      low = (apt (goal.at.with_number-requires c).Start c.in-Number.is).0;
-      high = (apt (goal.at.with_number-requires c).Start c.in-Number.is).1;
+      low = (apt (goal.at.with_number-tables-requires c).Start c.in-Number.is).0;
+      high = (apt (goal.at.with_number-tables-requires c).Start c.in-Number.is).1;
     }
 
 pub released-requires : goal.released-requires
@@ -119,35 +119,35 @@ returns-in-Renew c =
 
 pub returns-in-Load : goal.returns-in-Load
 returns-in-Load c =
-    moves (goal.at.returns-in-Load c).Start (Load c.in-Load.p c.in-Load.n) c.in-Load.is tt c.loaded.ensures refl
+    moves (goal.at.returns-in-Load c).Start (Load c.in-Load.p c.in-Load.n) c.in-Load.is tt c.loaded-tables.ensures refl
 
 pub returns-in-Price : goal.returns-in-Price
 returns-in-Price c =
-    moves (goal.at.returns-in-Price c).Start (Price c.in-Price.p c.in-Price.n) c.in-Price.is tt c.priced.ensures refl
+    moves (goal.at.returns-in-Price c).Start (Price c.in-Price.p c.in-Price.n) c.in-Price.is tt c.priced-tables.ensures refl
 
 pub returns-in-Time : goal.returns-in-Time
 returns-in-Time c =
     moves (goal.at.returns-in-Time c).Start (Time c.in-Time.p c.in-Time.due c.in-Time.interval) c.in-Time.is tt
-    c.timed.ensures refl
+    c.timed-tables.ensures refl
 
 pub returns-in-Mark : goal.returns-in-Mark
 returns-in-Mark c =
-    moves (goal.at.returns-in-Mark c).Start (Mark c.in-Mark.p) c.in-Mark.is tt c.marked.ensures refl
+    moves (goal.at.returns-in-Mark c).Start (Mark c.in-Mark.p) c.in-Mark.is tt c.marked-tables.ensures refl
 
 pub returns-in-Become : goal.returns-in-Become
 returns-in-Become c =
     moves (goal.at.returns-in-Become c).Start (Become c.in-Become.p c.in-Become.state c.in-Become.why) c.in-Become.is tt
-    c.becomes.ensures refl
+    c.becomes-tables.ensures refl
 
 pub returns-in-Await : goal.returns-in-Await
 returns-in-Await c =
-    moves (goal.at.returns-in-Await c).Start (Await c.in-Await.p c.in-Await.c) c.in-Await.is tt c.awaited.ensures refl
+    moves (goal.at.returns-in-Await c).Start (Await c.in-Await.p c.in-Await.c) c.in-Await.is tt c.awaited-tables.ensures refl
 
 pub returns-in-Dismiss : goal.returns-in-Dismiss
 returns-in-Dismiss c =
     moves (goal.at.returns-in-Dismiss c).Start (Dismiss c.in-Dismiss.p c.in-Dismiss.k c.in-Dismiss.n) c.in-Dismiss.is
     (dismissal-happens c.in-Dismiss.k c.in-Dismiss.p _ _)
-    (dismissal c.args.self c.in-Dismiss.p c.in-Dismiss.k c.in-Dismiss.n _ c.ended.ensures) refl
+    (dismissal c.args.self c.in-Dismiss.p c.in-Dismiss.k c.in-Dismiss.n _ c.ended-tables.ensures) refl
 
 pub returns-in-End : goal.returns-in-End
 returns-in-End c =
@@ -158,21 +158,21 @@ returns-in-End c =
 pub returns-in-Take : goal.returns-in-Take
 returns-in-Take c =
     moves (goal.at.returns-in-Take c).Start (Take c.in-Take.at c.in-Take.n c.in-Take.h) c.in-Take.is tt
-    c.taken.ensures refl
+    c.taken-tables.ensures refl
 
 pub returns-in-Give : goal.returns-in-Give
 returns-in-Give c =
-    moves (goal.at.returns-in-Give c).Start (Give c.in-Give.at c.in-Give.n) c.in-Give.is tt c.given.ensures refl
+    moves (goal.at.returns-in-Give c).Start (Give c.in-Give.at c.in-Give.n) c.in-Give.is tt c.given-tables.ensures refl
 
 pub returns-in-GiveAll : goal.returns-in-GiveAll
 returns-in-GiveAll c =
     moves (goal.at.returns-in-GiveAll c).Start (GiveAll c.in-GiveAll.c c.in-GiveAll.n) c.in-GiveAll.is tt
-    c.given_all.ensures refl
+    c.given_all-tables.ensures refl
 
 pub returns-in-Number : goal.returns-in-Number
 returns-in-Number c =
     moves (goal.at.returns-in-Number c).Start (Number c.in-Number.r c.in-Number.owner c.in-Number.lock) c.in-Number.is tt
-    c.with_number.ensures refl
+    c.with_number-tables.ensures refl
 
 pub returns-in-Release : goal.returns-in-Release
 returns-in-Release c =

@@ -7,4 +7,4 @@ pub returns-then-k-eq8 : goal.returns-then-k-eq8
 returns-then-k-eq8 c = dismissed-gone _ _ _ _ c.if-k-eq8.true c.unloaded.ensures
 
 pub returns : goal.returns
-returns c = dismissed-idle _ _ _ _ _ c.if-k-eq8.false c.becomes-t.ensures c.timed.ensures
+returns c = dismissed-idle _ _ _ _ _ c.if-k-eq8.false c.becomes.ensures c.timed.ensures

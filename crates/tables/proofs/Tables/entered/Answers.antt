@@ -3,11 +3,11 @@
 use Rattle.tables.proofs.Turns.{can-enter, entered-none, entered-some}
 use Rattle.tables.proofs.Tables.entered.Goals as goal
 
-pub returns-then-x-eq-DORMANT : goal.returns-then-x-eq-DORMANT
-returns-then-x-eq-DORMANT c = entered-none _ _ _ c.requires c.if-x-eq-DORMANT.true
+pub enter-self-requires : goal.enter-self-requires
+enter-self-requires c = can-enter _ _ _ c.requires
 
-pub enter-more-requires : goal.enter-more-requires
-enter-more-requires c = can-enter _ _ _ c.requires
+pub returns-then-x-ne-DORMANT : goal.returns-then-x-ne-DORMANT
+returns-then-x-ne-DORMANT c = entered-some _ _ _ c.requires _ c.if-x-ne-DORMANT.true c.enter-self.ensures
 
-pub returns : goal.returns
-returns c = entered-some _ _ _ c.requires _ c.if-x-eq-DORMANT.false c.enter-more.ensures
+pub returns-else-x-ne-DORMANT : goal.returns-else-x-ne-DORMANT
+returns-else-x-ne-DORMANT c = entered-none _ _ _ c.requires c.if-x-ne-DORMANT.false

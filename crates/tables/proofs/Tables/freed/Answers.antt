@@ -12,10 +12,10 @@ use Rattle.tables.proofs.Tables.freed.Goals as goal
 pub roused-requires : goal.roused-requires
 roused-requires c =
     can-rouse _ c.requires.orderly _ _ _ (c.waiters-w.ensures _ c.of_tracks.ensures) _
-    c.held-t.ensures.orderly
+    c.held.ensures.orderly
 
 pub returns : goal.returns
 returns c =
     played-on _ _ _ (held (holders c.args.tracks) ∷ []) (wake (woken (view lists (plain c.args.self)) (frees c.args.n)))
-    c.held-t.ensures
+    c.held.ensures
     (roused _ c.requires.orderly _ _ _ (c.waiters-w.ensures _ c.of_tracks.ensures) _ _ c.roused.ensures)

@@ -3,12 +3,12 @@
 use Rattle.tables.proofs.Turns.{can-leave, left-none, left-some}
 use Rattle.tables.proofs.Tables.left.Goals as goal
 
-pub returns-then-r-eq-DORMANT : goal.returns-then-r-eq-DORMANT
-returns-then-r-eq-DORMANT c = left-none _ _ c.requires _ c.in_state.ensures c.if-r-eq-DORMANT.true
+pub leave-self-requires : goal.leave-self-requires
+leave-self-requires c = can-leave _ _ c.requires c.if-r-ne-DORMANT.true
 
-pub leave-rest-requires : goal.leave-rest-requires
-leave-rest-requires c = can-leave _ _ c.requires c.if-r-eq-DORMANT.false
+pub returns-then-r-ne-DORMANT : goal.returns-then-r-ne-DORMANT
+returns-then-r-ne-DORMANT c =
+    left-some _ _ c.requires _ c.in_state.ensures _ c.if-r-ne-DORMANT.true c.leave-self.ensures
 
-pub returns : goal.returns
-returns c =
-    left-some _ _ c.requires _ c.in_state.ensures _ c.if-r-eq-DORMANT.false c.leave-rest.ensures
+pub returns-else-r-ne-DORMANT : goal.returns-else-r-ne-DORMANT
+returns-else-r-ne-DORMANT c = left-none _ _ c.requires _ c.in_state.ensures c.if-r-ne-DORMANT.false

@@ -5,8 +5,8 @@ use Rattle.tables.proofs.Turns.{can-amend, was-loaded}
 use Rattle.tables.proofs.Tables.loaded.Goals as goal
 
 pub amended-requires : goal.amended-requires
-amended-requires c = can-amend _ _ _ c.requires c.left-t.ensures _ (ap (λ x. x.state) c.newcomer.ensures)
+amended-requires c = can-amend _ _ _ c.requires c.left.ensures _ (ap (λ x. x.state) c.newcomer.ensures)
 
 pub returns : goal.returns
-returns c = was-loaded _ _ _ c.requires c.left-t.ensures _ _ _ _ c.newcomer.ensures
+returns c = was-loaded _ _ _ c.requires c.left.ensures _ _ _ _ c.newcomer.ensures
     c.amended.ensures

@@ -20,8 +20,8 @@ those w = w.waiters-w.ensures _ w.of_number.ensures
 long : (w : After-waiters-w) → (length w.waiters-w.result.disc.ids ≡ 32) × (length w.waiters-w.result.general.ids ≡ 32)
 long w = (search rules, search rules)
 
-pub roused-tables-requires : goal.roused-tables-requires
-roused-tables-requires c = can-rouse _ c.requires.orderly _ _ _ (those (goal.at.roused-tables-requires c).After-waiters-w) _ c.with_number-t.ensures.orderly
+pub roused-requires : goal.roused-requires
+roused-requires c = can-rouse _ c.requires.orderly _ _ _ (those (goal.at.roused-requires c).After-waiters-w) _ c.with_number.ensures.orderly
 
 pub how_many-requires : goal.how_many-requires
 how_many-requires c = let W = those (goal.at.how_many-requires c).After-waiters-w in record { disc = W.disc.most; general = W.general.most }
@@ -32,7 +32,7 @@ returns c =
     record {
       played =
           played-on _ _ _ (assigned v c.args.r c.args.owner c.args.lock ∷ [])
-          (wake (woken v (clears c.args.r c.args.dealt))) c.with_number-t.ensures
-          (roused _ c.requires.orderly _ _ _ (those (goal.at.returns c).After-waiters-w) _ _ c.roused-tables.ensures);
+          (wake (woken v (clears c.args.r c.args.dealt))) c.with_number.ensures
+          (roused _ c.requires.orderly _ _ _ (those (goal.at.returns c).After-waiters-w) _ _ c.roused.ensures);
       number = roused-number _ c.requires.orderly _ _ _ (those (goal.at.returns c).After-waiters-w) _ c.how_many.ensures (long (goal.at.returns c).After-waiters-w).0 (long (goal.at.returns c).After-waiters-w).1;
     }

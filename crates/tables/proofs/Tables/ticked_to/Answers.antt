@@ -19,14 +19,14 @@ top l = l.requires.high
 
 pub moved_to-moved-requires : goal.moved_to-moved-requires
 moved_to-moved-requires c =
-    can-pass c.loop-now.t c.loop-now.invariant.orderly c.loop-now.invariant.sound.dues c.next_start-now.result
+    can-pass c.loop-now.tables c.loop-now.invariant.orderly c.loop-now.invariant.sound.dues c.next_start-now.result
     (omega (arith, next-most c.loop-now.invariant c.loop-now-test.true (top (goal.at.moved_to-moved-requires c).At-loop-now) c.next_start-now.result c.next_start-now.ensures, top (goal.at.moved_to-moved-requires c).At-loop-now))
 
-pub overflow_add-n : goal.overflow_add-n
-overflow_add-n c =
+pub overflow_add-number : goal.overflow_add-number
+overflow_add-number c =
     omega (
       arith,
-      (going_on c.loop-now.invariant c.loop-now-test.true (top (goal.at.overflow_add-n c).At-loop-now) c.next_start-now.result c.next_start-now.ensures c.moved_to-moved.result.tables
+      (going_on c.loop-now.invariant c.loop-now-test.true (top (goal.at.overflow_add-number c).At-loop-now) c.next_start-now.result c.next_start-now.ensures c.moved_to-moved.result.tables
           c.moved_to-moved.result.number c.moved_to-moved.ensures).few,
     )
 

@@ -5,7 +5,7 @@ use Rattle.tables.proofs.ManyTicks.{Going, moves_left}
 use Rattle.tables.proofs.Tables.ticked_to.Given as goal
 
 abbrev pub invariant-loop-now : goal.invariant-loop-now
-invariant-loop-now l = Going l.initial.t l.end l.now l.t l.n
+invariant-loop-now l = Going l.initial.tables l.end l.now l.tables l.number
 
 abbrev pub decreases-loop-now : goal.decreases-loop-now
-decreases-loop-now l = moves_left l.end l.now l.t
+decreases-loop-now l = moves_left l.end l.now l.tables

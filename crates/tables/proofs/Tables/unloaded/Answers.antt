@@ -6,8 +6,8 @@ use Rattle.tables.proofs.Tables.unloaded.Goals as goal
 
 pub amended-requires : goal.amended-requires
 amended-requires c =
-    can-amend _ _ _ c.requires c.left-t.ensures _ (ap (λ x. x.state) c.unused_record.ensures)
+    can-amend _ _ _ c.requires c.left.ensures _ (ap (λ x. x.state) c.unused_record.ensures)
 
 pub returns : goal.returns
-returns c = was-unloaded _ _ _ c.requires c.left-t.ensures _ _ c.unused_record.ensures
+returns c = was-unloaded _ _ _ c.requires c.left.ensures _ _ c.unused_record.ensures
     c.amended.ensures

@@ -5,8 +5,8 @@ use Rattle.tables.proofs.Tables.waited.Goals as goal
 
 pub entered-requires : goal.entered-requires
 entered-requires c =
-    can-wake _ _ _ c.requires c.left-t.ensures _ c.wait_over.ensures
+    can-wake _ _ _ c.requires c.left.ensures _ (rw c.record_of.ensures at c.wait_over.ensures)
 
 pub returns : goal.returns
 returns c =
-    was-woken _ _ _ c.requires c.left-t.ensures _ c.wait_over.ensures _ c.entered.ensures
+    was-woken _ _ _ c.requires c.left.ensures _ (rw c.record_of.ensures at c.wait_over.ensures) _ c.entered.ensures

@@ -3,9 +3,8 @@
 use Rattle.tables.proofs.Chained.{walks-refused, walks-rest}
 use Rattle.tables.proofs.sound.chains_sound.Goals as goal
 
-pub returns-then-not-w : goal.returns-then-not-w
-returns-then-not-w c = walks-refused _ _ _ c.walk_chains-w.ensures c.if-not-w.true
+pub returns-in_default : goal.returns-in_default
+returns-in_default c = walks-refused _ _ _ c.in_default.ensures
 
 pub returns : goal.returns
-returns c =
-    walks-rest _ _ _ c.walk_chains-w.ensures c.if-not-w.false c.is_rest_settled.result c.is_rest_settled.ensures
+returns c = walks-rest _ _ _ c.in-Some.ensures c.is_rest_settled.result c.is_rest_settled.ensures

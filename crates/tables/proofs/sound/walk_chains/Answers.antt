@@ -4,11 +4,13 @@
 -- Assumes nothing.
 use native.Mathlib.Omega.{arith}
 use mathlib.Core.Path.{refl}
-use mathlib.Core.Bool.{false}
-use Rattle.tables.specs.Walks.{of_program, Walks}
+use Rattle.tables.specs.Walks.{of_program, AllOrdered}
 use Rattle.tables.proofs.Chained.{sofar-start, sofar-more, sofar-refused, sofar-end}
 use Rattle.tables.proofs.Walking.{Next, going_start, going-refused, going_on, going_less, going_end}
 use Rattle.tables.proofs.sound.walk_chains.Goals.{Else-priority-least, In-loop-n}
+use Rattle.tables.proofs.sound.walk_chains.Goals.{then-n-gt-MOST_PROGRAMS-via-then-n-gt-MOST_PROGRAMS}
+use Rattle.tables.proofs.sound.walk_chains.Goals.{then-n-gt-MOST_PROGRAMS-via-else-n-gt-MOST_PROGRAMS+then-met-n-ne0}
+use Rattle.tables.proofs.sound.walk_chains.Goals.{then-n-gt-MOST_PROGRAMS-via-else-n-gt-MOST_PROGRAMS+else-met-n-ne0+then-states-n}
 use Rattle.tables.proofs.sound.walk_chains.Goals as goal
 
 pub loop-state-init : goal.loop-state-init
@@ -22,21 +24,21 @@ refused : (h : In-loop-n) →
     let a = h.args in
     let st = of_program a.states.now in
     let pr = of_program a.priorities.now in
-    (Next st pr h.loop-state.state h.loop-n.met h.loop-n.least h.loop-n.n → ⊥) → Walks st pr a.links.now false h.loop-n.met
+    (Next st pr h.loop-state.state h.loop-n.met h.loop-n.least h.loop-n.n → ⊥) → AllOrdered st pr a.links.now 6 → ⊥
 refused h f =
     sofar-refused h.loop-state.invariant.1 h.loop-state-test.true (going-refused h.loop-n.invariant h.loop-n-test.true f) refl
 
 pub returns-then-n-gt-MOST_PROGRAMS : goal.returns-then-n-gt-MOST_PROGRAMS
-returns-then-n-gt-MOST_PROGRAMS c = refused (goal.at.returns-then-n-gt-MOST_PROGRAMS c).In-loop-n (λ N. omega (arith, N.known.1))
+returns-then-n-gt-MOST_PROGRAMS c =
+    let h = (goal.at.returns-then-n-gt-MOST_PROGRAMS c).In-loop-n in
+    elim c.then-n-gt-MOST_PROGRAMS.branch [
+      | then-n-gt-MOST_PROGRAMS-via-then-n-gt-MOST_PROGRAMS w ↦ refused h (λ N. omega (arith, N.known.1))
+      | then-n-gt-MOST_PROGRAMS-via-else-n-gt-MOST_PROGRAMS+then-met-n-ne0 w ↦ refused h (λ N. omega (arith, N.unmet))
+      | then-n-gt-MOST_PROGRAMS-via-else-n-gt-MOST_PROGRAMS+else-met-n-ne0+then-states-n w ↦ refused h (λ N. omega (arith, N.state))
+    ]
 
 pub bounds-met-n : goal.bounds-met-n
 bounds-met-n c = omega (arith, c.loop-n.invariant.long)
-
-pub returns-then-met-n-ne0 : goal.returns-then-met-n-ne0
-returns-then-met-n-ne0 c = refused (goal.at.returns-then-met-n-ne0 c).In-loop-n (λ N. omega (arith, N.unmet))
-
-pub returns-then-states-n : goal.returns-then-states-n
-returns-then-states-n c = refused (goal.at.returns-then-states-n c).In-loop-n (λ N. omega (arith, N.state))
 
 pub returns-then-priority-least : goal.returns-then-priority-least
 returns-then-priority-least c = refused (goal.at.returns-then-priority-least c).In-loop-n (λ N. omega (arith, N.after))

@@ -1,4 +1,4 @@
--- `decisions::deciding::decide` meets its contract: each arm decides its request, and a call of the running
+-- `decisions::deciding::decided` meets its contract: each arm decides its request, and a call of the running
 -- program has a caller first. Assumes nothing.
 use native.Mathlib.Omega.{arith}
 use mathlib.Core.Path.{◌≡◌, refl, sym, ap, ◌∙◌, subst}
@@ -11,8 +11,8 @@ use Rattle.decisions.specs.declared.Decision.{Decision}
 use Rattle.decisions.specs.Inner.{Decides, Fits, asking}
 use Rattle.decisions.proofs.Laws.{like, stays, book-in}
 use Rattle.decisions.proofs.Requested.{no-caller, by-caller, order-fits, order-asks}
-use Rattle.decisions.proofs.deciding.decide.Goals.{Start}
-use Rattle.decisions.proofs.deciding.decide.Goals as goal
+use Rattle.decisions.proofs.deciding.decided.Goals.{Start}
+use Rattle.decisions.proofs.deciding.decided.Goals as goal
 
 on : (k : Start) (v : View) {q : Request} {d : Decision} → k.args.q ≡ q
     → Decides v k.args.name (plan v (the_request k.args.name q)) d
@@ -30,7 +30,7 @@ asks-requires c =
 pub returns-then-c-eq0 : goal.returns-then-c-eq0
 returns-then-c-eq0 c =
     λ v O C. on (goal.at.returns-then-c-eq0 c).Start v c.in-Running.is
-    (stays v _ NoCaller 0 c.stay.ensures refl (no-caller v _ _ C c.if-c-eq0.true))
+    (stays v _ NoCaller 0 refl (no-caller v _ _ C c.if-c-eq0.true))
 
 pub called-requires : goal.called-requires
 called-requires c =
