@@ -56,3 +56,8 @@ other_way a b false e = go (alike b a) refl
     go : (u : Bool) → alike b a ≡ u → alike b a ≡ false
     go true f = clash (alike_is a b (sym (alike-true b a f))) e
     go false f = f
+
+-- what a comparison of a text with the bytes of a page says of the page
+pub page_alike : (t : Tables) (s written : List ℕ) (r b : Bool) → written ≡ page (plain t) → r ≡ alike s written → r ≡ b
+    → alike (page (plain t)) s ≡ b
+page_alike t s written r b e f g = other_way s (page (plain t)) b (ap (alike s) (sym e) ∙ sym f ∙ g)

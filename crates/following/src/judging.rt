@@ -55,9 +55,8 @@ pub(crate) fn hold(tables: Tables, next: &[u8]) -> Verdict
     if console::number_of(answer) != 0 {
         return Verdict::NoNext(bad_line(answer));
     }
-    let mut space = [0u8; PAGE_ROOM];
-    let n = page::put_page(&mut space, tables);
-    if text::rest_is(next, 0, &space[..n]) {
+    let page = page::page_of(tables);
+    if text::rest_is(next, 0, page.as_slice()) {
         return Verdict::Follows;
     }
     Verdict::DoesNotFollow

@@ -12,7 +12,7 @@ ghost use Rattle.reader.specs.Walks.{PageRead};
 use clock::Clock;
 pub use holding::{Reader, moved, open, read, read_page};
 use ledger::Ledger;
-use limits::{PAGE_ROOM, USUAL_YEAR};
+use limits::USUAL_YEAR;
 use parts::BadLine;
 use rules::Answer;
 use tables::{Outcome, Tables};
@@ -35,14 +35,13 @@ fn judge(s: &[u8], at: usize, tables: Tables) -> Outcome
     if !tables.is_sound() {
         return not_read(0);
     }
-    let mut space = [0u8; PAGE_ROOM];
-    let n = page::put_page(&mut space, tables);
-    if !text::rest_is(s, at, &space[..n]) {
+    let page = page::page_of(tables);
+    if !text::rest_is(s, at, page.as_slice()) {
         return not_read(0);
     }
     Outcome {
         answer: Answer::Done(0),
-        tables: tables,
+        tables,
     }
 }
 

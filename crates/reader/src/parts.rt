@@ -184,13 +184,13 @@ pub(crate) fn read_records(s: &[u8], at: usize, line: u64, count: u64) -> Result
 }
 
 // The key of a state's chain.
+#[tactic(auto, using(text::proofs::Laws::few_digits))]
 fn chain_key(state: u8) -> [u8; 6]
     requires { state ≤ 9 }
     ensures { result ≡ key_of_chain state }
 {
-    let mut key = [0u8; 6];
-    text::put_bytes(&mut key, 0, &keys::CHAIN);
-    key[5] = 48 + state;
+    let mut key = [b'0' + state; 6];
+    key[..5].copy_from_slice(&keys::CHAIN);
     key
 }
 
