@@ -1,7 +1,7 @@
 -- What inner functions ask and promise; nothing here need be believed for the calls.
 -- Assumes nothing.
-use Rattle.std.specs.Prelude.{ℕ, zero, suc, ◌+◌, ◌-◌, ◌<◌, ◌≤◌, ◌≡◌, Bool, true, false, cond, ◌&&◌, List, [], ◌∷◌, ◌++◌, map, length, get_or, drop, replicate, leb, eqb}
-use Rattle.std.proofs.Math.Seq.{slice}
+use Rattle.std.specs.Prelude.{Option, Some, None}
+use Rattle.std.specs.Prelude.{ℕ, zero, suc, ◌<◌, ◌≤◌, ◌≡◌, Bool, true, false, cond, ◌&&◌, List, [], ◌∷◌, ◌++◌, map, length, get_or, drop, replicate, leb, eqb}
 use Rattle.limits.specs.Limits.{usual_year}
 use Rattle.lists.specs.Lists.{alike}
 use Rattle.text.specs.Text.{text, decimal, between, parts}
@@ -21,10 +21,6 @@ use Rattle.page.specs.Paging.{Written}
 use Rattle.console.specs.declared.Said.{Said}
 use Rattle.console.specs.declared.Said.TheVariants.{Bad, Page, Asks, Ticks}
 use Rattle.console.specs.declared.Command.{Command}
-use Rattle.console.specs.declared.fields.Numbers.{Numbers}
-use Rattle.console.specs.declared.fields.Numbers.TheVariants as numbers_read
-use Rattle.console.specs.declared.fields.NameField.{NameField}
-use Rattle.console.specs.declared.fields.NameField.TheVariants as name_field
 use Rattle.console.specs.declared.words.Word.{Word}
 use Rattle.console.specs.Line.{Line, bad, PAGE, asks, ticks, Form, over, bare_or, number, name, Entry, word}
 use Rattle.console.specs.Line.{unknown, ◌↝◌, calls, execs, numbers, forms}
@@ -40,17 +36,21 @@ saying nm (Ticks n) = ticks n
 abbrev pub says : Command → Line
 says x = saying x.name x.said
 
+abbrev pub says_or_bad : Option Command → Line
+says_or_bad None = bad
+says_or_bad (Some x) = says x
+
 -- the fields from a place on; past the end there is none
 unfoldable pub fields_from : List ℕ → ℕ → List (List ℕ)
 fields_from s at = cond (leb at (length s)) (parts 44 (drop at s)) []
 
 -- What reading comes to, whatever the form does with it: the form goes on with what was read and the fields behind it, or the line is bad.
 -- First a name;
-abbrev pub on_name : (List ℕ → Form) → List ℕ → NameField → Line
-on_name k s name_field.Not = bad
-on_name k s (name_field.Is a b c d e next) = k (a ∷ b ∷ c ∷ d ∷ e ∷ []) (fields_from s next)
+abbrev pub on_name : (List ℕ → Form) → List ℕ → Option (List ℕ × ℕ) → Line
+on_name k s None = bad
+on_name k s (Some r) = k r.0 (fields_from s r.1)
 
-pub record NameRead (s : List ℕ) (at : ℕ) (r : NameField) : Type 0 where
+pub record NameRead (s : List ℕ) (at : ℕ) (r : Option (List ℕ × ℕ)) : Type 0 where
   pub says : (k : List ℕ → Form) → name k (fields_from s at) ≡ on_name k s r
 
 -- then n numbers that the line ends with, the last of which may be left away where it is spare; for each that there is not the usual year,
@@ -69,11 +69,15 @@ abbrev pub counted : ℕ → Bool → Counted → Form
 counted zero spare k = over (none_left k)
 counted (suc n) spare k = or_end (spare && eqb n 0) (none_left k) (number λ a. counted n spare (λ b c d e. k a b c d))
 
-abbrev pub on_numbers : Counted → Numbers → Line
-on_numbers k numbers_read.Not = bad
-on_numbers k (numbers_read.Are a b c d) = k a b c d
+-- four numbers that stand in a list
+abbrev pub by_four : {A : Type 0} → (ℕ → ℕ → ℕ → ℕ → A) → List ℕ → A
+by_four k ns = k (get_or ns 0 0) (get_or ns 1 0) (get_or ns 2 0) (get_or ns 3 0)
 
-pub record NumbersRead (s : List ℕ) (at n : ℕ) (spare : Bool) (r : Numbers) : Type 0 where
+abbrev pub on_numbers : Counted → Option (List ℕ) → Line
+on_numbers k None = bad
+on_numbers k (Some ns) = by_four k ns
+
+pub record NumbersRead (s : List ℕ) (at n : ℕ) (spare : Bool) (r : Option (List ℕ)) : Type 0 where
   pub says : (k : Counted) → counted n spare k (fields_from s at) ≡ on_numbers k r
 
 -- The words as the code numbers them, each with the word before it, whether a name comes next, how many numbers, and whether the last of these is
@@ -83,15 +87,15 @@ abbrev pub no_word : ℕ
 no_word = 30
 
 abbrev pub row : ℕ → ℕ → Bool → ℕ → Word
-row own before named n = record { 0 = before; 1 = named; 2 = n; 3 = true; 4 = own; 5 = false }
+row own before named n = record { before = before; named = named; numbers = n; is_last = true; instead = own; spare = false }
 
 abbrev pub lead : ℕ → ℕ → ℕ → Word
-lead instead before n = record { 0 = before; 1 = false; 2 = n; 3 = false; 4 = instead; 5 = false }
+lead instead before n = record { before = before; named = false; numbers = n; is_last = false; instead = instead; spare = false }
 
 unfoldable pub rows : List Word
 rows =
     lead 0 no_word 0
-    ∷ record { 0 = 0; 1 = false; 2 = 4; 3 = true; 4 = 1; 5 = true } ∷ row 2 0 true 1 ∷ row 3 0 true 0 ∷ row 4 0 true 0 ∷ row 5 0 true 0
+    ∷ record { before = 0; named = false; numbers = 4; is_last = true; instead = 1; spare = true } ∷ row 2 0 true 1 ∷ row 3 0 true 0 ∷ row 4 0 true 0 ∷ row 5 0 true 0
     ∷ row 6 0 true 1 ∷ row 7 0 true 1 ∷ lead 29 0 0 ∷ lead 9 0 0 ∷ lead 10 0 0
     ∷ row 11 0 false 0 ∷ row 12 9 false 2 ∷ row 13 9 false 2 ∷ lead 14 9 2 ∷ row 15 9 false 2
     ∷ row 16 9 false 0 ∷ row 17 9 false 0 ∷ row 18 9 false 0 ∷ row 19 9 true 0 ∷ row 20 9 true 0
@@ -115,6 +119,9 @@ requests a b c d =
     ∷ Asks (Running Exec5All) ∷ Ticks a
     ∷ []
 
+abbrev pub said_with : ℕ → List ℕ → Said
+said_with i ns = get_or (by_four requests ns) i Bad
+
 abbrev pub request : ℕ → List ℕ → Counted
 request i nm a b c d = saying nm (get_or (requests a b c d) i Bad)
 
@@ -123,7 +130,7 @@ taking true n spare i = name (λ nm. counted n spare (request i nm))
 taking false n spare i = counted n spare (request i (replicate 5 32))
 
 unfoldable pub ended : ℕ → Form
-ended i = taking (row_at i).1 (row_at i).2 (row_at i).5 i
+ended i = taking (row_at i).named (row_at i).numbers (row_at i).spare i
 
 -- the grammar's forms in the same order
 unfoldable pub entries : List Entry
@@ -146,20 +153,12 @@ behind i fs = get_or (map (λ e. e.form fs) entries) i bad
 abbrev pub seek : ℕ → List ℕ → List Word → List (List ℕ) → ℕ
 seek last f [] ws = 0
 seek last f (r ∷ rs) [] = 0
-seek last f (r ∷ rs) (w ∷ ws) = cond (eqb r.0 last && alike f w) 0 (suc (seek last f rs ws))
+seek last f (r ∷ rs) (w ∷ ws) = cond (eqb r.before last && alike f w) 0 (suc (seek last f rs ws))
 
--- where each word begins in a row of all of them, with commas between; and that it does
-unfoldable pub starts : List ℕ
-starts = 0 ∷ 1 ∷ 7 ∷ 12 ∷ 15 ∷ 18 ∷ 21 ∷ 24 ∷ 27 ∷ 32 ∷ 37 ∷ 40 ∷ 45 ∷ 47 ∷ 50 ∷ 52 ∷ 55 ∷ 57 ∷ 59 ∷ 62 ∷ 64 ∷ 67 ∷ 70 ∷ 76 ∷ 81 ∷ 87 ∷ 92
-    ∷ 94 ∷ 96 ∷ 100 ∷ 101 ∷ []
-
-abbrev pub start_at : ℕ → ℕ
-start_at i = get_or starts i 0
-
-pub record Row (words : List ℕ) : Type 0 where
-  pub low : (i : ℕ) → i < no_word → start_at i < start_at (i + 1)
-  pub high : (i : ℕ) → i < no_word → start_at (i + 1) ≤ length words + 1
-  pub there : (i : ℕ) → i < no_word → slice (start_at i) (start_at (i + 1) - 1) words ≡ get_or keys i []
+-- the number of a word, or none
+abbrev pub Which : ℕ → Option ℕ → Type 0
+Which j (Some i) = (i ≡ j) × (j < no_word)
+Which j None = no_word ≤ j
 
 -- what a line that says l does
 unfoldable pub obeys : Tables → List ℕ → Line → Written

@@ -1,51 +1,73 @@
 // The words of a line. Each stands behind another word, or behind the line's start, which is word 0.
-ghost use Rattle.std.specs.Prelude.{◌≡◌, ◌≤◌, ◌<◌, length, get_or};
-ghost use Rattle.std.proofs.Math.Seq.{slice};
-ghost use Rattle.console.specs.Inner.{no_word, rows, row_at, requests, keys, seek, Row};
+ghost use Rattle.std.specs.Prelude.{◌≡◌, ◌<◌, map};
+ghost use Rattle.console.specs.Inner.{no_word, rows, row_at, said_with, keys, seek, Which};
 
 use super::Said;
 use rules::{Call, Order, Request};
 
-// How many words there are; none has this number.
-pub(crate) const NO_WORD: usize = 30;
+// How many words there are.
+const NO_WORD: usize = 30;
 
-// The word before, whether a name comes next, how many numbers come behind that, and whether it is a last word; the word whose row holds in
-// its place where a field comes behind it that is no word; and whether the last of its numbers may be left away. The last row is no word of its
-// own: it is TICK with a number.
+// A word's row. The last row is no word of its own: it is TICK with a number.
 #[derive(Clone, Copy)]
-pub(crate) struct Word(pub u8, pub bool, pub u8, pub bool, pub u8, pub bool);
+pub(crate) struct Word {
+    // the word before
+    pub before: u8,
+    // whether a name comes next, how many numbers come behind that, and whether the last of them may be left away
+    pub named: bool,
+    pub numbers: u8,
+    pub spare: bool,
+    // whether no other word comes behind it; and the word whose row holds in its place where a field comes behind it that is no word
+    pub is_last: bool,
+    pub instead: u8,
+}
+
+// A word's row: the word before; whether a name comes next, and how many numbers behind it, `spare` where the last of them may be left away; and
+// `last` with the word itself, where no other word comes behind it, or else `or` with the word whose row holds in its place where a field comes
+// behind it that is none.
+macro_rules! row {
+    (behind $before:literal, name $named:literal, numbers $n:literal, last $own:literal) => {
+        Word { before: $before, named: $named, numbers: $n, spare: false, is_last: true, instead: $own }
+    };
+    (behind $before:literal, name $named:literal, numbers $n:literal, spare, last $own:literal) => {
+        Word { before: $before, named: $named, numbers: $n, spare: true, is_last: true, instead: $own }
+    };
+    (behind $before:literal, name $named:literal, numbers $n:literal, or $instead:literal) => {
+        Word { before: $before, named: $named, numbers: $n, spare: false, is_last: false, instead: $instead }
+    };
+}
 
 const WORDS: [Word; NO_WORD] = [
-    Word(30, false, 0, false, 0, false), // the start
-    Word(0, false, 4, true, 1, true), // FRESH,T,S,R,year
-    Word(0, true, 1, true, 2, false), // LOAD,name,priority
-    Word(0, true, 0, true, 3, false), // RU,name
-    Word(0, true, 0, true, 4, false), // SS,name
-    Word(0, true, 0, true, 5, false), // GO,name
-    Word(0, true, 1, true, 6, false), // PR,name,number
-    Word(0, true, 1, true, 7, false), // OF,name,figure
-    Word(0, false, 0, false, 29, false), // TICK
-    Word(0, false, 0, false, 9, false), // EXEC
-    Word(0, false, 0, false, 10, false), // RN
-    Word(0, false, 0, true, 11, false), // PAGE
-    Word(9, false, 2, true, 12, false), // EXEC,4,n,w
-    Word(9, false, 2, true, 13, false), // EXEC,15,n,w
-    Word(9, false, 2, false, 14, false), // EXEC,5,n,start
-    Word(9, false, 2, true, 15, false), // EXEC,16,n,start
-    Word(9, false, 0, true, 16, false), // EXEC,6
-    Word(9, false, 0, true, 17, false), // EXEC,7
-    Word(9, false, 0, true, 18, false), // EXEC,11
-    Word(9, true, 0, true, 19, false), // EXEC,9,name
-    Word(9, true, 0, true, 20, false), // EXEC,10,name
-    Word(9, true, 3, true, 21, false), // EXEC,12,name,resolution,multiple,offset
-    Word(10, false, 0, false, 22, false), // RN,ALLOC
-    Word(10, false, 2, true, 23, false), // RN,LOCK,r,w
-    Word(10, false, 1, true, 24, false), // RN,CLEAR,r
-    Word(10, false, 1, true, 25, false), // RN,FREE,r
-    Word(22, false, 1, true, 26, false), // RN,ALLOC,L,w
-    Word(22, false, 1, true, 27, false), // RN,ALLOC,G,w
-    Word(14, false, 0, true, 28, false), // EXEC,5,ALL
-    Word(30, false, 1, true, 29, false), // TICK,n
+    row!(behind 30, name false, numbers 0, or 0), // the start
+    row!(behind 0, name false, numbers 4, spare, last 1), // FRESH,T,S,R,year
+    row!(behind 0, name true, numbers 1, last 2), // LOAD,name,priority
+    row!(behind 0, name true, numbers 0, last 3), // RU,name
+    row!(behind 0, name true, numbers 0, last 4), // SS,name
+    row!(behind 0, name true, numbers 0, last 5), // GO,name
+    row!(behind 0, name true, numbers 1, last 6), // PR,name,number
+    row!(behind 0, name true, numbers 1, last 7), // OF,name,figure
+    row!(behind 0, name false, numbers 0, or 29), // TICK
+    row!(behind 0, name false, numbers 0, or 9), // EXEC
+    row!(behind 0, name false, numbers 0, or 10), // RN
+    row!(behind 0, name false, numbers 0, last 11), // PAGE
+    row!(behind 9, name false, numbers 2, last 12), // EXEC,4,n,w
+    row!(behind 9, name false, numbers 2, last 13), // EXEC,15,n,w
+    row!(behind 9, name false, numbers 2, or 14), // EXEC,5,n,start
+    row!(behind 9, name false, numbers 2, last 15), // EXEC,16,n,start
+    row!(behind 9, name false, numbers 0, last 16), // EXEC,6
+    row!(behind 9, name false, numbers 0, last 17), // EXEC,7
+    row!(behind 9, name false, numbers 0, last 18), // EXEC,11
+    row!(behind 9, name true, numbers 0, last 19), // EXEC,9,name
+    row!(behind 9, name true, numbers 0, last 20), // EXEC,10,name
+    row!(behind 9, name true, numbers 3, last 21), // EXEC,12,name,resolution,multiple,offset
+    row!(behind 10, name false, numbers 0, or 22), // RN,ALLOC
+    row!(behind 10, name false, numbers 2, last 23), // RN,LOCK,r,w
+    row!(behind 10, name false, numbers 1, last 24), // RN,CLEAR,r
+    row!(behind 10, name false, numbers 1, last 25), // RN,FREE,r
+    row!(behind 22, name false, numbers 1, last 26), // RN,ALLOC,L,w
+    row!(behind 22, name false, numbers 1, last 27), // RN,ALLOC,G,w
+    row!(behind 14, name false, numbers 0, last 28), // EXEC,5,ALL
+    row!(behind 30, name false, numbers 1, last 29), // TICK,n
 ];
 
 pub(crate) fn word_of(i: usize) -> Word
@@ -55,11 +77,27 @@ pub(crate) fn word_of(i: usize) -> Word
     WORDS[i]
 }
 
-// What a line says whose last word is word i, and whose numbers are a, b, c and d as far as there are any.
-pub(crate) fn said_by(i: usize, a: u64, b: u64, c: u64, d: u64) -> Said
-    requires { i < no_word }
-    ensures { result ≡ get_or (requests a b c d) i Said.Bad }
+// The texts of the words; the start and TICK with a number have none. They stand beside the rows: a row that held its text would hold an address,
+// and `word_of` could not be the specification's row.
+const TEXTS: [&[u8]; NO_WORD] = [
+    b"", b"FRESH", b"LOAD", b"RU", b"SS", b"GO", b"PR", b"OF", b"TICK", b"EXEC", b"RN", b"PAGE",
+    b"4", b"15", b"5", b"16", b"6", b"7", b"11", b"9", b"10", b"12", b"ALLOC", b"LOCK", b"CLEAR",
+    b"FREE", b"L", b"G", b"ALL", b"",
+];
+
+fn texts() -> &'static [&'static [u8]]
+    ensures { map (λ b. b.now) result.now ≡ keys }
 {
+    &TEXTS
+}
+
+// What a line says whose last word is word i, by as many of the numbers as come behind it. It stands in a table like the others: a `match`
+// is no plainer, since its proof has an answer for each of the 30 words, and the table's has one.
+pub(crate) fn said_by(i: usize, numbers: [u64; 4]) -> Said
+    requires { i < no_word }
+    ensures { result ≡ said_with i numbers }
+{
+    let [a, b, c, d] = numbers;
     let all = [
         Said::Bad,
         Said::Asks(Request::Fresh(a, b, c, d)),
@@ -95,31 +133,15 @@ pub(crate) fn said_by(i: usize, a: u64, b: u64, c: u64, d: u64) -> Said
     all[i]
 }
 
-// Where each word begins in the row of all words, with commas between them; and where another would.
-const STARTS: [usize; 31] = [
-    0, 1, 7, 12, 15, 18, 21, 24, 27, 32, 37, 40, 45, 47, 50, 52, 55, 57, 59, 62, 64, 67, 70, 76,
-    81, 87, 92, 94, 96, 100, 101,
-];
-
-// Which word behind word `last` the field s[at..end] is, or `NO_WORD`; `words` are all of them in a row.
-pub(crate) fn which(s: &[u8], at: usize, end: usize, last: usize, words: &[u8]) -> usize
-    requires at_le_end { at ≤ end }
-    requires end_in_bounds { end ≤ length s.now }
-    requires row { Row words.now }
-    ensures { result ≡ seek last (slice at end s.now) rows keys }
+// Which word behind word `last` the field is, if it is one.
+pub(crate) fn which(field: &[u8], last: usize) -> Option<usize>
+    ensures { Which (seek last field.now rows keys) result }
 {
-    let rows = WORDS;
-    let starts = STARTS;
+    let texts = texts();
     for i in 0..NO_WORD {
-        let word = rows[i];
-        if word.0 as usize != last {
-            continue;
-        }
-        let from = starts[i];
-        let to = starts[i + 1] - 1;
-        if text::is_word(s, at, end, &words[from..to]) {
-            return i;
+        if WORDS[i].before as usize == last && field == texts[i] {
+            return Some(i);
         }
     }
-    NO_WORD
+    None
 }

@@ -1,51 +1,46 @@
 -- `console::words::which` meets its contract. The invariant: the words from word i on are searched in the same way.
 -- Assumes nothing.
-use Prim.Native.Nat.{◌+◌, ◌<◌, ◌≤◌}
+use Prim.Native.Nat.{◌<◌}
 use native.Mathlib.Omega.{arith}
-use lib.ListN.{length}
-use Rattle.console.specs.Inner.{rows, starts, start_at}
-use Rattle.console.proofs.WordLaws.{seeking-start, seeking-end, seeking-other, seeking-hit, seeking-next}
-use Rattle.console.proofs.words.which.Goals.{Else-word-last}
+use mathlib.Core.Path.{sym, ap, ◌∙◌}
+use mathlib.Core.List.{List, []}
+use Prim.Native.Nat.{ℕ}
+use lib.ListN.{length, get_or}
+use Rattle.std.specs.Cmp.Lexicographic.{same_text, other_text}
+use Rattle.console.specs.Line.{execs, numbers, forms}
+use Rattle.console.specs.Inner.{rows, keys, entries}
+use Rattle.console.proofs.WordLaws.{seeking_start, seeking_end, seeking_other, seeking_hit, seeking_next, text_at, texts-many}
+use Rattle.console.proofs.words.which.Goals.{In-loop-i, else-i-last-via-then-i-last+else-eq, else-i-last-via-else-i-last}
 use Rattle.console.proofs.words.which.Goals as goal
 
-low : (c : Else-word-last) → start_at c.loop-i.i < start_at (c.loop-i.i + 1)
-low c = c.requires.row.low c.loop-i.i c.loop-i-test.true
+-- the texts are as many as the words
+many : (c : In-loop-i) → c.loop-i.i < length c.texts-texts.result.now
+unfolding execs numbers forms entries keys
+many c =
+    omega (arith, c.loop-i-test.true, texts-many c.texts-texts.result.now, ap length c.texts-texts.ensures)
 
-high : (c : Else-word-last) → start_at (c.loop-i.i + 1) ≤ length c.args.words.now + 1
-high c = c.requires.row.high c.loop-i.i c.loop-i-test.true
-
-pub loop-i-preserved-then-word-last : goal.loop-i-preserved-then-word-last
-unfolding rows
-loop-i-preserved-then-word-last c = seeking-other c.loop-i.invariant c.loop-i-test.true c.if-word-last.true
-
-pub overflow_sub-to : goal.overflow_sub-to
-unfolding starts
-overflow_sub-to c = omega (arith, low (goal.at.overflow_sub-to c).Else-word-last)
-
-pub slice_bounds-is_word-count : goal.slice_bounds-is_word-count
-unfolding starts
-slice_bounds-is_word-count c = omega (arith, low (goal.at.slice_bounds-is_word-count c).Else-word-last)
-
-pub slice_bounds-is_word-start : goal.slice_bounds-is_word-start
-unfolding starts
-slice_bounds-is_word-start c = omega (arith, low (goal.at.slice_bounds-is_word-start c).Else-word-last, high (goal.at.slice_bounds-is_word-start c).Else-word-last)
-
-pub slice_bounds-is_word-end : goal.slice_bounds-is_word-end
-unfolding starts
-slice_bounds-is_word-end c = omega (arith, low (goal.at.slice_bounds-is_word-end c).Else-word-last, high (goal.at.slice_bounds-is_word-end c).Else-word-last)
-
-pub returns-then-is_word : goal.returns-then-is_word
-unfolding rows starts
-returns-then-is_word c =
-    seeking-hit c.loop-i.invariant c.loop-i-test.true c.if-word-last.false c.requires.row c.is_word.ensures c.if-is_word.true
-
-pub loop-i-preserved : goal.loop-i-preserved
-unfolding rows starts
-loop-i-preserved c =
-    seeking-next c.loop-i.invariant c.loop-i-test.true c.if-word-last.false c.requires.row c.is_word.ensures c.if-is_word.false
+pub bounds-texts-i : goal.bounds-texts-i
+bounds-texts-i c = many (goal.at.bounds-texts-i c).In-loop-i
 
 pub loop-i-init : goal.loop-i-init
-loop-i-init c = seeking-start
+loop-i-init c = seeking_start _ _
+
+pub returns-then-eq : goal.returns-then-eq
+unfolding rows
+returns-then-eq c =
+    seeking_hit c.loop-i.invariant c.loop-i-test.true c.if-i-last.true (same_text _ _ c.if-eq.ensures
+    ∙ text_at c.texts-texts.result.now c.loop-i.i _ (many (goal.at.returns-then-eq c).In-loop-i)
+    ∙ ap (λ (l : List (List ℕ)). get_or l c.loop-i.i []) c.texts-texts.ensures)
+
+pub loop-i-preserved : goal.loop-i-preserved
+unfolding rows
+loop-i-preserved c = elim c.else-i-last.branch [
+  | else-i-last-via-then-i-last+else-eq w ↦
+      seeking_next c.loop-i.invariant c.loop-i-test.true w.if-i-last.true (λ e. other_text _ _ w.if-eq.ensures (e
+      ∙ sym (text_at c.texts-texts.result.now c.loop-i.i _ (many (goal.at.loop-i-preserved c).In-loop-i)
+      ∙ ap (λ (l : List (List ℕ)). get_or l c.loop-i.i []) c.texts-texts.ensures)))
+  | else-i-last-via-else-i-last w ↦ seeking_other c.loop-i.invariant c.loop-i-test.true w.if-i-last.false
+]
 
 pub returns : goal.returns
-returns c = seeking-end c.loop-i.invariant c.loop-i-test.false
+returns c = seeking_end c.loop-i.invariant c.loop-i-test.false
