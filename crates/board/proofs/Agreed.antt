@@ -9,7 +9,6 @@ use lib.Dec.{leb}
 use lib.ListN.{length}
 use borrow.Author.Tests.{le-leb, lt-leb}
 use Rattle.lists.specs.Lists.{hit}
-use Rattle.text.specs.Inner.{Wrote}
 use Rattle.tables.specs.declared.Tables.{Tables}
 use Rattle.tables.specs.declared.Outcome.{Outcome}
 use Rattle.tables.specs.Sound.{sound}
@@ -18,8 +17,7 @@ use Rattle.rules.specs.Engine.{beside}
 use Rattle.page.specs.Paging.{Written}
 use Rattle.console.specs.Console.{keyed}
 use Rattle.rules.specs.Answers as answers
-use Rattle.packing.specs.Packed.{packed_length, packed, unpacked, is_packed}
-use Rattle.packing.proofs.OneForm.{filled-whole, is-length}
+use Rattle.packing.specs.Packed.{packed, unpacked, is_packed}
 use Rattle.board.specs.Board.{figures_length, answering, Boarded, not_boarded, boarded, soundly}
 use Rattle.board.proofs.Answered.{answering-not}
 
@@ -29,6 +27,7 @@ module _ (s : List ℕ) where
   unfolding soundly
   soundly-other e = sym (ap (λ (x : Bool). hit (x && sound (unpacked s))) e)
 
+  -- what the code has in hand
   pub soundly-is : (t : Tables) (b : Bool) → is_packed s ≡ true → t ≡ unpacked s → sound t ≡ b → hit b ≡ soundly s
   unfolding soundly
   soundly-is t b e u k =
@@ -65,13 +64,12 @@ module _ (s line page buf : List ℕ) where
 
     -- what the code has in hand: the tables, the outcome of the line beside the page's buffer after it, the
     -- tables put back, and the answer told
-    pub boarded-done : (t : Tables) (r : Outcome) (s' page' buf' : List ℕ) (n m : ℕ) → figures_length ≤ length buf → t ≡ unpacked s
+    pub boarded-done : (t : Tables) (r : Outcome) (s' page' buf' : List ℕ) (m : ℕ) → figures_length ≤ length buf → t ≡ unpacked s
         → beside page' (told r) ≡ keyed t line page
-        → length (packed r.tables) ≡ packed_length → Wrote s 0 (packed r.tables) s' n
+        → s' ≡ packed r.tables
         → m ≡ answers.number r.answer → buf' ≡ answering (answers.number r.answer) (answers.values r.answer) buf
         → record { number = m; tables = s'; page = page'; answer = buf' } ≡ boarded s line page buf
-    boarded-done t r s' page' buf' n m h u k p v e a =
-        let tables = filled-whole v (p ∙ sym (is-length s is)) in
+    boarded-done t r s' page' buf' m h u k tables e a =
         (λ i. record { number = e i; tables = tables i; page = page'; answer = a i })
         ∙ ap done (k ∙ ap (λ (x : Tables). keyed x line page) u)
         ∙ sym (by-room true (le-leb figures_length (length buf) h))

@@ -3,20 +3,22 @@
 use Prim.Native.Nat.{ℕ, ◌<◌, ◌≤◌}
 use mathlib.Core.Path.{◌≡◌, refl, sym, ap, ◌∙◌}
 use mathlib.Core.Bool.{Bool, true, false, cond, ◌||◌}
-use mathlib.Core.List.{List, [], ◌∷◌, ◌++◌}
+use mathlib.Core.List.{List, [], ◌∷◌, ◌++◌, map}
 use mathlib.Core.Option.{Option, none, some}
 use lib.Dec.{leb, eqb}
 use lib.ListN.{length}
 use borrow.Author.Tests.{le-leb, lt-leb}
-use Rattle.text.specs.Inner.{Wrote}
+use Rattle.lists.specs.Lists.{join}
 use Rattle.rules.specs.declared.Answer.{Answer}
+use Rattle.rules.specs.Engine.{front}
+use Rattle.packing.specs.Packed.{in_bytes}
 use Rattle.rules.specs.Answers as answers
 use Rattle.transcripts.specs.declared.finding.Mark.TheVariants.{Original, Copy}
 use Rattle.transcripts.specs.declared.finding.Located.{Located}
 use Rattle.transcripts.specs.Transcripts.{Line, lines_in, occurrence}
 use Rattle.transcripts.specs.Finding.{Sought, told, refused, found_or, sought, marked}
 use Rattle.transcripts.specs.Listing.{Filled, answered, listing}
-use Rattle.board.specs.Board.{figures, figures_length, answering}
+use Rattle.board.specs.Board.{figures_length, answering}
 use Rattle.board.specs.Desk.{FoundBy, found_by, ListedBy, listed_by}
 use Rattle.board.proofs.Answered.{answering-put}
 
@@ -55,13 +57,13 @@ module _ (original copy key : List ℕ) (n : ℕ) where
     find-not h = sym (in-none _ _ buf h)
 
     -- what the code has in hand: where the line is, its mark as a value, the answer's number, and the answer put
-    pub find-done : (r : Located) (buf' : List ℕ) (at m k : ℕ) → figures_length ≤ length buf → told r ≡ sought original copy key n
+    pub find-done : (r : Located) (buf' : List ℕ) (m k : ℕ) → figures_length ≤ length buf → told r ≡ sought original copy key n
         → m ≡ answers.number r.answer → k ≡ marked r.place.mark 0 1
-        → Wrote buf 0 (figures m (0 ∷ k ∷ r.place.begins ∷ r.place.ends ∷ [])) buf' at
+        → buf' ≡ front (join (map (in_bytes 8) (m ∷ 0 ∷ k ∷ r.place.begins ∷ r.place.ends ∷ 0 ∷ 0 ∷ []))) buf
         → record { number = m; answer = buf' } ≡ found_by original copy key n buf
     unfolding found_by
-    find-done r buf' at m k h e p q w =
-        let put = answering-put m (0 ∷ k ∷ r.place.begins ∷ r.place.ends ∷ []) buf h w in
+    find-done r buf' m k h e p q w =
+        let put = answering-put m (0 ∷ k ∷ r.place.begins ∷ r.place.ends ∷ []) buf (0 ∷ k ∷ r.place.begins ∷ r.place.ends ∷ 0 ∷ 0 ∷ []) refl h w in
         let v : 0 ∷ [] ≡ answers.values r.answer = sym (ap (λ (x : Sought). x.values) e ∙ sought-values) in
         ap (λ (x : List ℕ). record { number = m; answer = x }) put
         ∙ (λ i. record {

@@ -1,15 +1,12 @@
 -- Laws of a page read back into bytes, by the paths of the code: room for the answer, room for the tables, and what is read.
 -- Assumes nothing.
 use Prim.Native.Nat.{ℕ, ◌<◌, ◌≤◌}
-use native.Mathlib.Omega.{arith}
 use mathlib.Core.Path.{◌≡◌, sym, ap, ◌∙◌}
 use mathlib.Core.Bool.{Bool, true, false}
 use mathlib.Core.List.{List, [], ◌∷◌}
 use lib.Dec.{leb}
 use lib.ListN.{length}
 use borrow.Author.Tests.{le-leb, lt-leb}
-use Rattle.text.specs.Inner.{Wrote}
-use Rattle.text.proofs.Laws.{wrote-front}
 use Rattle.tables.specs.declared.Outcome.{Outcome}
 use Rattle.tables.specs.Calls.{Result, told}
 use Rattle.rules.specs.Engine.{front}
@@ -51,12 +48,11 @@ module _ (s tables buf : List ℕ) where
         (λ i. record { number = n i; tables = tables; answer = a i }) ∙ sym (by-tables false (lt-leb packed_length (length tables) k))
 
     -- what the code has in hand: the outcome of the reading, the tables put, and the answer told
-    pub read_done : (r : Outcome) (tables' buf' : List ℕ) (n m : ℕ) → packed_length ≤ length tables → told r ≡ reading s
-        → length (packed r.tables) ≡ packed_length → Wrote tables 0 (packed r.tables) tables' n
+    pub read_done : (r : Outcome) (tables' buf' : List ℕ) (m : ℕ) → packed_length ≤ length tables → told r ≡ reading s
+        → tables' ≡ front (packed r.tables) tables
         → m ≡ answers.number r.answer → buf' ≡ answering (answers.number r.answer) (answers.values r.answer) buf
         → record { number = m; tables = tables'; answer = buf' } ≡ read_back s tables buf
-    read_done r tables' buf' n m k e p w q a =
-        let put = wrote-front w (omega (arith, p)) in
+    read_done r tables' buf' m k e put q a =
         (λ i. record { number = q i; tables = put i; answer = a i })
         ∙ ap read e
         ∙ sym (by-tables true (le-leb packed_length (length tables) k))

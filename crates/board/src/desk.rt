@@ -33,13 +33,20 @@ pub fn board_find(
         return 12;
     }
     let found = transcripts::locate(original, copy, key, occurrence);
-    let told = found.answer;
-    let number = console::number_of(told);
+    let number = console::number_of(found.answer);
     let place = found.place;
-    let mark = place.mark;
-    let begins = place.begins as u64;
-    let ends = place.ends as u64;
-    telling::put_four(answer, number, 0, mark_number(mark), begins, ends);
+    telling::put_figures(
+        answer,
+        number,
+        [
+            0,
+            mark_number(place.mark),
+            place.begins as u64,
+            place.ends as u64,
+            0,
+            0,
+        ],
+    );
     number
 }
 

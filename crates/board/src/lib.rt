@@ -34,8 +34,7 @@ pub fn board_run(text: &[u8], out: &mut [u8], answer: &mut [u8]) -> u64
     if answer.len() < telling::FIGURES_LENGTH {
         return 12;
     }
-    let first = Tables::fresh(1, 0, 0, USUAL_YEAR as u64);
-    let mut tables = first.tables;
+    let mut tables = Tables::fresh(1, 0, 0, USUAL_YEAR as u64).tables;
     let mut space = [0u8; PAGE_ROOM];
     let mut from: usize = 0;
     let mut used: usize = 0;
@@ -45,18 +44,17 @@ pub fn board_run(text: &[u8], out: &mut [u8], answer: &mut [u8]) -> u64
         let end = console::line_end(text, from);
         let printed = console::print_line(tables, &text[from..end], &mut space);
         tables = printed.tables;
-        let told = printed.answer;
-        let n = console::bytes_printed(told);
+        let n = console::bytes_printed(printed.answer);
         needed += n as u64;
-        if out.len() - used < n {
+        if is_full || out.len() - used < n {
             is_full = true;
-        }
-        if !is_full {
-            used = text::put_bytes(out, used, &space[..n]);
+        } else {
+            out[used..used + n].copy_from_slice(&space[..n]);
+            used += n;
         }
         from = end + 1;
     }
-    telling::put_counts(answer, needed, used as u64);
+    telling::put_figures(answer, 0, [needed, used as u64, 0, 0, 0, 0]);
     0
 }
 
@@ -64,14 +62,7 @@ pub fn board_run(text: &[u8], out: &mut [u8], answer: &mut [u8]) -> u64
 pub fn board_sound(tables: &[u8]) -> u64
     ensures { result ≡ soundly tables.now }
 {
-    if !packing::is_packed(tables) {
-        return 0;
-    }
-    let t = packing::tables_at(tables);
-    if t.is_sound() {
-        return 1;
-    }
-    0
+    u64::from(packing::is_packed(tables) && packing::tables_at(tables).is_sound())
 }
 
 // One console line on tables in packed form, which are replaced by those after it. The line's own answer; or 14, and every byte of tables
@@ -91,10 +82,8 @@ pub fn board_ask(tables: &mut [u8], line: &[u8], page: &mut [u8], answer: &mut [
         return 14;
     }
     let r = console::key_line(t, line, page);
-    let after = r.tables;
-    packing::put_tables(tables, after);
-    let told = r.answer;
-    telling::tell(answer, told)
+    tables.copy_from_slice(packing::pack(&r.tables).as_slice());
+    telling::tell(answer, r.answer)
 }
 
 // Reads a page back: the tables, in packed form, at the front of `tables`, the rest of it untouched. The reading's own answer, 0, or 15 and
@@ -110,8 +99,6 @@ pub fn board_read(page: &[u8], tables: &mut [u8], answer: &mut [u8]) -> u64
         return telling::tell(answer, Answer::TooShort(1271));
     }
     let r = reader::read_page(page);
-    let t = r.tables;
-    packing::put_tables(tables, t);
-    let told = r.answer;
-    telling::tell(answer, told)
+    tables[..packing::PACKED_LENGTH].copy_from_slice(packing::pack(&r.tables).as_slice());
+    telling::tell(answer, r.answer)
 }

@@ -11,8 +11,6 @@ use lib.ListN.{length, drop, length-replicate, length-append, length-drop}
 use borrow.Author.Tests.{le-leb, lt-leb}
 use Rattle.limits.specs.Limits.{page_room}
 use Rattle.lists.proofs.Tests.{clash}
-use Rattle.text.specs.Inner.{Wrote}
-use Rattle.text.proofs.Laws.{wrote-front}
 use Rattle.rules.specs.declared.Answer.TheVariants.{Done}
 use Rattle.rules.specs.Answers as answers
 use Rattle.tables.specs.declared.Tables.{Tables}
@@ -190,13 +188,14 @@ module _ (t : Tables) (l out : List ℕ) (big : page_room ≤ length out)
       pub printed-room : length (answer_bytes r.answer) ≤ length after
       printed-room = omega (arith, answer-room r.answer, ap length printed-kept)
 
-      pub printed-answer : (final : List ℕ) (n : ℕ) → Wrote after 0 (answer_bytes r.answer) final n
-          → beside final (told (record { answer = Done n; tables = r.tables })) ≡ line_shown t l out
-      printed-answer final n w =
+      pub printed-answer : (final : List ℕ) (s : Outcome)
+          → told s ≡ record { number = 0; values = length (answer_bytes r.answer) ∷ []; tables = r.tables }
+          → final ≡ front (answer_bytes r.answer) after → beside final (told s) ≡ line_shown t l out
+      printed-answer final s k w =
           let bytes : List ℕ = answer_bytes r.answer in
-          let b : final ≡ front bytes out = wrote-front w printed-room ∙ ap (front bytes) printed-kept in
-          let k : n ≡ length bytes = omega (arith, w.place) in
+          let b : final ≡ front bytes out = w ∙ ap (front bytes) printed-kept in
           let line : bytes ≡ answer_line (keyed t l out) = sym (answer-line after r) ∙ ap answer_line same in
-          (λ i. record { number = 0; values = k i ∷ []; tables = (same i).tables; buffer = b i })
+          ap (beside final) k
+          ∙ (λ i. record { number = 0; values = length bytes ∷ []; tables = (same i).tables; buffer = b i })
           ∙ ap (λ (xs : List ℕ). printing xs (keyed t l out).tables out) line
           ∙ sym (shown-answer not_done)

@@ -180,6 +180,11 @@ single [] = 0
 single (v ∷ []) = v
 single (v ∷ w ∷ vs) = 0
 
+-- numbers, a dot before each
+abbrev pub dotted : List ℕ → List ℕ
+dotted [] = []
+dotted (n ∷ ns) = 46 ∷ (decimal n ++ dotted ns)
+
 -- the bytes printed for an answer
 unfoldable pub values_line : Answer → List ℕ
 values_line a = between 46 (map decimal (answers.values a))

@@ -1,22 +1,23 @@
 // Answers as they are printed: the outline's number, and the value or the parts of a time.
-ghost use Rattle.std.specs.Prelude.{◌≡◌, ◌+◌, ◌≤◌, ◌∷◌, map, length};
+ghost use Rattle.std.specs.Prelude.{◌≡◌, ◌+◌, ◌≤◌, ◌++◌, map, length};
 ghost use Rattle.text.specs.Text.{decimal, between};
-ghost use Rattle.text.specs.Inner.{Wrote};
 ghost use Rattle.clock.specs.Clock.{parts_of};
 ghost use Rattle.rules.specs.Answers.{number, values};
-ghost use Rattle.console.specs.Inner.{single, values_line, answer_bytes};
+ghost use Rattle.rules.specs.Engine.{front};
+ghost use Rattle.console.specs.Inner.{single, dotted, values_line, answer_bytes};
 ghost use Rattle.console.specs.Sheet.{answer_put, printed_bytes};
 
+use arrayvec::ArrayVec;
 use clock::Time;
 use rules::Answer;
+use text::writing::{put_bytes, put_number};
 
 // The outline's number of an answer.
 pub fn number_of(answer: Answer) -> u64
     ensures { result ≡ number answer }
 {
     match answer {
-        Answer::Done(_) => 0,
-        Answer::Told(_) => 0,
+        Answer::Done(_) | Answer::Told(_) => 0,
         Answer::Waits(_) => 1,
         Answer::NoCaller => 2,
         Answer::NotAllowed => 3,
@@ -51,73 +52,85 @@ fn value_of(answer: Answer) -> u64
     ensures { result ≡ single (values answer) }
 {
     match answer {
-        Answer::Done(v) => v,
-        Answer::Told(_) => 0,
-        Answer::Waits(s) => s as u64,
-        Answer::NoCaller => 0,
-        Answer::NotAllowed => 0,
-        Answer::NoProgram => 0,
-        Answer::WrongState(s) => s as u64,
-        Answer::NameInUse => 0,
-        Answer::AllUsed => 0,
-        Answer::NoRoom => 0,
-        Answer::NotHolder => 0,
-        Answer::NotAllocated => 0,
-        Answer::AtCeiling => 0,
-        Answer::TooShort(n) => n,
-        Answer::NotUnderstood => 0,
-        Answer::NotSound => 0,
-        Answer::NotRead(n) => n,
-        Answer::InNeither => 0,
+        Answer::Done(v) | Answer::TooShort(v) | Answer::NotRead(v) => v,
+        Answer::Waits(s) | Answer::WrongState(s) => s as u64,
+        Answer::Told(_)
+        | Answer::NoCaller
+        | Answer::NotAllowed
+        | Answer::NoProgram
+        | Answer::NameInUse
+        | Answer::AllUsed
+        | Answer::NoRoom
+        | Answer::NotHolder
+        | Answer::NotAllocated
+        | Answer::AtCeiling
+        | Answer::NotUnderstood
+        | Answer::NotSound
+        | Answer::InNeither => 0,
     }
 }
 
-// A dot, and n.
-fn put_dotted(buf: &mut [u8], at: usize, n: u64) -> usize
-    requires { at + 1 + length (decimal n) ≤ length buf.old }
-    ensures { Wrote buf.old at (46 ∷ decimal n) buf.new result }
+// Numbers, a dot before each.
+#[tactic(auto, using(crate::proofs::AnswerLaws::dotted_room))]
+fn put_dotted<const N: usize>(out: &mut ArrayVec<u8, N>, numbers: &[u64])
+    requires { length out.old.items + length (dotted numbers.now) ≤ N }
+    ensures { out.new.items ≡ out.old.items ++ dotted numbers.now }
 {
-    let next = text::put_byte(buf, at, b'.');
-    text::put_number(buf, next, n)
+    for n in numbers {
+        out.push(b'.');
+        put_number(out, *n);
+    }
 }
 
 // year.day.hour.minute.second.hundredth
-fn put_time(buf: &mut [u8], at: usize, t: Time) -> usize
-    requires { at + length (between 46 (map decimal (parts_of t))) ≤ length buf.old }
-    ensures { Wrote buf.old at (between 46 (map decimal (parts_of t))) buf.new result }
+#[tactic(auto, using(crate::proofs::AnswerLaws::time_line))]
+fn put_time<const N: usize>(out: &mut ArrayVec<u8, N>, t: Time)
+    requires { length out.old.items + length (between 46 (map decimal (parts_of t))) ≤ N }
+    ensures { out.new.items ≡ out.old.items ++ between 46 (map decimal (parts_of t)) }
 {
-    let a = text::put_number(buf, at, t.year);
-    let b = put_dotted(buf, a, t.day);
-    let c = put_dotted(buf, b, t.hour);
-    let d = put_dotted(buf, c, t.minute);
-    let e = put_dotted(buf, d, t.second);
-    put_dotted(buf, e, t.hundredth)
+    put_number(out, t.year);
+    put_dotted(out, &[t.day, t.hour, t.minute, t.second, t.hundredth]);
 }
 
-fn put_values(buf: &mut [u8], at: usize, answer: Answer) -> usize
-    requires { at + length (values_line answer) ≤ length buf.old }
-    ensures { Wrote buf.old at (values_line answer) buf.new result }
+#[tactic(auto, unfolding(crate::specs::Inner::values_line))]
+fn put_values<const N: usize>(out: &mut ArrayVec<u8, N>, answer: Answer)
+    requires { length out.old.items + length (values_line answer) ≤ N }
+    ensures { out.new.items ≡ out.old.items ++ values_line answer }
 {
     match answer {
-        Answer::Told(t) => put_time(buf, at, t),
-        _ => text::put_number(buf, at, value_of(answer)),
+        Answer::Told(t) => put_time(out, t),
+        _ => put_number(out, value_of(answer)),
     }
-}
-
-// The line for an answer, at the front.
-pub(crate) fn put_answer(buf: &mut [u8], answer: Answer) -> usize
-    requires { length (answer_bytes answer) ≤ length buf.old }
-    ensures { Wrote buf.old 0 (answer_bytes answer) buf.new result }
-{
-    let a = text::put_bytes(buf, 0, b"answer=");
-    let b = text::put_number(buf, a, number_of(answer));
-    let c = text::put_bytes(buf, b, b",value=");
-    let d = put_values(buf, c, answer);
-    text::put_byte(buf, d, 10)
 }
 
 // The bytes of the longest line for an answer.
 pub const LONGEST_ANSWER: usize = 160;
+
+// The line for an answer.
+#[tactic(auto, using(crate::proofs::AnswerLaws::answer_line), unfolding(crate::specs::Inner::answer_bytes))]
+fn answer_line(answer: Answer) -> ArrayVec<u8, LONGEST_ANSWER>
+    ensures { result.items ≡ answer_bytes answer }
+{
+    let mut line = ArrayVec::new();
+    put_bytes(&mut line, b"answer=");
+    put_number(&mut line, number_of(answer));
+    put_bytes(&mut line, b",value=");
+    put_values(&mut line, answer);
+    line.push(b'\n');
+    line
+}
+
+// The line for an answer, at the front.
+pub(crate) fn put_answer(out: &mut [u8], answer: Answer) -> usize
+    requires { length (answer_bytes answer) ≤ length out.old }
+    ensures many { result ≡ length (answer_bytes answer) }
+    ensures buffer { out.new ≡ front (answer_bytes answer) out.old }
+{
+    let line = answer_line(answer);
+    let n = line.len();
+    out[..n].copy_from_slice(line.as_slice());
+    n
+}
 
 // The line for an answer at the front of `out`, and how many bytes it has; none where fewer than 160 are lent.
 pub fn print_answer(answer: Answer, out: &mut [u8]) -> usize

@@ -1,12 +1,12 @@
 // What a line does, and what is printed for it.
-ghost use Rattle.std.specs.Prelude.{ℕ, ◌≤◌, ◌≡◌, List, length};
+ghost use Rattle.std.specs.Prelude.{ℕ, ◌≤◌, ◌≡◌, List, [], ◌∷◌, length};
 ghost use Rattle.limits.specs.Limits.{page_room};
 ghost use Rattle.tables.specs.Calls.{told};
-ghost use Rattle.rules.specs.Engine.{beside};
+ghost use Rattle.rules.specs.Engine.{beside, front};
 ghost use Rattle.console.specs.Line.{PAGE, line_of};
 ghost use Rattle.console.specs.Console.{keyed};
 ghost use Rattle.console.specs.Sheet.{line_shown};
-ghost use Rattle.console.specs.Inner.{obeys, refusing, says};
+ghost use Rattle.console.specs.Inner.{obeys, refusing, says, answer_bytes};
 
 use super::{Command, Said, answers, parse};
 use limits::PAGE_ROOM;
@@ -17,26 +17,24 @@ use tables::{Outcome, Tables};
 fn refusal(tables: Tables) -> Answer
     ensures { told (record { answer = result; tables = tables }) ≡ refusing tables }
 {
-    let o = tables.opened();
-    if o.sound {
-        return Answer::NotUnderstood;
+    if tables.opened().sound {
+        Answer::NotUnderstood
+    } else {
+        Answer::NotSound
     }
-    Answer::NotSound
 }
 
 // What a command does.
 fn obey(tables: Tables, command: Command, buf: &mut [u8]) -> Outcome
     ensures { beside buf.new (told result) ≡ obeys tables buf.old (says command) }
 {
-    let name = command.name;
-    let said = command.said;
-    match said {
+    match command.said {
         Said::Bad => Outcome {
             answer: refusal(tables),
-            tables: tables,
+            tables,
         },
         Said::Page => page::write_page(tables, buf),
-        Said::Asks(q) => tables.ask(name, q),
+        Said::Asks(q) => tables.ask(command.name, q),
         Said::Ticks(n) => tables.ticks(n),
     }
 }
@@ -45,8 +43,20 @@ fn obey(tables: Tables, command: Command, buf: &mut [u8]) -> Outcome
 pub fn key_line(tables: Tables, line: &[u8], buf: &mut [u8]) -> Outcome
     ensures { beside buf.new (told result) ≡ keyed tables line.now buf.old }
 {
-    let command = parse::command_of(line);
-    obey(tables, command, buf)
+    obey(tables, parse::command_of(line), buf)
+}
+
+// The line for an outcome's answer at the front of a lent buffer, and how many bytes it has, as an answer, beside the tables.
+fn print_outcome(outcome: Outcome, out: &mut [u8]) -> Outcome
+    requires { length (answer_bytes outcome.answer) ≤ length out.old }
+    ensures outcome { told result ≡ record { number = 0; values = length (answer_bytes outcome.answer) ∷ []; tables = outcome.tables } }
+    ensures buffer { out.new ≡ front (answer_bytes outcome.answer) out.old }
+{
+    let length = answers::put_answer(out, outcome.answer);
+    Outcome {
+        answer: Answer::Done(length as u64),
+        ..outcome
+    }
 }
 
 // What any line that asks for the page prints: the page, or the line for a refusal.
@@ -55,16 +65,10 @@ fn print_page(tables: Tables, out: &mut [u8]) -> Outcome
     ensures { (l : List ℕ) → line_of l ≡ PAGE → beside out.new (told result) ≡ line_shown tables l out.old }
 {
     let outcome = page::write_page(tables, out);
-    let after = outcome.tables;
-    let answer = outcome.answer;
-    if let Answer::Done(_) = answer {
+    if let Answer::Done(_) = outcome.answer {
         return outcome;
     }
-    let length = answers::put_answer(out, answer);
-    Outcome {
-        answer: Answer::Done(length as u64),
-        tables: after,
-    }
+    print_outcome(outcome, out)
 }
 
 // What a line prints, at the front of a lent buffer of at least 8,704 bytes: the line for its answer, or for PAGE
@@ -75,40 +79,13 @@ pub fn print_line(tables: Tables, line: &[u8], out: &mut [u8]) -> Outcome
     if out.len() < PAGE_ROOM {
         return Outcome {
             answer: Answer::TooShort(PAGE_ROOM as u64),
-            tables: tables,
+            tables,
         };
     }
     let command = parse::command_of(line);
-    let name = command.name;
-    let said = command.said;
-    match said {
-        Said::Bad => {
-            let length = answers::put_answer(out, refusal(tables));
-            Outcome {
-                answer: Answer::Done(length as u64),
-                tables: tables,
-            }
-        }
-        Said::Page => print_page(tables, out),
-        Said::Asks(q) => {
-            let outcome = tables.ask(name, q);
-            let after = outcome.tables;
-            let answer = outcome.answer;
-            let length = answers::put_answer(out, answer);
-            Outcome {
-                answer: Answer::Done(length as u64),
-                tables: after,
-            }
-        }
-        Said::Ticks(n) => {
-            let outcome = tables.ticks(n);
-            let after = outcome.tables;
-            let answer = outcome.answer;
-            let length = answers::put_answer(out, answer);
-            Outcome {
-                answer: Answer::Done(length as u64),
-                tables: after,
-            }
-        }
+    if let Said::Page = command.said {
+        return print_page(tables, out);
     }
+    let outcome = obey(tables, command, out);
+    print_outcome(outcome, out)
 }

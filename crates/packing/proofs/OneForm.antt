@@ -7,26 +7,21 @@ use native.Mathlib.Omega.{arith}
 use mathlib.Core.Path.{◌≡◌, refl, sym, ap, ◌∙◌}
 use mathlib.Core.Logic.{◌≢◌, ◌↔◌}
 use mathlib.Core.Bool.{Bool, true, false, cond, ◌&&◌}
-use mathlib.Core.List.{List, [], ◌∷◌, ◌++◌, map, append-nil}
+use mathlib.Core.List.{List, [], ◌∷◌, map}
 use lib.Dec.{eqb}
-use lib.ListN.{length, get_or, take, drop, length-append, length-drop, drop_of_length-le}
-use lib.Seq.{slice, take_all, length-take-le, get_or-drop}
-use mir.Val.{Val}
-use denote.Array.{each}
-use denote.Shadow.{shadow}
+use lib.Pointwise.{pointwise}
+use lib.ListN.{length, get_or, take, drop, length-append, length-drop}
+use lib.Seq.{length-take-le, get_or-drop}
 use borrow.Author.Tests.{eq-eqb, ne_eqb, eqb-true}
+use Rattle.std.proofs.Common.{nat_eq}
 use Rattle.lists.specs.Lists.{from, alike, join}
 use Rattle.lists.proofs.Tests.{both, and, alike-true, alike_is}
-use Rattle.text.specs.Inner.{Wrote}
-use Rattle.text.proofs.Laws.{wrote-front}
 use Rattle.records.specs.declared.Program.{Program}
 use Rattle.records.specs.declared.Why.TheVariants.{Nothing, Tracks, Son, Lock, Number}
-use denote.Struct.Declared.{row}
-use Rattle.records.specs.contracts.Program.{the_type}
 use Rattle.tables.specs.declared.Tables.{Tables}
 use Rattle.tables.specs.Tables.{Arrays}
 use Rattle.packing.specs.Packed.{of_bytes, figure_at, why_of, pack_program, program_at, packed, unpacked, is_packed, programs_place, packed_length}
-use Rattle.packing.proofs.Pieces.{named, resources-length, program-length}
+use Rattle.packing.proofs.Pieces.{resources-length, program-length}
 use Rattle.packing.proofs.Lossless.{wide, FitWhy, FitProgram, Each, FitTables, lossless}
 
 -- HOW LONG PACKED TABLES ARE
@@ -50,24 +45,6 @@ packed-length t A h =
       resources-length t.ledger.numbers.resources,
       names-length t.ledger.programs h,
     ))
-
--- the names of an array of records are as long as their type says
-pub named-each : (xs : List Program) (us : List Val)
-    → shadow (each Program (row the_type).own_val xs us) → Each Named xs
-named-each [] us g = tt
-named-each (x ∷ xs) [] g = absurd g
-named-each (x ∷ xs) (u ∷ us) g = (named (x ∷ []) (u ∷ []) 0 x (g.0, tt) (omega arith), named-each xs us g.1)
-
--- what fills a buffer is what it then holds
-pub filled-whole : {l x l' : List ℕ} {n : ℕ} → Wrote l 0 x l' n → length x ≡ length l → l' ≡ x
-filled-whole {l} {x} w e =
-    let h : length l ≤ length x = omega arith in
-    wrote-front w (omega arith) ∙ ap (λ (r : List ℕ). x ++ r) (drop_of_length-le l h) ∙ append-nil x
-
--- k bytes from place o on, put where as many stood
-pub part-whole : (o k : ℕ) (s : List ℕ) {l l' : List ℕ} {n : ℕ} → o + k ≤ length s → length l ≡ k → Wrote l 0 (take k (drop o s)) l' n
-    → l' ≡ take k (drop o s)
-part-whole o k s h e w = filled-whole w (length-take-le k (drop o s) (omega (arith, length-drop o s)) ∙ sym e)
 
 -- THE TABLES THAT BYTES SAY
 each_from : {A : Type 0} (P : A → Type 0) (f : ℕ → A) (p n : ℕ) → ((i : ℕ) → i < p + n → P (f i)) → Each P (map f (from p n))
@@ -136,6 +113,12 @@ module _ (s : List ℕ) (b : Bytes s) where
   }
 
 -- THE TEST
+point_by_point : (xs ys : List ℕ) → pointwise nat_eq xs ys ≡ alike xs ys
+point_by_point [] [] = refl
+point_by_point [] (y ∷ ys) = refl
+point_by_point (x ∷ xs) [] = refl
+point_by_point (x ∷ xs) (y ∷ ys) = ap (λ (b : Bool). nat_eq x y && b) (point_by_point xs ys)
+
 module _ (s : List ℕ) where
   by_length : (b : Bool) → eqb (length s) packed_length ≡ b → is_packed s ≡ (b && alike (packed (unpacked s)) s)
   unfolding is_packed
@@ -144,15 +127,11 @@ module _ (s : List ℕ) where
   pub packed-other : length s ≢ packed_length → false ≡ is_packed s
   packed-other n = sym (by_length false (ne_eqb (length s) packed_length n))
 
-  -- what the code has in hand: the tables that the bytes say, packed where as many bytes stood
-  pub packed-is : (t : Tables) (l form : List ℕ) (n : ℕ) → length s ≡ packed_length → length l ≡ packed_length → t ≡ unpacked s
-      → Wrote l 0 (packed t) form n
-      → alike (slice 0 1271 form) s ≡ is_packed s
-  packed-is t l form n long k u w =
-      let whole : form ≡ packed t = filled-whole w (ap (λ (x : Tables). length (packed x)) u ∙ unpacked-length s long ∙ sym k) in
-      let all : length form ≤ 1271 = omega (arith, ap length whole, ap (λ (x : Tables). length (packed x)) u, unpacked-length s long) in
-      ap (λ (x : List ℕ). alike x s) (take_all 1271 form all ∙ whole ∙ ap packed u)
-      ∙ sym (by_length true (eq-eqb (length s) packed_length long))
+  -- what the code has in hand: the tables that the bytes say, packed anew
+  pub packed-is : (form : List ℕ) (r : Bool) → length s ≡ packed_length → form ≡ packed (unpacked s) → r ≡ pointwise nat_eq form s
+      → r ≡ is_packed s
+  packed-is form r long e t =
+      t ∙ point_by_point form s ∙ ap (λ (x : List ℕ). alike x s) e ∙ sym (by_length true (eq-eqb (length s) packed_length long))
 
   pub is-length : is_packed s ≡ true → length s ≡ packed_length
   unfolding is_packed

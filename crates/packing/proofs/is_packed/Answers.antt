@@ -1,16 +1,18 @@
 -- `packing::is_packed` meets its contract: the bytes are held against the packed form of the tables that
 -- they say (`packed-is`). Assumes nothing.
-use Prim.Native.Nat.{ℕ}
-use mathlib.Core.Path.{◌∙◌}
-use lib.ListN.{length-replicate}
+use mathlib.Core.Path.{◌∙◌, ap}
+use lib.ListN.{length}
+use borrow.Author.Tests.{ne_eqb}
+use Rattle.packing.specs.Packed.{packed}
 use Rattle.packing.proofs.OneForm.{packed-other, packed-is}
 use Rattle.packing.proofs.is_packed.Goals as goal
 
-pub returns-then-s-ne-PACKED_LENGTH : goal.returns-then-s-ne-PACKED_LENGTH
-returns-then-s-ne-PACKED_LENGTH c = packed-other c.args.s.now c.if-s-ne-PACKED_LENGTH.true
+pub returns-then-s-eq-PACKED_LENGTH : goal.returns-then-s-eq-PACKED_LENGTH
+returns-then-s-eq-PACKED_LENGTH c =
+    packed-is c.args.s.now _ _ c.if-s-eq-PACKED_LENGTH.true
+    (c.as_slice.ensures.value ∙ c.pack.ensures.items ∙ ap packed c.tables_at.ensures) c.eq.ensures
 
-pub returns : goal.returns
-returns c =
-    c.is_word.ensures
-    ∙ packed-is c.args.s.now c.tables_at-tables.result _ _ _ c.if-s-ne-PACKED_LENGTH.false (length-replicate {A = ℕ} 1271 0)
-    c.tables_at-tables.ensures c.put_tables.ensures
+pub returns-else-s-eq-PACKED_LENGTH : goal.returns-else-s-eq-PACKED_LENGTH
+returns-else-s-eq-PACKED_LENGTH c =
+    let n = c.if-s-eq-PACKED_LENGTH.false in
+    ne_eqb (length c.args.s.now) 1271 n ∙ packed-other c.args.s.now n

@@ -1,12 +1,11 @@
--- `packing::put_resources` meets its contract. The loop's invariant: the first i numbers are written. The measure
--- is the numbers left. Assumes nothing.
-use Prim.Native.Nat.{◌-◌}
+-- `packing::put_resources`: what is put and what is left to be put make up the whole. Assumes nothing.
+use Rattle.std.proofs.Common.{◌≡◌, ◌+◌, ◌*◌, ◌++◌, map, drop, length}
+use Rattle.lists.specs.Lists.{join}
 use Rattle.packing.specs.Packed.{pack_resource}
-use Rattle.packing.proofs.Pieces.{Items}
 use Rattle.packing.proofs.put_resources.Given as goal
 
-abbrev pub invariant-loop-i : goal.invariant-loop-i
-invariant-loop-i l = Items pack_resource 2 l.resources l.initial.buf l.at l.buf l.o l.i
-
-abbrev pub decreases-loop-i : goal.decreases-loop-i
-decreases-loop-i l = 16 - l.i
+abbrev pub invariant-loop-x : goal.invariant-loop-x
+invariant-loop-x g l = record {
+  left : l.out.items ++ join (map pack_resource (drop l.x-index l.resources)) ≡ l.initial.out.items ++ join (map pack_resource l.resources);
+  long : length l.out.items ≡ length l.initial.out.items + 2 * l.x-index;
+}

@@ -11,6 +11,6 @@ returns-then-answer-lt-FIGURES_LENGTH c =
 pub returns : goal.returns
 returns c =
     let a = c.args in
-    find-done a.original.now a.copy.now a.key.now a.occurrence a.answer.now c.locate-found.result c.put_four.new.buf
-    c.put_four.result c.number_of-number.result c.mark_number.result c.if-answer-lt-FIGURES_LENGTH.false c.locate-found.ensures c.number_of-number.ensures
-    c.mark_number.ensures c.put_four.ensures
+    find-done a.original.now a.copy.now a.key.now a.occurrence a.answer.now c.locate-found.result c.put_figures.new.buf
+    c.number_of-number.result c.mark_number.result c.if-answer-lt-FIGURES_LENGTH.false c.locate-found.ensures c.number_of-number.ensures
+    c.mark_number.ensures c.put_figures.ensures

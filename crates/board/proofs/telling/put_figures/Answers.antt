@@ -1,18 +1,9 @@
--- `board::telling::put_figures` meets its contract: the number, and behind it the six parts of a time, or the one value and five
--- 0 (`figures-wrote`). Assumes nothing.
-use Prim.Native.Nat.{ℕ}
-use mathlib.Core.Path.{sym, ap, ◌∙◌}
-use mathlib.Core.List.{[], ◌∷◌}
-use Rattle.board.proofs.Answered.{six, six-one, figures-wrote}
+-- `board::telling::put_figures` meets its contract: seven numbers of eight bytes each. Assumes nothing.
+use Rattle.std.proofs.Common.{◌≡◌, arith, rules, ap, length}
+use lib.Seq.{length-take-le}
 use Rattle.board.proofs.telling.put_figures.Goals as goal
 
-pub returns-in-Told : goal.returns-in-Told
-returns-in-Told c =
-    figures-wrote c.args.answer c.number_of.result _ c.number_of.ensures (sym (ap six c.in-Told.is))
-    c.put_long-at.ensures c.put_six.ensures
-
-pub returns : goal.returns
-returns c =
-    figures-wrote c.args.answer c.number_of.result _ c.number_of.ensures
-    (ap (λ (k : ℕ). k ∷ 0 ∷ 0 ∷ 0 ∷ 0 ∷ 0 ∷ []) c.first_value.ensures ∙ sym (six-one c.args.answer c.in_default.not-Told))
-    c.put_long-at.ensures c.put_six-2.ensures
+pub copy_from_slice-requires : goal.copy_from_slice-requires
+copy_from_slice-requires c =
+    let six : length c.args.values ≡ 6 = search rules in
+    omega (arith, six, c.requires, length-take-le 56 c.args.buf.now c.requires, ap length c.as_slice.ensures.value, c.loop-v.invariant.long, c.loop-v-test.false, c.loop-v.auto.v-index-end)

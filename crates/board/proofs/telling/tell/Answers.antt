@@ -1,16 +1,18 @@
--- `board::telling::tell` meets its contract: nothing is put where there is no room, else the answer's
--- figures, at the front. Assumes nothing.
-use mathlib.Core.Path.{sym}
+-- `board::telling::tell` meets its contract: with room, the answer's figures stand at the front (`answering-put`), and without room
+-- nothing is put (`answering-not`). Assumes nothing.
+use mathlib.Core.Path.{◌∙◌, ap}
+use mathlib.Core.List.{◌∷◌, map}
+use Prim.Native.Nat.{ℕ}
+use Rattle.lists.specs.Lists.{join}
 use Rattle.rules.specs.Answers.{number, values}
-use Rattle.board.proofs.Answered.{answering-not, answering-put}
+use Rattle.rules.specs.Engine.{front}
+use Rattle.packing.specs.Packed.{in_bytes}
+use Rattle.board.proofs.Answered.{answering-put}
 use Rattle.board.proofs.telling.tell.Goals as goal
 
-pub returns-then-buf-lt-FIGURES_LENGTH : goal.returns-then-buf-lt-FIGURES_LENGTH
-returns-then-buf-lt-FIGURES_LENGTH c =
-    let n = c.number_of-number in
+pub returns-then-buf-ge-FIGURES_LENGTH-clause-buf_after : goal.returns-then-buf-ge-FIGURES_LENGTH-clause-buf_after
+returns-then-buf-ge-FIGURES_LENGTH-clause-buf_after c =
     let a = c.args in
-    record { value = n.ensures; buf_after = sym (answering-not (number a.answer) (values a.answer) a.buf.now c.if-buf-lt-FIGURES_LENGTH.true) }
-
-pub returns : goal.returns
-returns c =
-    let a = c.args in record { value = c.number_of-number.ensures; buf_after = answering-put (number a.answer) (values a.answer) a.buf.now c.if-buf-lt-FIGURES_LENGTH.false c.put_figures.ensures }
+    answering-put (number a.answer) (values a.answer) a.buf.now c.values_of.result c.values_of.ensures c.if-buf-ge-FIGURES_LENGTH.true
+    (c.put_figures.ensures
+    ∙ ap (λ (n : ℕ). front (join (map (in_bytes 8) (n ∷ c.values_of.result))) a.buf.now) c.number_of-number.ensures)

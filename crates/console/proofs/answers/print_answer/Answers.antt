@@ -1,14 +1,12 @@
 -- `console::answers::print_answer` meets its contract: no answer's line is longer than the room asked for. Assumes nothing.
 use Prim.Native.Nat.{ℕ}
-use native.Mathlib.Nat.{zero-add}
 use native.Mathlib.Omega.{arith}
-use mathlib.Core.Path.{◌≡◌, sym, ap, ap₂, ◌∙◌}
+use mathlib.Core.Path.{◌≡◌, sym, ap, ◌∙◌}
 use mathlib.Core.Bool.{Bool, true, false, cond}
 use mathlib.Core.List.{List}
 use lib.ListN.{length}
 use lib.Dec.{leb}
 use borrow.Author.Tests.{le-leb, lt-leb}
-use Rattle.text.proofs.Laws.{wrote-front}
 use Rattle.rules.specs.Answers.{number, values}
 use Rattle.rules.specs.declared.Answer.{Answer}
 use Rattle.rules.specs.Engine.{front}
@@ -38,7 +36,5 @@ put_answer-requires c =
 pub returns : goal.returns
 returns c =
     let a = c.args in
-    let p = c.put_answer.ensures in
-    ap₂ (λ (n : ℕ) (l : List ℕ). record { many = n; buffer = l }) (p.place ∙ zero-add (length (answer_bytes a.answer)))
-    (wrote-front p (omega (arith, answer-room a.answer, c.if-out-lt-LONGEST_ANSWER.false)))
+    (λ i. record { many = c.put_answer.ensures.many i; buffer = c.put_answer.ensures.buffer i })
     ∙ sym (by-room a.answer a.out.now true (le-leb longest_answer (length a.out.now) c.if-out-lt-LONGEST_ANSWER.false))

@@ -1,12 +1,8 @@
--- `console::answers::put_dotted` meets its contract, by its two writes. Assumes nothing.
-use mathlib.Core.List.{[], ◌∷◌}
-use Rattle.text.specs.Text.{decimal}
-use Rattle.text.proofs.Laws.{wrote_then, wrote-length}
+-- `console::answers::put_dotted` meets its contract: there is room for what is left (`dotted-room`). Assumes nothing.
+use native.Mathlib.Omega.{arith}
+use borrow.Author.Rules.{rules}
+use Rattle.console.proofs.AnswerLaws.{dotted-room}
 use Rattle.console.proofs.answers.put_dotted.Goals as goal
 
-pub returns : goal.returns
-returns c =
-    wrote_then (46 ∷ []) (decimal c.args.n) c.put_byte-next.ensures c.put_number.ensures
-
-pub shape_of-buf : goal.shape_of-buf
-shape_of-buf c = wrote-length (returns c)
+pub push-requires : goal.push-requires
+push-requires g c = (search rules, omega (arith, dotted-room _ _ c.args.numbers.now c.loop-n.n-index c.loop-n-test.true c.loop-n.invariant))

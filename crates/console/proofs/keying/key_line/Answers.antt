@@ -8,5 +8,5 @@ pub returns : goal.returns
 returns c =
     let a = c.args in
     c.obey.ensures
-    ∙ ap (obeys a.tables a.buf.now) c.command_of-command.ensures
+    ∙ ap (obeys a.tables a.buf.now) c.command_of.ensures
     ∙ sym (keyed-obeys a.tables a.line.now a.buf.now)
