@@ -29,6 +29,18 @@ impl Argument {
         Some(Argument { bytes, count })
     }
 
+    /// These bytes in place of an argument.
+    pub fn from_slice(s: &[u8]) -> Argument
+        requires { length s.now ≤ 4095 }
+    {
+        let mut bytes = [0; LONGEST_ARGUMENT];
+        bytes[..s.len()].copy_from_slice(s);
+        Argument {
+            bytes,
+            count: s.len(),
+        }
+    }
+
     pub fn as_slice(&self) -> &[u8]
         ensures { length result.now ≤ 4095 }
     {
