@@ -1,110 +1,69 @@
 // The two files, read whole.
-ghost use Rattle.std.specs.Prelude.{◌≤◌, length};
-ghost use Rattle.desk.specs.Inner.{longest_argument, BothFit};
+ghost use Rattle.std.specs.Prelude.{◌<◌, length, IfOk};
+ghost use Rattle.desk.specs.Inner.{BothFit};
 
-use super::moving::Got;
-use super::{arguments, moving, saying};
+use super::refusing::{Reason, refuse};
 use std::fs::File;
+use streams::{Argument, Stopped};
 
-// A file has at most 1,048,576 bytes. The room for one has a byte more: a file that fills it is longer.
+/// A file has at most 1,048,576 bytes. The room for one has a byte more: a file that fills it is longer.
 pub const ROOM: usize = 1048577;
 
-// How many bytes each file has; or that one of them was not read, and why was said.
+/// The files' bytes.
 #[derive(Drop)]
-pub struct Both {
-    pub original: usize,
-    pub copy: usize,
-    pub is_failed: bool,
+pub struct Both<'a> {
+    pub original: &'a [u8],
+    pub copy: &'a [u8],
 }
 
-fn failed() -> Got
-    ensures { result.count ≤ 0 }
+// Reads the file of this name to the front of the room.
+fn read_file(rt: &HostRuntime, name: &Argument, room: &mut [u8]) -> Result<usize, Reason>
+    ensures { IfOk result (λ n. n < length room.new) }
 {
-    Got {
-        count: 0,
-        is_failed: true,
-    }
-}
-
-fn refuse_long(rt: &HostRuntime, name: &[u8]) -> Got
-    requires { length name.now ≤ longest_argument }
-    ensures { result.count ≤ 0 }
-{
-    saying::say_of(rt, name, b": longer than 1048576 bytes\n");
-    failed()
-}
-
-// Reads an open file to its end.
-fn read_all(rt: &HostRuntime, file: &mut File, name: &[u8], block: &mut [u8]) -> Got
-    requires { length name.now ≤ longest_argument }
-    ensures { result.count ≤ length block.old }
-{
-    let mut have: usize = 0;
-    while have < block.len() {
-        let got = moving::read_behind(rt, file, name, block, have);
-        if got.is_failed {
-            return failed();
-        }
-        let n = got.count;
-        if n == 0 {
-            return Got {
-                count: have,
-                is_failed: false,
-            };
-        }
-        have += n;
-    }
-    refuse_long(rt, name)
-}
-
-// Reads the file of this name to the front of the block. The library opens names in UTF-8 alone.
-fn read_file(rt: &HostRuntime, name: &[u8], block: &mut [u8]) -> Got
-    requires { length name.now ≤ longest_argument }
-    ensures { result.count ≤ length block.old }
-{
-    let Ok(path) = str::from_utf8(name) else {
-        saying::say_of(rt, name, b": cannot be opened: the name is not in UTF-8\n");
-        return failed();
+    let Ok(path) = str::from_utf8(name.as_slice()) else {
+        return Err(Reason::NotUtf8);
     };
-    match File::open(rt, path) {
-        Ok(mut file) => read_all(rt, &mut file, name, block),
-        Err(error) => {
-            saying::say_failed(rt, name, &error);
-            failed()
-        }
+    let mut file = File::open(rt, path)?;
+    Ok(streams::read_whole(rt, &mut file, room)?)
+}
+
+// Reads the file that argument i names to the front of the room.
+fn read_argument(
+    rt: &HostRuntime,
+    i: usize,
+    called: &str,
+    room: &mut [u8],
+) -> Result<usize, Stopped>
+    ensures { IfOk result (λ n. n < length room.new) }
+{
+    let name = take_argument(rt, i, called)?;
+    match read_file(rt, &name, room) {
+        Ok(n) => Ok(n),
+        Err(reason) => Err(refuse(rt, name.into_shown().as_slice(), &reason)),
     }
 }
 
-// Reads the file that argument i names.
-fn read_named(rt: &HostRuntime, i: usize, called: &[u8], block: &mut [u8]) -> Got
-    requires { length called.now ≤ longest_argument }
-    ensures { result.count ≤ length block.old }
-{
-    let mut name = [0u8; arguments::LONGEST];
-    let taken = arguments::take(rt, i, called, &mut name);
-    if taken.is_failed {
-        return failed();
+/// Takes argument i. Callers know that it is there, so it can only be too long. Then it is not shown, but what it is called in the usage
+/// line.
+pub fn take_argument(rt: &HostRuntime, i: usize, called: &str) -> Result<Argument, Stopped> {
+    match Argument::take(rt, i) {
+        Some(argument) => Ok(argument),
+        None => Err(refuse(rt, called.as_bytes(), &Reason::ArgumentTooLong)),
     }
-    let n = taken.count;
-    read_file(rt, &name[0..n], block)
 }
 
-// Reads the files that the first two arguments name.
-pub fn read_both(rt: &HostRuntime, original: &mut [u8], copy: &mut [u8]) -> Both
-    ensures { BothFit original.old copy.old result }
+/// Reads the files that the first two arguments name.
+pub fn read_both<'a>(
+    rt: &HostRuntime,
+    original: &'a mut [u8],
+    copy: &'a mut [u8],
+) -> Result<Both<'a>, Stopped>
+    ensures { IfOk result (BothFit original.old copy.old) }
 {
-    let first = read_named(rt, 1, b"ORIGINAL", original);
-    if first.is_failed {
-        return Both {
-            original: 0,
-            copy: 0,
-            is_failed: true,
-        };
-    }
-    let second = read_named(rt, 2, b"COPY", copy);
-    Both {
-        original: first.count,
-        copy: second.count,
-        is_failed: second.is_failed,
-    }
+    let n = read_argument(rt, 1, "ORIGINAL", original)?;
+    let m = read_argument(rt, 2, "COPY", copy)?;
+    Ok(Both {
+        original: &original[..n],
+        copy: &copy[..m],
+    })
 }

@@ -2,72 +2,61 @@
 // occurrence behind them, that line. The work on texts is done by `transcripts`; here are only the arguments, the files and the output.
 #![tactic(auto)]
 
-mod arguments;
 mod files;
-mod moving;
-mod output;
-mod saying;
+mod refusing;
 mod showing;
 
-use text::Number;
+use refusing::{Reason, refuse, stop};
+use streams::{Outlet, Output, Stopped};
 
-fn list_lines(rt: &HostRuntime, original: &mut [u8], copy: &mut [u8]) {
-    let both = files::read_both(rt, original, copy);
-    if both.is_failed {
-        return;
+fn list_lines(rt: &HostRuntime, original: &mut [u8], copy: &mut [u8]) -> Result<(), Stopped> {
+    let both = files::read_both(rt, original, copy)?;
+    let mut list = [0; showing::LISTED];
+    let mut output = Output::new(Outlet::new(rt, "desk", rt.stdout()));
+    showing::show_list(&mut output, both.original, both.copy, &mut list)
+}
+
+// The occurrence that is asked for, from argument 4. More than 19 digits may not fit a u64.
+fn take_occurrence(rt: &HostRuntime) -> Result<u64, Stopped> {
+    let argument = files::take_argument(rt, 4, "OCCURRENCE")?;
+    match text::read_number(argument.as_slice(), 19) {
+        Some(occurrence) => Ok(occurrence),
+        None => Err(refuse(rt, b"OCCURRENCE", &Reason::NotANumber)),
     }
-    let n = both.original;
-    let m = both.copy;
-    let mut list = [0u64; showing::LISTED];
-    let mut out = [0u8; output::SPACE];
-    showing::show_list(rt, &mut out, &original[0..n], &copy[0..m], &mut list);
 }
 
 // What is wrong with the arguments themselves is said before a file is opened.
-fn find_line(rt: &HostRuntime, original: &mut [u8], copy: &mut [u8]) {
-    let mut key = [0u8; arguments::LONGEST];
-    let taken = arguments::take(rt, 3, b"KEY", &mut key);
-    if taken.is_failed {
-        return;
-    }
-    let Number::Is(occurrence) = arguments::take_occurrence(rt) else {
-        return;
-    };
-    let both = files::read_both(rt, original, copy);
-    if both.is_failed {
-        return;
-    }
-    let n = both.original;
-    let m = both.copy;
-    let k = taken.count;
-    let mut out = [0u8; output::SPACE];
+fn find_line(rt: &HostRuntime, original: &mut [u8], copy: &mut [u8]) -> Result<(), Stopped> {
+    let key = files::take_argument(rt, 3, "KEY")?;
+    let occurrence = take_occurrence(rt)?;
+    let both = files::read_both(rt, original, copy)?;
+    let mut output = Output::new(Outlet::new(rt, "desk", rt.stdout()));
     showing::show_found(
-        rt,
-        &mut out,
-        &original[0..n],
-        &copy[0..m],
-        &key[0..k],
+        &mut output,
+        both.original,
+        both.copy,
+        key.as_slice(),
         occurrence,
-    );
+    )
 }
 
 // The rooms come as arrays, whose lengths their type tells: as slices they would be counted in the proof, place by place. The system counts
 // the program's own name among the arguments.
-fn run(rt: &HostRuntime, original: &mut [u8; files::ROOM], copy: &mut [u8; files::ROOM]) {
-    let count = arguments::count(rt);
-    if count == 3 {
-        list_lines(rt, original, copy);
-        return;
+fn run(
+    rt: &HostRuntime,
+    original: &mut [u8; files::ROOM],
+    copy: &mut [u8; files::ROOM],
+) -> Result<(), Stopped> {
+    match streams::count_arguments(rt) {
+        3 => list_lines(rt, original, copy),
+        5 => find_line(rt, original, copy),
+        _ => Err(stop(rt, "usage: desk ORIGINAL COPY [KEY OCCURRENCE]")),
     }
-    if count == 5 {
-        find_line(rt, original, copy);
-        return;
-    }
-    saying::say(rt, b"desk: usage: desk ORIGINAL COPY [KEY OCCURRENCE]\n");
 }
 
 fn main(rt: HostRuntime) {
-    let mut original = [0u8; files::ROOM];
-    let mut copy = [0u8; files::ROOM];
-    run(&rt, &mut original, &mut copy);
+    let mut original = [0; files::ROOM];
+    let mut copy = [0; files::ROOM];
+    // What stopped it was said.
+    let _ = run(&rt, &mut original, &mut copy);
 }

@@ -1,92 +1,79 @@
 // The files that arguments name. The system gets a name as it was given; it is shown with no byte that would end the line, or move about
 // on the terminal.
 ghost use Rattle.std.specs.Prelude.{◌≤◌, length};
-ghost use Rattle.showing.specs.Showing.{longest_name};
 
-use super::moving;
-use showing::LONGEST_NAME;
-use std::env::{Env, FillError};
+use arrayvec::ArrayVec;
 use std::fs::File;
+use std::io;
+use streams::{Argument, ReadError};
+use text::writing::{put_bytes, put_number};
 
-// In place of the system's number of an error, where a name is longer than those that are taken: a path that is longer names no file.
-pub const TOO_LONG: i32 = -1;
-
-// The same where a name is not in UTF-8: the library opens no file of such a name.
-pub const NOT_UTF8: i32 = -2;
-
-// An open file; or none, and why.
+/// Why a file is not read.
 #[derive(Drop)]
-pub struct Opened {
-    pub file: Option<File>,
-    pub error: i32,
+pub enum Unread {
+    /// The name is longer than those that are taken: a path that is longer names no file.
+    LongName,
+    /// The name is not in UTF-8: the library opens no file of such a name.
+    NotUtf8,
+    Failed(io::Error),
+    LongPage,
 }
 
-// No file.
-fn none(error: i32) -> Opened {
-    Opened {
-        file: None,
-        error: error,
+impl From<io::Error> for Unread {
+    fn from(error: io::Error) -> Unread {
+        Unread::Failed(error)
     }
 }
 
-// How many arguments there are, the program's own name among them.
-pub fn count(rt: &HostRuntime) -> usize {
-    for i in 0..usize::MAX {
-        if let Err(FillError::NotPresent) = rt.arg(i, &mut []) {
-            return i;
+impl From<ReadError> for Unread {
+    fn from(error: ReadError) -> Unread {
+        match error {
+            ReadError::Failed(error) => Unread::Failed(error),
+            ReadError::TooLong => Unread::LongPage,
         }
     }
-    usize::MAX
 }
 
-// Opens the file that argument i names. Callers know that the argument is there, so it can only be too long.
-pub fn open(rt: &HostRuntime, i: usize) -> Opened {
-    let mut name = [0u8; LONGEST_NAME];
-    let Ok(n) = rt.arg(i, &mut name) else {
-        return none(TOO_LONG);
-    };
-    let Ok(path) = str::from_utf8(&name[..n]) else {
-        return none(NOT_UTF8);
-    };
-    match File::open(rt, path) {
-        Ok(file) => Opened {
-            file: Some(file),
-            error: 0,
-        },
-        Err(error) => none(moving::number_of(&error)),
+/// A file that an argument names, and the name as it is shown.
+#[derive(Drop)]
+pub struct Source {
+    index: usize,
+    shown: Argument,
+}
+
+impl Source {
+    /// The file that argument i names. Callers know that the argument is there, so it can only be too long.
+    pub fn new(rt: &HostRuntime, i: usize) -> Source {
+        let shown = match Argument::take(rt, i) {
+            Some(name) => name.into_shown(),
+            None => place_of(i),
+        };
+        Source { index: i, shown }
+    }
+
+    /// The name as it is shown; of one that is too long, which argument it is.
+    pub fn name(&self) -> &[u8]
+        ensures { length result.now ≤ 4095 }
+    {
+        self.shown.as_slice()
+    }
+
+    pub fn open(&self, rt: &HostRuntime) -> Result<File, Unread> {
+        let Some(name) = Argument::take(rt, self.index) else {
+            return Err(Unread::LongName);
+        };
+        let Ok(path) = str::from_utf8(name.as_slice()) else {
+            return Err(Unread::NotUtf8);
+        };
+        Ok(File::open(rt, path)?)
     }
 }
 
-// A byte of a name as it is shown.
-fn shown(b: u8) -> u8 {
-    if b < 32 {
-        return b'?';
-    }
-    if b == 127 {
-        return b'?';
-    }
-    b
-}
-
-// Puts at the front of `name` which argument it is.
-fn call(i: usize, name: &mut [u8]) -> usize
-    requires { longest_name ≤ length name.old }
-    ensures { result ≤ length name.old }
-{
-    let at = text::put_bytes(name, 0, b"argument ");
-    text::put_number(name, at, i as u64)
-}
-
-// Puts the name that argument i gives at the front of `name` as it is shown; of one that is too long, which argument it is.
-pub fn name_of(rt: &HostRuntime, i: usize, name: &mut [u8]) -> usize
-    requires { longest_name ≤ length name.old }
-    ensures { result ≤ length name.old }
-{
-    let Ok(n) = rt.arg(i, name) else {
-        return call(i, name);
-    };
-    for k in 0..n {
-        name[k] = shown(name[k]);
-    }
-    n
+// Which argument it is.
+#[tactic(auto, using(text::proofs::Laws::all_digits))]
+fn place_of(i: usize) -> Argument {
+    let mut place = ArrayVec::<u8, 29>::new();
+    put_bytes(&mut place, b"argument ");
+    put_number(&mut place, i as u64);
+    Argument::from_slice(place.as_slice())
 }

@@ -1,230 +1,159 @@
 // A file of requests, keyed in line by line. It may be of any length: it comes in blocks.
-ghost use Rattle.std.specs.Prelude.{◌<◌, ◌≤◌, length};
+ghost use Rattle.std.specs.Prelude.{◌<◌, ◌≤◌, length, IfOk};
 ghost use Rattle.blocks.specs.Blocks.{most};
-ghost use Rattle.follow.specs.Inner.{output_space, KeysIn, Through, Holds};
+ghost use Rattle.follow.specs.Inner.{KeysIn, Through, Holds};
 
-use super::moving::Got;
-use super::output::{SHOWN, SPACE, Waiting};
-use super::pages::{ROOM, Standing};
-use super::{arguments, moving, output, saying};
-use showing::LONGEST_NAME;
+use super::arguments::Source;
+use super::pages::ROOM;
+use super::screen::Screen;
 use std::fs::File;
-use std::io::IsTerminal;
+use std::io::{IsTerminal, Write};
+use streams::Stopped;
 use tables::Tables;
 
 // After so many lines it is said how far a file is keyed in.
 const MANY: u64 = 1000000;
 
-// How far a file is keyed in: the tables, the number of the next line, how many bytes of it are held at the block's front, and what waits
-// to go out; and whether the file was read to its end.
+/// How far a file is keyed in: the tables, the number of the next line, and how many bytes of it are held at the block's front.
 #[derive(Clone, Copy)]
 pub struct Keying {
     pub tables: Tables,
     pub count: u64,
     pub held: usize,
-    pub waiting: Waiting,
-    pub whole: bool,
 }
 
-// The same behind the lines that end in a block, and where the line begins that does not.
+/// The same behind the lines that end in a block, and where the line begins that does not.
 #[derive(Drop)]
 pub struct Passed {
     pub keying: Keying,
     pub place: usize,
 }
 
-// Says at a terminal how far the file that argument i names is keyed in.
-fn tell_progress(rt: &HostRuntime, i: usize, count: u64) {
-    if count % MANY != 0 {
+// Says at a terminal how far a file is keyed in.
+fn tell_progress(rt: &HostRuntime, source: &Source, count: u64) {
+    let mut terminal = rt.stderr();
+    if count % MANY != 0 || !terminal.is_terminal() {
         return;
     }
-    let terminal = rt.stderr();
-    if !terminal.is_terminal() {
-        return;
-    }
-    let mut name = [0u8; LONGEST_NAME];
-    let n = arguments::name_of(rt, i, &mut name);
     let _ = eprint!(rt; "follow: ");
-    let _ = terminal.write_all(&name[0..n]);
+    let _ = terminal.write_all(source.name());
     let _ = eprintln!(rt; ": {count} lines");
 }
 
-// Keys in a line and takes what is shown for it. No file has so many lines that their number would begin anew.
+// Keys in a line and takes what is shown for it. No file has so many lines that their number would begin anew. The progress is told where
+// the output stops, too.
 fn key_line(
-    rt: &HostRuntime,
-    i: usize,
+    screen: &mut Screen,
+    source: &Source,
     keying: Keying,
     line: &[u8],
-    out: &mut [u8; SPACE],
-    shown: &mut [u8; SHOWN],
-) -> Keying
-    requires { keying.waiting.count ≤ output_space }
-    ensures { KeysIn keying.tables line.now result }
+) -> Result<Keying, Stopped>
+    ensures { IfOk result (KeysIn keying.tables line.now) }
 {
-    let count = keying.count;
-    let outcome = showing::show_request(keying.tables, count, line, shown);
-    let answer = outcome.answer;
-    let waiting = output::put_shown(rt, out, keying.waiting, shown, answer);
-    tell_progress(rt, i, count);
-    let t = outcome.tables;
-    Keying {
-        tables: t,
-        count: count.wrapping_add(1),
+    let outcome = showing::show_request(keying.tables, keying.count, line, &mut screen.shown);
+    let put = screen.put_shown(outcome.answer);
+    tell_progress(&screen.rt(), source, keying.count);
+    put?;
+    Ok(Keying {
+        tables: outcome.tables,
+        count: keying.count.wrapping_add(1),
         held: 0,
-        waiting: waiting,
-        whole: false,
-    }
+    })
 }
 
-// Keys in the lines that end in the block, while all goes out.
+// Keys in the lines that end in the block.
 fn key_block(
-    rt: &HostRuntime,
-    i: usize,
+    screen: &mut Screen,
+    source: &Source,
     begun: Keying,
     block: &[u8],
-    out: &mut [u8; SPACE],
-    shown: &mut [u8; SHOWN],
-) -> Passed
-    requires { begun.waiting.count ≤ output_space }
-    ensures { Through begun.tables block.now result }
+) -> Result<Passed, Stopped>
+    ensures { IfOk result (Through begun.tables block.now) }
 {
     let mut keying = begun;
-    let mut from: usize = 0;
+    let mut from = 0;
     let mut end = console::line_end(block, from);
     while end < block.len() {
-        keying = key_line(rt, i, keying, &block[from..end], out, shown);
-        let waiting = keying.waiting;
-        if !waiting.written {
-            break;
-        }
+        keying = key_line(screen, source, keying, &block[from..end])?;
         from = end + 1;
         end = console::line_end(block, from);
     }
-    Passed {
-        keying: keying,
+    Ok(Passed {
+        keying,
         place: from,
-    }
+    })
 }
 
 // Keys in the lines that end in the first `end` bytes of the block. What is left of these goes to the front.
 fn pass_block(
-    rt: &HostRuntime,
-    i: usize,
+    screen: &mut Screen,
+    source: &Source,
     begun: Keying,
     end: usize,
-    out: &mut [u8; SPACE],
-    shown: &mut [u8; SHOWN],
     block: &mut [u8],
-) -> Keying
-    requires count_le_output_space { begun.waiting.count ≤ output_space }
-    requires end_in_bounds { end ≤ length block.old }
-    ensures { Holds result }
+) -> Result<Keying, Stopped>
+    requires { end ≤ length block.old }
+    ensures { IfOk result Holds }
 {
-    let passed = key_block(rt, i, begun, &block[0..end], out, shown);
-    let from = passed.place;
+    let passed = key_block(screen, source, begun, &block[..end])?;
     let mut keying = passed.keying;
-    keying.held = blocks::carry(block, from, end);
-    keying
+    keying.held = blocks::carry(block, passed.place, end);
+    Ok(keying)
 }
 
-// The file could not be read to its end.
-fn leave_off(rt: &HostRuntime, i: usize, begun: Keying, error: i32, out: &mut [u8; SPACE]) -> Keying
-    requires { begun.waiting.count ≤ output_space }
-    ensures { result.waiting.count ≤ output_space }
-{
-    let waiting = saying::put_failed(rt, out, begun.waiting, i, error);
-    let mut keying = begun;
-    keying.waiting = waiting;
-    keying
-}
-
-// A read got no byte. Unless it failed, the file ends here, and a last line without byte 10 is keyed in, where there is one.
-fn key_last(
-    rt: &HostRuntime,
-    i: usize,
-    begun: Keying,
-    got: Got,
-    line: &[u8],
-    out: &mut [u8; SPACE],
-    shown: &mut [u8; SHOWN],
-) -> Keying
-    requires { begun.waiting.count ≤ output_space }
-    ensures { result.waiting.count ≤ output_space }
-{
-    if got.is_failed {
-        return leave_off(rt, i, begun, got.error, out);
-    }
-    let mut keying = begun;
-    if 0 < line.len() {
-        keying = key_line(rt, i, keying, line, out, shown);
-    }
-    keying.whole = true;
-    keying
-}
-
-// Keys in the lines of an open file, which is read into the block, while all goes out. A proved loop has to end, and nothing says that the
-// file does: it counts down from a number that no run uses up.
+// Keys in the lines of an open file, which is read into the block; a last line without byte 10 too, where there is one. Answers the tables
+// behind them, if the file could be read to its end. A proved loop has to end, and nothing says that the file does: it reads as often as no
+// run does.
 fn key_file(
-    rt: &HostRuntime,
-    i: usize,
+    screen: &mut Screen,
+    source: &Source,
     file: &mut File,
-    begun: Keying,
-    out: &mut [u8; SPACE],
-    shown: &mut [u8; SHOWN],
+    tables: Tables,
     block: &mut [u8],
-) -> Keying
-    requires holds { Holds begun }
-    requires most_in_bounds { most < length block.old }
-    ensures { result.waiting.count ≤ output_space }
+) -> Result<Option<Tables>, Stopped>
+    requires { most < length block.old }
 {
-    let mut keying = begun;
-    let mut left = u64::MAX;
-    while left > 0 {
-        let waiting = keying.waiting;
-        if !waiting.written {
-            break;
-        }
-        let have = keying.held;
-        let got = moving::read_behind(rt, file, block, have);
-        let n = got.count;
-        if n == 0 {
-            return key_last(rt, i, keying, got, &block[0..have], out, shown);
-        }
-        keying = pass_block(rt, i, keying, have + n, out, shown, block);
-        left -= 1;
-    }
-    keying
-}
-
-// Keys in the file that argument i names, from the tables of the page before it; or says why not.
-pub fn key_in(
-    rt: &HostRuntime,
-    i: usize,
-    first: Standing,
-    out: &mut [u8; SPACE],
-    shown: &mut [u8; SHOWN],
-    room: &mut [u8; ROOM],
-) -> Keying
-    requires { first.waiting.count ≤ output_space }
-    ensures { result.waiting.count ≤ output_space }
-{
-    let t = first.tables;
-    let w = first.waiting;
     let mut keying = Keying {
-        tables: t,
+        tables,
         count: 1,
         held: 0,
-        waiting: w,
-        whole: false,
     };
-    if !first.taken {
-        let waiting = saying::put_of(rt, out, w, i, b": not keyed in, without a first page\n");
-        keying.waiting = waiting;
-        return keying;
+    for _ in 0..u64::MAX {
+        let have = keying.held;
+        match streams::read_some(&screen.rt(), file, &mut block[have..]) {
+            Ok(0) => {
+                if have > 0 {
+                    keying = key_line(screen, source, keying, &block[..have])?;
+                }
+                return Ok(Some(keying.tables));
+            }
+            Ok(n) => keying = pass_block(screen, source, keying, have + n, block)?,
+            Err(error) => {
+                screen.put_unread(source, &error.into())?;
+                return Ok(None);
+            }
+        }
     }
-    let opened = arguments::open(rt, i);
-    match opened.file {
-        Some(mut file) => key_file(rt, i, &mut file, keying, out, shown, room),
-        None => leave_off(rt, i, keying, opened.error, out),
+    Ok(None)
+}
+
+/// Keys in a file, from the tables of the page before it, and answers the tables behind its last line; or says why it could not be keyed in
+/// whole.
+pub fn key_in(
+    screen: &mut Screen,
+    source: &Source,
+    first: Option<Tables>,
+    room: &mut [u8; ROOM],
+) -> Result<Option<Tables>, Stopped> {
+    let Some(tables) = first else {
+        screen.put_of(source, b": not keyed in, without a first page\n")?;
+        return Ok(None);
+    };
+    match source.open(&screen.rt()) {
+        Ok(mut file) => key_file(screen, source, &mut file, tables, room),
+        Err(why) => {
+            screen.put_unread(source, &why)?;
+            Ok(None)
+        }
     }
 }

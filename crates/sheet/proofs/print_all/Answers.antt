@@ -2,5 +2,5 @@
 use Rattle.blocks.proofs.Copying.{held-few}
 use Rattle.sheet.proofs.print_all.Goals as goal
 
-pub loop-left-preserved : goal.loop-left-preserved
-loop-left-preserved c = held-few _ _ _ _ c.carry-have.ensures
+pub loop-preserved : goal.loop-preserved
+loop-preserved c = held-few _ _ _ _ c.carry-have.ensures

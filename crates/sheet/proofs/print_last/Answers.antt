@@ -1,9 +1,14 @@
 -- What a line printed fits the buffer that was lent for it.
-use Rattle.std.proofs.Common.{arith, rules}
+use Rattle.std.proofs.Common.{arith, rules, sym, length-take-le}
 use Rattle.console.proofs.OneLine.{printed-fits}
 use Rattle.sheet.proofs.print_last.Goals as goal
 
-pub write_front-requires : goal.write_front-requires
-write_front-requires c =
+pub slice_bounds-write-end : goal.slice_bounds-write-end
+slice_bounds-write-end c =
     let p = c.print_line-printed in
     omega (arith, printed-fits _ _ _ p.new.out p.result p.ensures (search rules))
+
+pub slice_bounds-write-end-2 : goal.slice_bounds-write-end-2
+slice_bounds-write-end-2 c =
+    let p = c.print_line-printed in
+    sym (length-take-le _ _ (omega (arith, printed-fits _ _ _ p.new.out p.result p.ensures (search rules))))

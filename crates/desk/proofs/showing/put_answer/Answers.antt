@@ -1,5 +1,5 @@
 -- No answer's line is longer than the room that is lent for it.
-use Rattle.std.proofs.Common.{◌≡◌, ◌≤◌, ℕ, List, length, arith, ap}
+use Rattle.std.proofs.Common.{◌≡◌, ◌≤◌, ℕ, List, length, arith, ap, sym, length-take-le}
 use native.Mathlib.Decide.{dec_le}
 use borrow.Author.Tests.{le-leb, lt-leb}
 use Rattle.rules.specs.Answers.{number, values}
@@ -17,5 +17,8 @@ fits a out r e = go (dec_le longest_answer (length out))
     go (yes h) = omega (arith, answer-room a, rw (le-leb longest_answer (length out) h) at (ap (λ (p : Put). p.many) e))
     go (no h) = omega (arith, rw (lt-leb longest_answer (length out) (omega arith)) at (ap (λ (p : Put). p.many) e))
 
+pub slice_bounds-line-end : goal.slice_bounds-line-end
+slice_bounds-line-end c = omega (arith, fits c.args.answer _ _ c.print_answer-n.ensures)
+
 pub slice_bounds-put-end : goal.slice_bounds-put-end
-slice_bounds-put-end c = omega (arith, fits c.args.answer _ _ c.print_answer-n.ensures)
+slice_bounds-put-end c = sym (length-take-le _ _ (omega (arith, fits c.args.answer _ _ c.print_answer-n.ensures)))

@@ -5,7 +5,6 @@ use Rattle.console.specs.Sheet.{lent, line_end}
 use Rattle.console.proofs.LineEnds.{LineEnd, line-end, line-within, line_taken}
 use Rattle.blocks.proofs.Going.{no_lines}
 use Rattle.blocks.proofs.AllTurns.{onward-start, onward-none}
-use borrow.Author.Tests.{not-false}
 use Rattle.follow.proofs.Shown.{onward-line}
 use Rattle.follow.proofs.requests.key_block.Goals as goal
 
@@ -16,7 +15,7 @@ low : (s : List ℕ) (from e : ℕ) → e ≡ line_end s from → e < length s �
 low s from e is within = let l = ends s from e is in (l.line (line-within l within)).low
 
 pub loop-end-init : goal.loop-end-init
-loop-end-init c = (c.line_end-end.ensures, c.requires, onward-start _ _)
+loop-end-init c = (c.line_end-end.ensures, onward-start _ _)
 
 pub slice_bounds-key_line-count : goal.slice_bounds-key_line-count
 slice_bounds-key_line-count c = let l = c.loop-end in low c.args.block.now l.from l.end l.invariant.0 c.loop-end-test.true
@@ -30,20 +29,18 @@ loop-end-smaller c = let l = c.loop-end in omega (arith, low c.args.block.now l.
 pub loop-end-preserved : goal.loop-end-preserved
 loop-end-preserved c =
     let l = c.loop-end in
-    let s : List ℕ = c.args.block.now in
-    let k = c.key_line-keying in (
+    let s : List ℕ = c.args.block.now in (
       c.line_end-end-in-loop-end.ensures,
-      k.ensures.fits,
-      onward-line l.end l.invariant.2 (ends s l.from l.end l.invariant.0) c.loop-end-test.true
-          (k.ensures.tables (not-false k.result.waiting.written c.if-not-waiting.false)
+      onward-line l.end l.invariant.1 (ends s l.from l.end l.invariant.0) c.loop-end-test.true
+          (c.in_ok-keying.ensures
           ∙ ap (λ (x : List ℕ). (keyed l.keying.tables x lent).tables)
           (line_taken s l.from l.end (low s l.from l.end l.invariant.0 c.loop-end-test.true))),
     )
 
-pub returns-after-loop-end : goal.returns-after-loop-end
-returns-after-loop-end c =
+pub returns : goal.returns
+returns c =
     let l = c.loop-end in
     let s : List ℕ = c.args.block.now in
     let e = ends s l.from l.end l.invariant.0 in
-    let n = onward-none l.invariant.2 (no_lines s l.from l.end e (omega (arith, e.high, c.loop-end-test.false))) in
-    record { fits = l.invariant.1; tables = λ w. n.0; rest = λ w. n.1 }
+    let n = onward-none l.invariant.1 (no_lines s l.from l.end e (omega (arith, e.high, c.loop-end-test.false))) in
+    record { tables = n.0; rest = n.1 }

@@ -1,9 +1,6 @@
--- What is held and what waits fit. The measure is the number of reads that are left.
+-- What is held between two reads is what `blocks` carries.
 use Rattle.follow.specs.Inner.{Holds}
 use Rattle.follow.proofs.requests.key_file.Given as goal
 
-abbrev pub invariant-loop-left : goal.invariant-loop-left
-invariant-loop-left l = Holds l.keying
-
-abbrev pub decreases-loop-left : goal.decreases-loop-left
-decreases-loop-left l = l.left
+abbrev pub invariant-loop : goal.invariant-loop
+invariant-loop l = Holds l.keying

@@ -5,8 +5,4 @@ use Rattle.follow.proofs.requests.key_line.Goals as goal
 pub returns : goal.returns
 returns c =
     let q = c.show_request-outcome in
-    let p = c.put_shown-waiting in
-    record {
-      fits = p.ensures.fits;
-      tables = λ w. request-tables _ _ _ _ _ q.result q.ensures (p.ensures.done w);
-    }
+    request-tables _ _ _ _ _ q.result q.ensures c.in_ok-put.ensures

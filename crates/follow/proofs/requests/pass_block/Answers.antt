@@ -3,4 +3,4 @@ use Rattle.blocks.proofs.Copying.{held-few}
 use Rattle.follow.proofs.requests.pass_block.Goals as goal
 
 pub returns : goal.returns
-returns c = record { fits = c.key_block-passed.ensures.fits; held = held-few _ _ _ _ c.carry.ensures }
+returns c = held-few _ _ _ _ c.carry.ensures

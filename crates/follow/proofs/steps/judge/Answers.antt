@@ -5,8 +5,4 @@ use Rattle.follow.proofs.steps.judge.Goals as goal
 pub returns : goal.returns
 returns c =
     let v = c.show_verdict-outcome in
-    let p = c.put_shown-all in
-    record {
-      fits = p.ensures.fits;
-      tables = λ w. verdict-tables _ _ _ _ _ v.result v.ensures (p.ensures.done w);
-    }
+    verdict-tables _ _ _ _ _ v.result v.ensures c.in_ok-put_shown.ensures

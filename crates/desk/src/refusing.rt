@@ -1,0 +1,65 @@
+// One line on standard error, where nothing is printed.
+use std::fmt;
+use std::io;
+use std::io::Write;
+use streams::{ReadError, Stopped};
+
+/// What is wrong with an argument, or with the file that it names.
+#[derive(Drop)]
+pub enum Reason {
+    ArgumentTooLong,
+    NotANumber,
+    /// The library opens names in UTF-8 alone.
+    NotUtf8,
+    FileTooLong,
+    /// In the system's words.
+    Failed(io::Error),
+}
+
+impl From<io::Error> for Reason {
+    fn from(error: io::Error) -> Reason {
+        Reason::Failed(error)
+    }
+}
+
+impl From<ReadError> for Reason {
+    fn from(error: ReadError) -> Reason {
+        match error {
+            ReadError::Failed(error) => Reason::Failed(error),
+            ReadError::TooLong => Reason::FileTooLong,
+        }
+    }
+}
+
+impl fmt::Display for Reason {
+    fn fmt<W: fmt::Write>(&self, f: &mut fmt::Formatter<W>) -> fmt::Result {
+        match self {
+            Reason::ArgumentTooLong => f.write_str("longer than 4095 bytes"),
+            Reason::NotANumber => {
+                f.write_str("not a number of 1 to 19 digits without leading zeros")
+            }
+            Reason::NotUtf8 => f.write_str("cannot be opened: the name is not in UTF-8"),
+            Reason::FileTooLong => f.write_str("longer than 1048576 bytes"),
+            Reason::Failed(error) => write!(f, "{error}"),
+        }
+    }
+}
+
+/// Says what is wrong with what is shown by this name.
+pub fn refuse(rt: &HostRuntime, name: &[u8], reason: &Reason) -> Stopped {
+    let _ = eprint!(rt; "desk: ");
+    let _ = rt.stderr().write_all(name);
+    match reason {
+        Reason::Failed(error) => streams::say_why(rt, error),
+        other => {
+            let _ = eprintln!(rt; ": {other}");
+        }
+    }
+    Stopped
+}
+
+/// Says why nothing is printed, or nothing more.
+pub fn stop(rt: &HostRuntime, why: &str) -> Stopped {
+    let _ = eprintln!(rt; "desk: {why}");
+    Stopped
+}
