@@ -1,7 +1,7 @@
 -- The links after a program has entered or left a chain lay out the chains so changed. One law, `relaid`, serves both: links that differ
 -- only at the program's slot and on one chain, which they lay out anew.
 -- Assumes nothing.
-use Prim.Native.Nat.{ℕ, ◌+◌, ◌-◌, ◌≤◌, ◌<◌}
+use Prim.Native.Nat.{ℕ, ◌+◌, ◌≤◌, ◌<◌}
 use native.Mathlib.Omega.{arith}
 use native.Mathlib.Decide.{ℕ_discrete}
 use mathlib.Core.Path.{◌≡◌, ◌∙◌}

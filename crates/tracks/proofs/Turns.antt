@@ -6,10 +6,10 @@ use native.Mathlib.Numerals.{add-one}
 use native.Mathlib.Omega.{arith}
 use mathlib.Core.Path.{◌≡◌, refl, sym, ap, ap₂, ◌∙◌}
 use mathlib.Core.Bool.{Bool, true, false, cond}
-use mathlib.Core.List.{List, [], ◌∷◌, ◌++◌, append_assoc}
+use mathlib.Core.List.{List, [], ◌∷◌, ◌++◌, append-nil, append_assoc}
 use mathlib.Core.Option.{none, some}
 use lib.ListN.{length, get_or, set, take, drop, replicate, drop_of_length-le, replicate-append-replicate}
-use lib.Seq.{drop-cons, set-get_or, set-append_left, take_at, drop_at}
+use lib.Seq.{take_all, drop-cons, set-get_or, set-append_left, drop_at}
 use lib.Dec.{eqb}
 use native.Mathlib.Decide.{ℕ_discrete}
 use native.Mathlib.Nat.{min-le_left}
@@ -156,28 +156,16 @@ module _ (p h i : ℕ) (xs zs : List ℕ) (z : zs ≡ passed p h i xs) (l : i < 
       ∙ ap₂ (λ (ys : List ℕ) (v : ℕ). set ys i v) z (sym here)
       ∙ passed-test false p h i xs l (ne_eqb (get_or xs i nobody) p (λ w. e (sym here ∙ w))))
 
-pub passed-done : (t : Tracks) → Fit t → length (holders t) ≡ t.count → (p h : ℕ)
-    → passed p h t.count t.holders ≡ replaced p h (holders t) ++ replicate (256 - t.count) nobody
-passed-done t f e p h =
-    ap (passed p h t.count) (laid f)
-    ∙ ap₂ (λ (a b : List ℕ). replaced p h a ++ b)
-    (take_at (holders t) (replicate (256 - t.count) nobody) t.count e)
-    (drop_at (holders t) (replicate (256 - t.count) nobody) t.count e)
+pub passed-all : (p h i : ℕ) (xs : List ℕ) → length xs ≤ i → passed p h i xs ≡ replaced p h xs
+passed-all p h i xs l =
+    ap (λ (ys : List ℕ). replaced p h ys ++ drop i xs) (take_all i xs l)
+    ∙ ap (λ (ys : List ℕ). replaced p h xs ++ ys) (drop_of_length-le xs {i = i} l)
+    ∙ append-nil (replaced p h xs)
 
--- fresh tracks, zs being the array: those before i are the system's
-fresh_step : (a b i m : ℕ) → set (replicate i a ++ replicate (suc m) b) i a ≡ replicate (suc i) a ++ replicate m b
-fresh_step a b zero m = refl
-fresh_step a b (suc i) m = ap (λ (ys : List ℕ). a ∷ ys) (fresh_step a b i m)
+pub nobody-behind : (t : Tracks) → Fit t → drop t.count t.holders ≡ replicate (256 - t.count) nobody
+nobody-behind t f = ap (drop t.count) (laid f) ∙ drop_at (holders t) (replicate (256 - t.count) nobody) t.count f.long
 
-pub fresh-turn : (a b N i : ℕ) (zs : List ℕ) → i < N → zs ≡ replicate i a ++ replicate (N - i) b
-    → set zs i a ≡ replicate (i + 1) a ++ replicate (N - (i + 1)) b
-fresh-turn a b N i zs l z =
-    let e : N - i ≡ suc (N - (i + 1)) = omega arith in
-    ap (λ (ys : List ℕ). set ys i a) z
-    ∙ ap (λ (k : ℕ). set (replicate i a ++ replicate k b) i a) e
-    ∙ fresh_step a b i (N - (i + 1))
-    ∙ ap (λ (k : ℕ). replicate k a ++ replicate (N - (i + 1)) b) (sym (add-one i))
-
+-- fresh tracks: the first are the system's
 pub fresh-done : (a b N T S : ℕ) → S ≤ T → T ≤ N
     → replicate S a ++ replicate (N - S) b ≡ (replicate S a ++ replicate (T - S) b) ++ replicate (N - T) b
 fresh-done a b N T S l m =

@@ -49,11 +49,8 @@ impl Tracks {
         requires { Sizes all own }
         ensures { result ≡ table_of all own (replicate own system ++ replicate (all - own) nobody) }
     {
-        let first_free = own as usize;
         let mut holders = [Tracks::FREE; MOST_TRACKS];
-        for i in 0..first_free {
-            holders[i] = Tracks::SYSTEM;
-        }
+        holders[..own as usize].fill(Tracks::SYSTEM);
         Tracks {
             count: all,
             system: own,
@@ -114,11 +111,10 @@ impl Tracks {
         requires { Fit self }
         ensures { result ≡ table_of self.count self.system (replaced p h (holders self)) }
     {
-        let end = self.count as usize;
         let mut holders = self.holders;
-        for i in 0..end {
-            if holders[i] == p {
-                holders[i] = h;
+        for x in &mut holders[..self.count as usize] {
+            if *x == p {
+                *x = h;
             }
         }
         Tracks { holders, ..self }

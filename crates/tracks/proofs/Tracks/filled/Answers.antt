@@ -1,6 +1,6 @@
 -- `tracks::Tracks::filled` meets its contract. Assumes nothing.
 use Rattle.std.proofs.Common.{◌≡◌, ◌∙◌, ℕ, ◌+◌, ◌-◌, ap, arith, rules, List, ◌++◌, take, drop, replicate}
-use Rattle.tracks.specs.Tracks.{filled, places, table_at}
+use Rattle.tracks.specs.Tracks.{filled, table_at}
 use Rattle.tracks.proofs.Turns.{filled-mid, filled-table}
 use Rattle.tracks.proofs.Tracks.filled.Goals as goal
 

@@ -1,28 +1,16 @@
--- `tracks::Tracks::fresh` meets its contract. The loop's invariant: the first i places are the system's, the others
--- free. The measure is the places left.
--- Assumes nothing.
-use Prim.Native.Nat.{ℕ, ◌-◌}
-use native.Mathlib.Omega.{arith}
-use mathlib.Core.Path.{◌≡◌, refl, ap, ◌∙◌}
-use mathlib.Core.List.{◌++◌}
-use lib.ListN.{replicate}
+-- `tracks::Tracks::fresh` meets its contract. Assumes nothing.
+use Rattle.std.proofs.Common.{◌≡◌, ◌∙◌, ℕ, ◌-◌, ap, rules, List, ◌++◌, drop, replicate}
 use Rattle.tracks.specs.Tracks.{nobody, system}
+use Rattle.std.proofs.lemmas.List.{drop-replicate}
 use Rattle.tracks.proofs.Fits.{made}
-use Rattle.tracks.proofs.Turns.{fresh-turn, fresh-done}
+use Rattle.tracks.proofs.Turns.{fresh-done}
 use Rattle.tracks.proofs.Tracks.fresh.Goals as goal
-
-pub loop-i-init : goal.loop-i-init
-loop-i-init c = (omega arith, refl)
-
-pub loop-i-preserved : goal.loop-i-preserved
-loop-i-preserved c =
-    (omega arith, fresh-turn system nobody 256 c.loop-i.i c.loop-i.holders (omega arith) c.loop-i.invariant.1)
 
 pub returns : goal.returns
 returns c =
-    let i : c.loop-i.i ≡ c.args.own = omega arith in
-    made c.args.all c.args.own c.loop-i.holders
-    (replicate c.args.own system ++ replicate (c.args.all - c.args.own) nobody)
-    (c.loop-i.invariant.1
-    ∙ ap (λ (k : ℕ). replicate k system ++ replicate (256 - k) nobody) i
-    ∙ fresh-done system nobody 256 c.args.all c.args.own c.requires.part c.requires.most)
+    let a = c.args in
+    let e : c.fill.new.self ≡ replicate a.own 34 = search rules in
+    made a.all a.own _ (replicate a.own system ++ replicate (a.all - a.own) nobody)
+    (ap (λ (ys : List ℕ). ys ++ drop a.own (replicate {A = ℕ} 256 0)) e
+    ∙ ap (λ (ys : List ℕ). replicate a.own system ++ ys) (drop-replicate a.own 256 0)
+    ∙ fresh-done system nobody 256 a.all a.own c.requires.part c.requires.most)
