@@ -6,7 +6,7 @@ mod lines;
 mod sections;
 mod values;
 
-ghost use Rattle.std.specs.Prelude.{◌≡◌};
+ghost use Rattle.std.specs.Prelude.{◌≡◌, []};
 ghost use Rattle.tables.specs.Tables.{plain};
 ghost use Rattle.tables.specs.Calls.{told};
 ghost use Rattle.page.specs.Page.{page};
@@ -22,15 +22,15 @@ use tables::{Outcome, Tables};
 // What is put of a page, with room for any.
 type Out = ArrayVec<u8, PAGE_ROOM>;
 
-// The page of tables: there is room for it where they are sound.
-pub fn page_of(tables: Tables) -> ArrayVec<u8, PAGE_ROOM>
-    requires { CanPage tables }
-    ensures { result.items ≡ page (plain tables) }
+// Puts the page of tables into a vector that is empty: there is room for it where they are sound.
+fn put_page(out: &mut Out, tables: &Tables)
+    requires empty { out.old.items ≡ [] }
+    requires fits { CanPage tables.now }
+    ensures { out.new.items ≡ page (plain tables.now) }
 {
     let book = &tables.ledger;
-    let mut out = ArrayVec::new();
     lines::put_heading(
-        &mut out,
+        out,
         book.clock.ticks,
         book.tracks.count,
         book.tracks.system,
@@ -38,11 +38,20 @@ pub fn page_of(tables: Tables) -> ArrayVec<u8, PAGE_ROOM>
         book.clock.year,
         sections::count_used(&book.programs),
     );
-    sections::put_records(&mut out, &book.programs);
-    sections::put_chains(&mut out, tables.links);
-    sections::put_runs(&mut out, book.tracks);
-    sections::put_resources(&mut out, &book.numbers);
-    text::writing::put_entry(&mut out, &keys::END, &keys::PAGE);
+    sections::put_records(out, &book.programs);
+    sections::put_chains(out, tables.links);
+    sections::put_runs(out, book.tracks);
+    sections::put_resources(out, &book.numbers);
+    text::writing::put_entry(out, &keys::END, &keys::PAGE);
+}
+
+// The page of tables.
+pub fn page_of(tables: Tables) -> ArrayVec<u8, PAGE_ROOM>
+    requires { CanPage tables }
+    ensures { result.items ≡ page (plain tables) }
+{
+    let mut out = ArrayVec::new();
+    put_page(&mut out, &tables);
     out
 }
 
@@ -57,7 +66,8 @@ pub fn write_page(tables: Tables, buf: &mut [u8]) -> Outcome
             tables,
         };
     }
-    let page = page_of(tables);
+    let mut page = ArrayVec::new();
+    put_page(&mut page, &tables);
     let n = page.len();
     if buf.len() < n {
         return Outcome {
