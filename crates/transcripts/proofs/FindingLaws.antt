@@ -11,14 +11,17 @@ use lib.Dec.{leb, eqb}
 use borrow.Author.Tests.{eq-eqb, ne_eqb, le-leb, lt-leb, leb-true}
 use denote.Ref.{Bor}
 use Rattle.lists.proofs.Tests.{both, not-both}
+use Rattle.transcripts.proofs.LineLaws.{span_is}
 use Rattle.transcripts.specs.declared.finding.Mark.{Mark}
 use Rattle.transcripts.specs.declared.finding.Mark.TheVariants.{Original, Copy}
 use Rattle.transcripts.specs.declared.finding.Place.{Place}
-use Rattle.transcripts.specs.declared.lines.Spot.{Spot}
-use Rattle.transcripts.specs.declared.lines.Spot.TheVariants.{At, Nowhere}
+use Rattle.std.specs.Prelude as option
+use Rattle.transcripts.specs.declared.lines.Span.{Span}
+use Rattle.std.specs.Prelude.{None}
+use Rattle.transcripts.specs.Inner.{at_span}
 use Rattle.transcripts.specs.Transcripts.{Line, lines_in, occurrence}
 use Rattle.transcripts.specs.Finding.{Sought, empty_front, refused, found_or, sought, marked, within, PartOf, PartAt}
-use Rattle.transcripts.specs.Inner.{lines_from, spot_of, behind_others}
+use Rattle.transcripts.specs.Inner.{lines_from, span_of, behind_others}
 
 module _ (original copy key : List ℕ) (n : ℕ) where
   abbrev searched : Sought
@@ -46,42 +49,41 @@ from_front : (s k : List ℕ) (n : ℕ) → occurrence k n (lines_in s) ≡ behi
 unfolding occurrence lines_in behind_others
 from_front s k n = refl
 
--- what was found, by its spot
-found_at : (m : Mark) (y : Option Line) (a e : ℕ) (other : Sought) → At a e ≡ spot_of y
+-- what was found, by its place
+found_at : (m : Mark) (y : Option Line) (a e : ℕ) (other : Sought) → at_span a e ≡ span_of y
     → found_or m y other ≡ record { number = 0; values = 0 ∷ []; place = record { mark = m; begins = a; ends = e } }
 found_at m none a e other q = let z : ◌≡◌ {A = ℕ} 0 1 = cc in absurd (omega arith)
 found_at m (some x) a e other q =
-    let b : x.begins ≡ a = cc in
-    let f : x.ends ≡ e = cc in
+    let (b, f) = span_is q in
     ap₂ (λ (i j : ℕ). record { number = 0; values = 0 ∷ []; place = record { mark = m; begins = i; ends = j } }) b f
 
-found_nowhere : (m : Mark) (y : Option Line) (other : Sought) → Nowhere ≡ spot_of y → found_or m y other ≡ other
+found_nowhere : (m : Mark) (y : Option Line) (other : Sought) → None ≡ span_of y → found_or m y other ≡ other
 found_nowhere m none other q = refl
 found_nowhere m (some x) other q = let z : ◌≡◌ {A = ℕ} 0 1 = cc in absurd (omega arith)
 
 -- where the search looks: the two texts from their fronts on
 module _ (original copy key : List ℕ) (n : ℕ) (h : length key ≡ 0 → ⊥) (l : n ≡ 0 → ⊥) where
-  abbrev spot_in : List ℕ → Spot
-  spot_in s = spot_of (behind_others key (n - 1) (lines_from s 0))
+  abbrev span_at : List ℕ → option.Option Span
+  span_at s = span_of (behind_others key (n - 1) (lines_from s 0))
 
-  looked : (s : List ℕ) (x : Spot) → x ≡ spot_in s → x ≡ spot_of (occurrence key n (lines_in s))
-  looked s x e = e ∙ ap spot_of (sym (from_front s key n))
+  looked : (s : List ℕ) (x : option.Option Span) → x ≡ span_at s → x ≡ span_of (occurrence key n (lines_in s))
+  looked s x e = e ∙ ap span_of (sym (from_front s key n))
 
-  pub in-original : (a e : ℕ) → At a e ≡ spot_in original
+  pub in-original : (a e : ℕ) → at_span a e ≡ span_at original
       → sought original copy key n ≡ record { number = 0; values = 0 ∷ []; place = record { mark = Original; begins = a; ends = e } }
   in-original a e q =
-      searches original copy key n h l ∙ found_at Original (occurrence key n (lines_in original)) a e _ (looked original (At a e) q)
+      searches original copy key n h l ∙ found_at Original (occurrence key n (lines_in original)) a e _ (looked original (at_span a e) q)
 
-  module _ (m : Nowhere ≡ spot_in original) where
+  module _ (m : None ≡ span_at original) where
     passed : sought original copy key n ≡ found_or Copy (occurrence key n (lines_in copy)) (refused 17)
-    passed = searches original copy key n h l ∙ found_nowhere Original (occurrence key n (lines_in original)) _ (looked original Nowhere m)
+    passed = searches original copy key n h l ∙ found_nowhere Original (occurrence key n (lines_in original)) _ (looked original None m)
 
-    pub in-copy : (a e : ℕ) → At a e ≡ spot_in copy
+    pub in-copy : (a e : ℕ) → at_span a e ≡ span_at copy
         → sought original copy key n ≡ record { number = 0; values = 0 ∷ []; place = record { mark = Copy; begins = a; ends = e } }
-    in-copy a e q = passed ∙ found_at Copy (occurrence key n (lines_in copy)) a e _ (looked copy (At a e) q)
+    in-copy a e q = passed ∙ found_at Copy (occurrence key n (lines_in copy)) a e _ (looked copy (at_span a e) q)
 
-    pub in-neither : Nowhere ≡ spot_in copy → sought original copy key n ≡ refused 17
-    in-neither q = passed ∙ found_nowhere Copy (occurrence key n (lines_in copy)) _ (looked copy Nowhere q)
+    pub in-neither : None ≡ span_at copy → sought original copy key n ≡ refused 17
+    in-neither q = passed ∙ found_nowhere Copy (occurrence key n (lines_in copy)) _ (looked copy None q)
 
 -- a place within its text, or not
 module _ (original copy : List ℕ) (p : Place) where

@@ -7,13 +7,20 @@ use mathlib.Core.Path.{◌≡◌, refl, sym, ap, ◌∙◌}
 use mathlib.Core.List.{List, [], ◌∷◌}
 use lib.ListN.{length, get_or, take, drop}
 use lib.Seq.{slice, length-slice}
+use mathlib.Core.Bool.{Bool, ◌&&◌}
+use lib.Pointwise.{pointwise}
+use Rattle.std.proofs.Common.{nat_eq}
+use Rattle.std.specs.Prelude as option
+use Rattle.std.specs.Prelude.{Some, None}
+use Rattle.lists.specs.Lists.{alike}
 use Rattle.text.specs.Text.{parts}
 use Rattle.text.specs.Lines.{lines_of}
 use Rattle.text.specs.Inner.{PartEnd}
 use Rattle.text.proofs.Fields.{drop-take}
 use Rattle.text.proofs.Lines.{lines_none, lines_next}
 use Rattle.transcripts.specs.Transcripts.{standing, lines_in}
-use Rattle.transcripts.specs.Inner.{lines_from, line_at}
+use Rattle.transcripts.specs.declared.lines.Span.{Span}
+use Rattle.transcripts.specs.Inner.{lines_from, line_at, at_span}
 
 pub from-none : (s : List ℕ) (at : ℕ) → length s ≤ at → lines_from s at ≡ []
 from-none s at h = ap (standing at) (lines_none s at h)
@@ -47,3 +54,22 @@ one_end d s from e e' p q = omega (arith, is e p, is e' q, p.low, q.low)
 
     is : (x : ℕ) → PartEnd d s from x → length (get_or (parts d (drop from s)) 0 []) ≡ x - from
     is x p = ap length (first x p) ∙ length-slice from x s p.high
+
+-- bytes are compared as `alike` compares them
+pub same_bytes : (a b : List ℕ) → pointwise nat_eq a b ≡ alike a b
+same_bytes [] [] = refl
+same_bytes [] (y ∷ b) = refl
+same_bytes (x ∷ a) [] = refl
+same_bytes (x ∷ a) (y ∷ b) = ap (λ (t : Bool). nat_eq x y && t) (same_bytes a b)
+
+-- the same place is told
+abbrev begins_in : option.Option Span → ℕ
+begins_in None = 0
+begins_in (Some x) = x.begins
+
+abbrev ends_in : option.Option Span → ℕ
+ends_in None = 0
+ends_in (Some x) = x.ends
+
+pub span_is : {a e b f : ℕ} → at_span a e ≡ at_span b f → (b ≡ a) × (f ≡ e)
+span_is q = (sym (ap begins_in q), sym (ap ends_in q))

@@ -15,11 +15,12 @@ use borrow.Author.Tests.{eqb-true}
 use Rattle.lists.specs.Lists.{alike}
 use Rattle.text.specs.Inner.{PartEnd}
 use Rattle.text.proofs.Fields.{until, part_end}
-use Rattle.transcripts.specs.declared.lines.Spot.{Spot}
+use Rattle.std.specs.Prelude as option
+use Rattle.transcripts.specs.declared.lines.Span.{Span}
 use Rattle.transcripts.specs.Transcripts.{Line, lines_in, key_of, has_key, with_key, occurrence}
 use Rattle.transcripts.specs.Listing.{differs, begin_of}
 use Rattle.transcripts.specs.Promises.{LineOf, StandsIn}
-use Rattle.transcripts.specs.Inner.{lines_from, line_at, spot_of, first_or, first_keyed, behind_others, SpotIn, held_at}
+use Rattle.transcripts.specs.Inner.{lines_from, line_at, span_of, first_or, first_keyed, behind_others, SpanIn, held_at}
 use Rattle.transcripts.proofs.LineLaws.{from-none, from_next, one_end}
 
 -- all of some lines do; one does, where there is one
@@ -109,16 +110,16 @@ first-stands s at = go (lines_from s at) (all-stand s at)
         which none r = r
         which (some k) r = h.0
 
--- so a spot lies in its text, and to hold a line against the bytes there is to hold it against the line
-pub spot_in : (s : List ℕ) (y : Option Line) → OneStands s y → SpotIn s (spot_of y)
-spot_in s none h = tt
-spot_in s (some y) h = (h.low, h.high)
+-- so a place lies in its text, and to hold a line against the bytes there is to hold it against the line
+pub span_in : (s : List ℕ) (y : Option Line) → OneStands s y → SpanIn s (span_of y)
+span_in s none h = tt
+span_in s (some y) h = (h.low, h.high)
 
-pub spot-lies : (s : List ℕ) (x : Spot) (y : Option Line) → x ≡ spot_of y → OneStands s y → SpotIn s x
-spot-lies s x y e h = subst (SpotIn s) (sym e) (spot_in s y h)
+pub span-lies : (s : List ℕ) (x : option.Option Span) (y : Option Line) → x ≡ span_of y → OneStands s y → SpanIn s x
+span-lies s x y e h = subst (SpanIn s) (sym e) (span_in s y h)
 
 pub held-is : (copy : List ℕ) (x : Line) (y : Option Line) → OneStands copy y
-    → held_at x.bytes copy (spot_of y) ≡ record { listed = differs x y; begins = begin_of copy y }
+    → held_at x.bytes copy (span_of y) ≡ record { listed = differs x y; begins = begin_of copy y }
 held-is copy x none h = refl
 held-is copy x (some y) h =
     ap (λ (b : List ℕ). record { listed = not (alike x.bytes b); begins = y.begins }) (sym h.bytes)

@@ -10,31 +10,32 @@ use mathlib.Core.Option.{Option, none, some}
 use lib.ListN.{length, take, drop}
 use lib.Seq.{slice}
 use Rattle.text.specs.Inner.{PartEnd}
-use Rattle.transcripts.specs.declared.lines.Spot.TheVariants.{At, Nowhere}
+use Rattle.std.specs.Prelude.{None}
+use Rattle.transcripts.specs.Inner.{at_span}
 use Rattle.transcripts.specs.declared.listing.Held.{Held}
 use Rattle.transcripts.specs.declared.listing.Turn.{Turn}
 use Rattle.transcripts.specs.Transcripts.{Line, key_of, has_key}
 use Rattle.transcripts.specs.Listing.{counterpart_of, differs, begin_of}
 use Rattle.transcripts.specs.Promises.{StandsIn}
-use Rattle.transcripts.specs.Inner.{lines_from, line_at, spot_of, first_keyed, on_keys, keys_in, occurrences, behind_others, OnWay}
+use Rattle.transcripts.specs.Inner.{lines_from, line_at, span_of, first_keyed, on_keys, keys_in, occurrences, behind_others, OnWay}
 use Rattle.transcripts.specs.Inner.{held_at, Tells, Turned, KeyedLine, TakesTurn, TurnedApart}
-use Rattle.transcripts.proofs.LineLaws.{part-taken}
+use Rattle.transcripts.proofs.LineLaws.{part-taken, span_is}
 use Rattle.transcripts.proofs.KeyLaws.{key-is}
 use Rattle.transcripts.proofs.OccurrenceLaws.{count_none}
 use Rattle.transcripts.proofs.Standing.{OneStands, first-stands, behind-stands, held-is}
 use Rattle.transcripts.proofs.WayLaws.{counterpart-behind, stays, none-since, steps, passes}
 use Rattle.transcripts.proofs.WayLaws.{FirstIn, first-in, first-behind, keys-append}
 
--- a line at a spot
-pub record Spotted (y : Option Line) (a f : ℕ) : Type 0 where
+-- a line at a place
+pub record Found (y : Option Line) (a f : ℕ) : Type 0 where
   pub line : Line
   pub is : y ≡ some line
   pub begins : line.begins ≡ a
   pub ends : line.ends ≡ f
 
-at-spot : (y : Option Line) (a f : ℕ) → At a f ≡ spot_of y → Spotted y a f
-at-spot none a f e = let z : ◌≡◌ {A = ℕ} 0 1 = cc in absurd (omega arith)
-at-spot (some x) a f e = record { line = x; is = refl; begins = cc; ends = cc }
+at-place : (y : Option Line) (a f : ℕ) → at_span a f ≡ span_of y → Found y a f
+at-place none a f e = let z : ◌≡◌ {A = ℕ} 0 1 = cc in absurd (omega arith)
+at-place (some x) a f e = record { line = x; is = refl; begins = (span_is e).0; ends = (span_is e).1 }
 
 -- a turn, with its end and its places as they are called
 turned_as : (o c : List ℕ) (at : ℕ) (before : List Line) (r : Turn) (e base other : ℕ) → r.end ≡ e → r.base ≡ base → r.other ≡ other
@@ -103,7 +104,7 @@ module _ (o c : List ℕ) (at e : ℕ) (key : List ℕ) (l : KeyedLine o at e ke
       ∙ ap (λ (i : ℕ). behind_others key i (lines_from c other)) (ap (occurrences key) (none-since w e h p refl) ∙ count_none key)
 
   -- it has none ahead
-  pub missing-one : Nowhere ≡ spot_of (behind_others key 0 (lines_from c other))
+  pub missing-one : None ≡ span_of (behind_others key 0 (lines_from c other))
       → TakesTurn o c at at other (record { end = e; listed = true; begins = length c; base = e + 1; other = other })
   missing-one s = record {
     end = p;
@@ -113,7 +114,7 @@ module _ (o c : List ℕ) (at e : ℕ) (key : List ℕ) (l : KeyedLine o at e ke
     };
   }
     where
-      nowhere : (y : Option Line) → Nowhere ≡ spot_of y → y ≡ none
+      nowhere : (y : Option Line) → None ≡ span_of y → y ≡ none
       nowhere none q = refl
       nowhere (some y) q = let z : ◌≡◌ {A = ℕ} 0 1 = cc in absurd (omega arith)
 
@@ -121,24 +122,24 @@ module _ (o c : List ℕ) (at e : ℕ) (key : List ℕ) (l : KeyedLine o at e ke
       gone = nowhere (behind_others key 0 (lines_from c other)) s
 
   -- it is the next line of the copy with a key
-  module _ (a f : ℕ) (s : At a f ≡ spot_of (first_keyed (lines_from c other))) (k : true ≡ has_key key (take (f - a) (drop a c))) where
-    spotted : Spotted (first_keyed (lines_from c other)) a f
-    spotted = at-spot (first_keyed (lines_from c other)) a f s
+  module _ (a f : ℕ) (s : at_span a f ≡ span_of (first_keyed (lines_from c other))) (k : true ≡ has_key key (take (f - a) (drop a c))) where
+    placed : Found (first_keyed (lines_from c other)) a f
+    placed = at-place (first_keyed (lines_from c other)) a f s
 
     abbrev y : Line
-    y = spotted.line
+    y = placed.line
 
     stands : StandsIn c y
-    stands = subst (OneStands c) spotted.is (first-stands c other)
+    stands = subst (OneStands c) placed.is (first-stands c other)
 
     has : has_key key y.bytes ≡ true
     has =
-        ap (has_key key) (stands.bytes ∙ ap₂ (λ (i j : ℕ). slice i j c) spotted.begins spotted.ends
-        ∙ sym (part-taken c a f (omega (arith, stands.low, spotted.begins, spotted.ends))))
+        ap (has_key key) (stands.bytes ∙ ap₂ (λ (i j : ℕ). slice i j c) placed.begins placed.ends
+        ∙ sym (part-taken c a f (omega (arith, stands.low, placed.begins, placed.ends))))
         ∙ sym k
 
     first : FirstIn c (lines_from c other) y
-    first = first-in c other y spotted.is
+    first = first-in c other y placed.is
 
     same_keys : keys_in (line_at o at e ∷ []) ≡ keys_in (first.passed ++ (y ∷ []))
     same_keys =
@@ -146,18 +147,18 @@ module _ (o c : List ℕ) (at e : ℕ) (key : List ℕ) (l : KeyedLine o at e ke
         ∙ sym (keys-append first.passed (y ∷ []) ∙ ap (λ (ks : List (List ℕ)). ks ++ keys_in (y ∷ [])) first.keyless)
 
     on-to : lines_from c other ≡ (first.passed ++ (y ∷ [])) ++ lines_from c (f + 1)
-    on-to = first.split ∙ ap (λ (i : ℕ). (first.passed ++ (y ∷ [])) ++ lines_from c (i + 1)) spotted.ends
+    on-to = first.split ∙ ap (λ (i : ℕ). (first.passed ++ (y ∷ [])) ++ lines_from c (i + 1)) placed.ends
 
     its : (before : List Line) → OnWay o c at at other before → counterpart_of c before key ≡ some y
-    its before w = first-ahead before w ∙ first-behind key (lines_from c other) y spotted.is has
+    its before w = first-ahead before w ∙ first-behind key (lines_from c other) y placed.is has
 
-    pub next_one : (r : Held) → r ≡ held_at (slice at e o) c (At a f)
+    pub next_one : (r : Held) → r ≡ held_at (slice at e o) c (at_span a f)
         → TakesTurn o c at at other (record { end = e; listed = r.listed; begins = r.begins; base = e + 1; other = f + 1 })
     next_one r g = record {
       end = p;
       right = λ before w. record {
         tells = told before (record { end = e; listed = r.listed; begins = r.begins; base = e + 1; other = f + 1 }) (some y) (its before w)
-            (g ∙ ap₂ (λ (i j : ℕ). held_at (slice at e o) c (At i j)) (sym spotted.begins) (sym spotted.ends)
+            (g ∙ ap₂ (λ (i j : ℕ). held_at (slice at e o) c (at_span i j)) (sym placed.begins) (sym placed.ends)
             ∙ held-is c (line_at o at e) (some y) stands);
         onward = steps w e h p refl (first.passed ++ (y ∷ [])) (f + 1) on-to same_keys;
       };

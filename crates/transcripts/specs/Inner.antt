@@ -8,8 +8,9 @@ use Rattle.std.proofs.lemmas.List.Edits.{sets}
 use Rattle.lists.specs.Lists.{alike, join}
 use Rattle.text.specs.Lines.{lines_of}
 use Rattle.text.specs.Inner.{PartEnd}
-use Rattle.transcripts.specs.declared.lines.Spot.{Spot}
-use Rattle.transcripts.specs.declared.lines.Spot.TheVariants.{At, Nowhere}
+use Rattle.std.specs.Prelude as option
+use Rattle.std.specs.Prelude.{Some, None}
+use Rattle.transcripts.specs.declared.lines.Span.{Span}
 use Rattle.transcripts.specs.declared.listing.Held.{Held}
 use Rattle.transcripts.specs.declared.listing.Turn.{Turn}
 use Rattle.transcripts.specs.Transcripts.{Line, standing, lines_in, key_of, with_key}
@@ -24,9 +25,12 @@ abbrev pub line_at : List ℕ → ℕ → ℕ → Line
 line_at s a e = record { begins = a; ends = e; bytes = slice a e s }
 
 -- where a line stands, or none
-abbrev pub spot_of : Option Line → Spot
-spot_of none = Nowhere
-spot_of (some x) = At x.begins x.ends
+abbrev pub at_span : ℕ → ℕ → option.Option Span
+at_span a e = Some (record { begins = a; ends = e })
+
+abbrev pub span_of : Option Line → option.Option Span
+span_of none = None
+span_of (some x) = at_span x.begins x.ends
 
 -- the first of some lines that has a key
 abbrev pub first_or : Option (List ℕ) → Line → Option Line → Option Line
@@ -79,15 +83,15 @@ pub record OnWay (original copy : List ℕ) (at base other : ℕ) (before : List
   pub there : lines_in copy ≡ fore ++ lines_from copy other
   pub together : (k : List ℕ) → Even k front fore (lines_from copy other)
 
--- a spot lies in the text
-abbrev pub SpotIn : List ℕ → Spot → Type 0
-SpotIn s Nowhere = Unit {0}
-SpotIn s (At a e) = (a ≤ e) × (e ≤ length s)
+-- a line's place lies in the text
+abbrev pub SpanIn : List ℕ → option.Option Span → Type 0
+SpanIn s None = Unit {0}
+SpanIn s (Some x) = (x.begins ≤ x.ends) × (x.ends ≤ length s)
 
--- a line's bytes held against those at a spot: whether the line is listed, and where its counterpart begins
-abbrev pub held_at : List ℕ → List ℕ → Spot → Held
-held_at l copy Nowhere = record { listed = true; begins = length copy }
-held_at l copy (At a e) = record { listed = not (alike l (slice a e copy)); begins = a }
+-- a line's bytes held against those at a place: whether the line is listed, and where its counterpart begins
+abbrev pub held_at : List ℕ → List ℕ → option.Option Span → Held
+held_at l copy None = record { listed = true; begins = length copy }
+held_at l copy (Some x) = record { listed = not (alike l (slice x.begins x.ends copy)); begins = x.begins }
 
 -- what is told of a line with its key and its counterpart
 abbrev pub Tells : List ℕ → List Line → Line → Turn → Option (List ℕ) → Type 0
@@ -117,7 +121,7 @@ pub record TurnedApart (original copy : List ℕ) (at e : ℕ) (k : List ℕ) (b
   pub others : r.other ≡ other
   pub held : (xs : List Line) → Between original at base xs
       → record { listed = r.listed; begins = r.begins }
-      ≡ held_at (slice at e original) copy (spot_of (behind_others k (occurrences k xs) (lines_from copy other)))
+      ≡ held_at (slice at e original) copy (span_of (behind_others k (occurrences k xs) (lines_from copy other)))
 
 -- how many figures are put for a line: none, its number, or all three
 abbrev pub Width : ℕ → Type 0

@@ -3,7 +3,7 @@ ghost use Rattle.std.specs.Prelude.{◌≡◌, length};
 ghost use Rattle.transcripts.specs.Finding.{told, empty_front, sought, marked, within, PartAt};
 
 use super::lines;
-use super::lines::Spot;
+use super::lines::Span;
 use rules::Answer;
 
 // Which of the two texts.
@@ -39,16 +39,16 @@ fn empty_front() -> Place
     }
 }
 
-// The line at a spot of the text that a mark names.
-fn found(mark: Mark, begins: usize, ends: usize) -> Located
-    ensures { result ≡ record { answer = Answer.Done 0; place = record { mark = mark; begins = begins; ends = ends } } }
+// The line at a place of the text that a mark names.
+fn found(mark: Mark, span: Span) -> Located
+    ensures { result ≡ record { answer = Answer.Done 0; place = record { mark = mark; begins = span.begins; ends = span.ends } } }
 {
     Located {
         answer: Answer::Done(0),
         place: Place {
-            mark: mark,
-            begins: begins,
-            ends: ends,
+            mark,
+            begins: span.begins,
+            ends: span.ends,
         },
     }
 }
@@ -57,7 +57,7 @@ fn refuse(answer: Answer) -> Located
     ensures { result ≡ record { answer = answer; place = empty_front } }
 {
     Located {
-        answer: answer,
+        answer,
         place: empty_front(),
     }
 }
@@ -67,19 +67,14 @@ fn refuse(answer: Answer) -> Located
 pub fn locate(original: &[u8], copy: &[u8], key: &[u8], occurrence: u64) -> Located
     ensures { told result ≡ sought original.now copy.now key.now occurrence }
 {
-    if key.len() == 0 {
+    if key.is_empty() || occurrence == 0 {
         return refuse(Answer::NotAllowed);
     }
-    if occurrence == 0 {
-        return refuse(Answer::NotAllowed);
+    if let Some(span) = lines::seek(original, 0, key, occurrence - 1) {
+        return found(Mark::Original, span);
     }
-    let here = lines::seek(original, 0, key, occurrence - 1);
-    if let Spot::At(a, e) = here {
-        return found(Mark::Original, a, e);
-    }
-    let there = lines::seek(copy, 0, key, occurrence - 1);
-    if let Spot::At(a, e) = there {
-        return found(Mark::Copy, a, e);
+    if let Some(span) = lines::seek(copy, 0, key, occurrence - 1) {
+        return found(Mark::Copy, span);
     }
     refuse(Answer::InNeither)
 }
@@ -98,11 +93,7 @@ fn limit_of(mark: Mark, original: &[u8], copy: &[u8]) -> usize
 fn confine(original: &[u8], copy: &[u8], place: Place) -> Place
     ensures { result ≡ within original.now copy.now place }
 {
-    if place.ends < place.begins {
-        return empty_front();
-    }
-    let mark = place.mark;
-    if limit_of(mark, original, copy) < place.ends {
+    if place.ends < place.begins || limit_of(place.mark, original, copy) < place.ends {
         return empty_front();
     }
     place
@@ -113,11 +104,8 @@ pub fn part<'a>(original: &'a [u8], copy: &'a [u8], place: Place) -> &'a [u8]
     ensures { PartAt original.entry copy.entry place result }
 {
     let p = confine(original, copy, place);
-    let mark = p.mark;
-    let a = p.begins;
-    let e = p.ends;
-    match mark {
-        Mark::Original => &original[a..e],
-        Mark::Copy => &copy[a..e],
+    match p.mark {
+        Mark::Original => &original[p.begins..p.ends],
+        Mark::Copy => &copy[p.begins..p.ends],
     }
 }

@@ -18,9 +18,6 @@ pub fn find<'a>(original: &'a [u8], copy: &'a [u8], key: &[u8], occurrence: u64)
     ensures { Finds original.entry copy.entry key.now occurrence result }
 {
     let located = locate(original, copy, key, occurrence);
-    let bytes = part(original, copy, located.place);
-    Found {
-        part: bytes,
-        located: located,
-    }
+    let part = part(original, copy, located.place);
+    Found { part, located }
 }

@@ -3,10 +3,10 @@ ghost use Rattle.std.specs.Prelude.{◌≡◌, [], ◌∷◌, ◌+◌, ◌≤◌
 ghost use Rattle.std.proofs.Math.Seq.{slice};
 ghost use Rattle.text.specs.Inner.{Wrote};
 ghost use Rattle.transcripts.specs.Listing.{listed_lines, answered, listing, figuring};
-ghost use Rattle.transcripts.specs.Inner.{SpotIn, held_at, KeyedLine, TakesTurn, TurnedApart, Width, cut, Fills, filled_by};
+ghost use Rattle.transcripts.specs.Inner.{SpanIn, held_at, KeyedLine, TakesTurn, TurnedApart, Width, cut, Fills, filled_by};
 
 use super::lines;
-use super::lines::Spot;
+use super::lines::Span;
 use rules::Answer;
 
 // One line of the original held against its counterpart: where it ends; whether it is listed, and where its counterpart begins, the copy's
@@ -28,21 +28,21 @@ pub(crate) struct Held {
 }
 
 // The line original[at..end] held against its counterpart in the copy.
-fn hold(original: &[u8], at: usize, end: usize, copy: &[u8], spot: Spot) -> Held
+fn hold(original: &[u8], at: usize, end: usize, copy: &[u8], span: Option<Span>) -> Held
     requires at_le_end { at ≤ end }
     requires end_in_bounds { end ≤ length original.now }
-    requires spot_in { SpotIn copy.now spot }
-    ensures { result ≡ held_at (slice at end original.now) copy.now spot }
+    requires span_in { SpanIn copy.now span }
+    ensures { result ≡ held_at (slice at end original.now) copy.now span }
 {
-    let Spot::At(a, e) = spot else {
-        return Held {
+    match span {
+        Some(span) => Held {
+            listed: original[at..end] != copy[span.begins..span.ends],
+            begins: span.begins,
+        },
+        None => Held {
             listed: true,
             begins: copy.len(),
-        };
-    };
-    Held {
-        listed: !text::is_word(original, at, end, &copy[a..e]),
-        begins: a,
+        },
     }
 }
 
@@ -62,14 +62,14 @@ fn turn_apart(
     ensures { TurnedApart original.now copy.now at end key.now base other result }
 {
     let n = lines::count_key(original, base, at, key);
-    let spot = lines::seek(copy, other, key, n);
-    let held = hold(original, at, end, copy, spot);
+    let span = lines::seek(copy, other, key, n);
+    let held = hold(original, at, end, copy, span);
     Turn {
-        end: end,
+        end,
         listed: held.listed,
         begins: held.begins,
-        base: base,
-        other: other,
+        base,
+        other,
     }
 }
 
@@ -87,26 +87,26 @@ fn turn_together(
     ensures { TakesTurn original.now copy.now at at other result }
 {
     let next = lines::first_keyed(copy, other);
-    if let Spot::At(a, e) = next {
-        if lines::has_key(&copy[a..e], key) {
+    if let Some(span) = next {
+        if lines::has_key(&copy[span.begins..span.ends], key) {
             let held = hold(original, at, end, copy, next);
             return Turn {
-                end: end,
+                end,
                 listed: held.listed,
                 begins: held.begins,
                 base: end + 1,
-                other: e + 1,
+                other: span.ends + 1,
             };
         }
     }
-    let spot = lines::seek(copy, other, key, 0);
-    let Spot::At(_, _) = spot else {
+    let span = lines::seek(copy, other, key, 0);
+    let Some(_) = span else {
         return Turn {
-            end: end,
+            end,
             listed: true,
             begins: copy.len(),
             base: end + 1,
-            other: other,
+            other,
         };
     };
     turn_apart(original, copy, at, end, key, at, other)
@@ -124,19 +124,19 @@ pub(crate) fn take_turn(original: &[u8], copy: &[u8], at: usize, base: usize, ot
     if key_end == line.len() {
         if base == at {
             return Turn {
-                end: end,
+                end,
                 listed: false,
                 begins: 0,
                 base: end + 1,
-                other: other,
+                other,
             };
         }
         return Turn {
-            end: end,
+            end,
             listed: false,
             begins: 0,
-            base: base,
-            other: other,
+            base,
+            other,
         };
     }
     let key = &line[..key_end];

@@ -1,58 +1,43 @@
--- `finding::locate` meets its contract: the tests in their order, and the two searches by their spots. Assumes nothing.
-use mathlib.Core.Path.{sym, ap, ◌∙◌}
+-- `finding::locate` meets its contract: the tests in their order, and the two searches by what they find. Assumes nothing.
+use mathlib.Core.Path.{◌≡◌, sym, ap, ◌∙◌}
+use borrow.Author.Tests.{eqb-true}
+use lib.ListN.{length}
+use Rattle.std.proofs.Common.{rules, tests}
 use Rattle.transcripts.specs.Finding.{told}
 use Rattle.transcripts.proofs.FindingLaws.{empty-key, no-occurrence, in-original, in-copy, in-neither}
+use Rattle.transcripts.proofs.finding.locate.Goals.{Else-occurrence-eq0, then-is_empty-via-then-is_empty, then-is_empty-via-else-is_empty+then-occurrence-eq0}
 use Rattle.transcripts.proofs.finding.locate.Goals as goal
 
-pub returns-then-key-eq0 : goal.returns-then-key-eq0
-returns-then-key-eq0 c =
-    let a = c.args in
-    ap told c.refuse.ensures ∙ sym (empty-key a.original.now a.copy.now a.key.now a.occurrence c.if-key-eq0.true)
+-- a key that is not empty
+keyed : (c : Else-occurrence-eq0) → length c.args.key.now ≡ 0 → ⊥
+keyed c z = search (rules, tests)
 
-pub returns-then-occurrence-eq0 : goal.returns-then-occurrence-eq0
-returns-then-occurrence-eq0 c =
+pub returns-then-is_empty : goal.returns-then-is_empty
+returns-then-is_empty c =
     let a = c.args in
-    ap told c.refuse-then-occurrence-eq0.ensures ∙ sym (no-occurrence a.original.now a.copy.now a.key.now a.occurrence
-    c.if-occurrence-eq0.true)
+    ap told c.refuse.ensures ∙ sym (elim c.then-is_empty.branch [
+      | then-is_empty-via-then-is_empty w ↦ empty-key a.original.now a.copy.now a.key.now a.occurrence (eqb-true _ _ (sym w.if-is_empty.ensures))
+      | then-is_empty-via-else-is_empty+then-occurrence-eq0 w ↦
+          no-occurrence a.original.now a.copy.now a.key.now a.occurrence w.if-occurrence-eq0.true
+    ])
 
-pub returns-in-At : goal.returns-in-At
-returns-in-At c =
+pub returns-in-Some : goal.returns-in-Some
+returns-in-Some c =
     let a = c.args in
     ap told c.found.ensures
-    ∙ sym (in-original a.original.now a.copy.now a.key.now a.occurrence c.if-key-eq0.false c.if-occurrence-eq0.false _ _
-    (sym c.in-At.is ∙ c.seek-here.ensures))
+    ∙ sym (in-original a.original.now a.copy.now a.key.now a.occurrence (keyed (goal.at.returns-in-Some c).Else-occurrence-eq0)
+    c.if-occurrence-eq0.false _ _ c.in-Some.ensures)
 
-pub returns-in-At-there : goal.returns-in-At-there
-returns-in-At-there c =
+pub returns-in-Some-seek : goal.returns-in-Some-seek
+returns-in-Some-seek c =
     let a = c.args in
-    ap told c.found-in-At-there.ensures
-    ∙ sym (in-copy a.original.now a.copy.now a.key.now a.occurrence c.if-key-eq0.false c.if-occurrence-eq0.false
-    (sym c.in_default.is ∙ c.seek-here.ensures) _ _ (sym c.in-At-there.is ∙ c.seek-there.ensures))
+    ap told c.found-in-Some-seek.ensures
+    ∙ sym (in-copy a.original.now a.copy.now a.key.now a.occurrence (keyed (goal.at.returns-in-Some-seek c).Else-occurrence-eq0)
+    c.if-occurrence-eq0.false c.in_default.ensures _ _ c.in-Some-seek.ensures)
 
 pub returns : goal.returns
 returns c =
     let a = c.args in
     ap told c.refuse-2.ensures
-    ∙ sym (in-neither a.original.now a.copy.now a.key.now a.occurrence c.if-key-eq0.false c.if-occurrence-eq0.false
-    (sym c.in_default.is ∙ c.seek-here.ensures) (sym c.in_default-there.is ∙ c.seek-there.ensures))
-
-pub refuse-requires : goal.refuse-requires
-refuse-requires c = tt
-
-pub refuse-requires-then-occurrence-eq0 : goal.refuse-requires-then-occurrence-eq0
-refuse-requires-then-occurrence-eq0 c = tt
-
-pub seek-here-requires : goal.seek-here-requires
-seek-here-requires c = tt
-
-pub found-requires : goal.found-requires
-found-requires c = tt
-
-pub seek-there-requires : goal.seek-there-requires
-seek-there-requires c = tt
-
-pub found-requires-in-At-there : goal.found-requires-in-At-there
-found-requires-in-At-there c = tt
-
-pub refuse-requires-2 : goal.refuse-requires-2
-refuse-requires-2 c = tt
+    ∙ sym (in-neither a.original.now a.copy.now a.key.now a.occurrence (keyed (goal.at.returns c).Else-occurrence-eq0)
+    c.if-occurrence-eq0.false c.in_default.ensures c.in_default-seek.ensures)

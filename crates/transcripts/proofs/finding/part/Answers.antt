@@ -59,6 +59,3 @@ returns-in-Copy c =
       bytes = part-taken a.copy.now q.result.begins q.result.ends
           (low a.original.now a.copy.now a.place _ q.ensures);
     })
-
-pub confine-p-requires : goal.confine-p-requires
-confine-p-requires c = tt

@@ -5,6 +5,3 @@ use Rattle.transcripts.proofs.finding.refuse.Goals as goal
 
 pub returns : goal.returns
 returns c = ap (λ (p : Place). record { answer = c.args.answer; place = p }) c.empty_front.ensures
-
-pub empty_front-requires : goal.empty_front-requires
-empty_front-requires c = tt

@@ -49,6 +49,3 @@ returns c =
 
 pub slice_bounds-has_key-count : goal.slice_bounds-has_key-count
 slice_bounds-has_key-count c = c.part_end-end.ensures.low
-
-pub has_key-requires : goal.has_key-requires
-has_key-requires c = tt

@@ -2,7 +2,7 @@
 use native.Mathlib.Omega.{arith}
 use mathlib.Core.Path.{refl, sym, ap, ◌∙◌}
 use borrow.Author.Rules.{rules}
-use Rattle.transcripts.specs.Inner.{spot_of}
+use Rattle.transcripts.specs.Inner.{span_of}
 use Rattle.transcripts.proofs.TurnLaws.{first_past, first-here, first-none}
 use Rattle.transcripts.proofs.lines.first_keyed.Goals as goal
 
@@ -19,7 +19,7 @@ pub returns-then-part_end-line : goal.returns-then-part_end-line
 returns-then-part_end-line c =
     let l = c.loop-at in
     let a = c.args in
-    sym (ap spot_of (l.invariant ∙ first-here a.s.now l.at c.part_end-end.result c.loop-at-test.true c.part_end-end.ensures _
+    sym (ap span_of (l.invariant ∙ first-here a.s.now l.at c.part_end-end.result c.loop-at-test.true c.part_end-end.ensures _
     c.part_end.ensures c.if-part_end-line.true))
 
 pub overflow_add-at : goal.overflow_add-at
@@ -41,7 +41,7 @@ pub returns : goal.returns
 returns c =
     let l = c.loop-at in
     let a = c.args in
-    sym (ap spot_of (l.invariant ∙ first-none a.s.now l.at c.loop-at-test.false))
+    sym (ap span_of (l.invariant ∙ first-none a.s.now l.at c.loop-at-test.false))
 
 pub slice_bounds-line-count : goal.slice_bounds-line-count
 slice_bounds-line-count c = c.part_end-end.ensures.low

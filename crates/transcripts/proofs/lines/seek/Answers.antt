@@ -4,7 +4,7 @@ use native.Mathlib.Omega.{arith}
 use mathlib.Core.Path.{refl, sym, ap, ◌∙◌}
 use Prim.Native.Nat.{ℕ, ◌+◌}
 use borrow.Author.Rules.{rules}
-use Rattle.transcripts.specs.Inner.{lines_from, behind_others, spot_of}
+use Rattle.transcripts.specs.Inner.{lines_from, behind_others, span_of}
 use Rattle.transcripts.proofs.TurnLaws.{seek-past, seek-here, seek-on, seek-none}
 use Rattle.transcripts.proofs.lines.seek.Goals.{then-has_key+else-others-eq0, else-has_key}
 use Rattle.transcripts.proofs.lines.seek.Goals as goal
@@ -22,7 +22,7 @@ pub returns-then-others-eq0 : goal.returns-then-others-eq0
 returns-then-others-eq0 c =
     let l = c.loop-at in
     let a = c.args in
-    sym (ap spot_of (l.invariant ∙ ap (λ (n : ℕ). behind_others a.key.now n (lines_from a.s.now l.at)) c.if-others-eq0.true
+    sym (ap span_of (l.invariant ∙ ap (λ (n : ℕ). behind_others a.key.now n (lines_from a.s.now l.at)) c.if-others-eq0.true
     ∙ seek-here a.s.now l.at c.part_end-end.result c.loop-at-test.true c.part_end-end.ensures a.key.now
     (sym c.if-has_key.true ∙ c.has_key.ensures)))
 
@@ -54,10 +54,7 @@ pub returns : goal.returns
 returns c =
     let l = c.loop-at in
     let a = c.args in
-    sym (ap spot_of (l.invariant ∙ seek-none a.s.now a.key.now l.others l.at c.loop-at-test.false))
+    sym (ap span_of (l.invariant ∙ seek-none a.s.now a.key.now l.others l.at c.loop-at-test.false))
 
 pub slice_bounds-has_key-count : goal.slice_bounds-has_key-count
 slice_bounds-has_key-count c = c.part_end-end.ensures.low
-
-pub has_key-requires : goal.has_key-requires
-has_key-requires c = tt

@@ -2,8 +2,8 @@
 use mathlib.Core.Path.{refl, ap, ◌∙◌}
 use Prim.Native.Nat.{ℕ}
 use lib.Seq.{slice}
-use Rattle.transcripts.specs.Inner.{lines_from, spot_of, behind_others, held_at}
-use Rattle.transcripts.proofs.Standing.{spot-lies, behind-stands}
+use Rattle.transcripts.specs.Inner.{lines_from, span_of, behind_others, held_at}
+use Rattle.transcripts.proofs.Standing.{span-lies, behind-stands}
 use Rattle.transcripts.proofs.listing.turn_apart.Goals as goal
 
 pub hold-held-requires : goal.hold-held-requires
@@ -11,10 +11,10 @@ hold-held-requires c =
     let a = c.args in
     let n = c.count_key-n.result in
     let lies =
-    spot-lies a.copy.now c.seek-spot.result (behind_others a.key.now n (lines_from a.copy.now a.other)) c.seek-spot.ensures
+    span-lies a.copy.now c.seek-span.result (behind_others a.key.now n (lines_from a.copy.now a.other)) c.seek-span.ensures
     (behind-stands a.copy.now a.key.now n a.other)
     in
-    record { at_le_end = c.requires.at_le_end; end_in_bounds = c.requires.end_in_bounds; spot_in = lies }
+    record { at_le_end = c.requires.at_le_end; end_in_bounds = c.requires.end_in_bounds; span_in = lies }
 
 pub returns : goal.returns
 returns c =
@@ -26,10 +26,7 @@ returns c =
       held = λ xs b.
           c.hold-held.ensures
           ∙ ap (held_at (slice a.at a.end a.original.now) a.copy.now)
-          (c.seek-spot.ensures
-          ∙ ap (λ (n : ℕ). spot_of (behind_others a.key.now n (lines_from a.copy.now a.other)))
+          (c.seek-span.ensures
+          ∙ ap (λ (n : ℕ). span_of (behind_others a.key.now n (lines_from a.copy.now a.other)))
           (c.count_key-n.ensures.right xs b));
     }
-
-pub seek-spot-requires : goal.seek-spot-requires
-seek-spot-requires c = tt
