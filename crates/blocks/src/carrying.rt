@@ -11,18 +11,10 @@ const MOST_HELD: usize = LONGEST_LINE + 1;
 pub fn carry(block: &mut [u8], from: usize, to: usize) -> usize
     ensures { record { held = result; block = block.new } ≡ carried block.old from to }
 {
-    if to < from {
+    if to < from || block.len() < to {
         return 0;
     }
-    if block.len() < to {
-        return 0;
-    }
-    let left = to - from;
-    let n = if left < MOST_HELD { left } else { MOST_HELD };
-    let mut i: usize = 0;
-    while i < n {
-        block[i] = block[from + i];
-        i += 1;
-    }
+    let n = (to - from).min(MOST_HELD);
+    block.copy_within(from..from + n, 0);
     n
 }

@@ -15,7 +15,7 @@ pub fn print_block(tables: Tables, block: &[u8], at: usize, out: &mut [u8]) -> T
 {
     let mut last = Outcome {
         answer: Answer::Done(0),
-        tables: tables,
+        tables,
     };
     let mut from = at;
     let mut used: usize = 0;
@@ -26,7 +26,7 @@ pub fn print_block(tables: Tables, block: &[u8], at: usize, out: &mut [u8]) -> T
             return Turn {
                 tables: t,
                 place: from,
-                used: used,
+                used,
             };
         }
         last = console::print_line(last.tables, &block[from..end], &mut out[used..]);
@@ -39,6 +39,6 @@ pub fn print_block(tables: Tables, block: &[u8], at: usize, out: &mut [u8]) -> T
     Turn {
         tables: t,
         place: from,
-        used: used,
+        used,
     }
 }
