@@ -19,7 +19,7 @@ use Rattle.console.specs.declared.Said.{Said}
 use Rattle.console.specs.declared.Said.TheVariants.{Bad, Page, Asks, Ticks}
 use Rattle.console.specs.Line.{Line, bad, PAGE, asks, ticks, line_of}
 use Rattle.console.specs.Console.{obeyed, keyed, keyed_in}
-use Rattle.console.specs.Inner.{obeys, refusing, is_page, saying}
+use Rattle.console.specs.Inner.{obeys, refusing, is_page, says}
 
 -- a line keyed in is obeyed as what it says
 pub keyed-obeys : (t : Tables) (l buf : List ℕ) → keyed t l buf ≡ obeys t buf (line_of l)
@@ -71,8 +71,8 @@ pub refusing-unsound : (t : Tables) → sound t ≡ false → told (record { ans
 refusing-unsound t e = rw (e, refusing)
 
 -- what is not PAGE
-pub page-unsaid : (nm : List ℕ) (a : Said) → is_page a ≡ false → saying nm a ≡ PAGE → ⊥
-page-unsaid nm Bad e s = let z : ◌≡◌ {A = ℕ} 0 1 = cc in omega arith
-page-unsaid nm Page e s = false-true (sym e)
-page-unsaid nm (Asks q) e s = let z : ◌≡◌ {A = ℕ} 0 1 = cc in omega arith
-page-unsaid nm (Ticks n) e s = let z : ◌≡◌ {A = ℕ} 0 1 = cc in omega arith
+pub page-unsaid : (a : Said) → is_page a ≡ false → says a ≡ PAGE → ⊥
+page-unsaid Bad e s = let z : ◌≡◌ {A = ℕ} 0 1 = cc in omega arith
+page-unsaid Page e s = false-true (sym e)
+page-unsaid (Asks q) e s = let z : ◌≡◌ {A = ℕ} 0 1 = cc in omega arith
+page-unsaid (Ticks n) e s = let z : ◌≡◌ {A = ℕ} 0 1 = cc in omega arith

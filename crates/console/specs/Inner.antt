@@ -20,23 +20,19 @@ use Rattle.tables.specs.Calls.{Result}
 use Rattle.page.specs.Paging.{Written}
 use Rattle.console.specs.declared.Said.{Said}
 use Rattle.console.specs.declared.Said.TheVariants.{Bad, Page, Asks, Ticks}
-use Rattle.console.specs.declared.Command.{Command}
 use Rattle.console.specs.declared.words.Word.{Word}
 use Rattle.console.specs.Line.{Line, bad, PAGE, asks, ticks, Form, over, bare_or, number, name, Entry, word}
 use Rattle.console.specs.Line.{unknown, ◌↝◌, calls, execs, numbers, forms}
 use Rattle.console.specs.Console.{obeyed}
 
--- what the code's commands say, in the grammar's terms
-abbrev pub saying : List ℕ → Said → Line
-saying nm Bad = bad
-saying nm Page = PAGE
-saying nm (Asks q) = asks (the_request nm q)
-saying nm (Ticks n) = ticks n
+-- what the code's lines say, in the grammar's terms
+abbrev pub says : Said → Line
+says Bad = bad
+says Page = PAGE
+says (Asks q) = asks (the_request q)
+says (Ticks n) = ticks n
 
-abbrev pub says : Command → Line
-says x = saying x.name x.said
-
-abbrev pub says_or_bad : Option Command → Line
+abbrev pub says_or_bad : Option Said → Line
 says_or_bad None = bad
 says_or_bad (Some x) = says x
 
@@ -106,24 +102,24 @@ rows =
 abbrev pub row_at : ℕ → Word
 row_at i = get_or rows i (lead 0 0 0)
 
-unfoldable pub requests : ℕ → ℕ → ℕ → ℕ → List Said
-requests a b c d =
+unfoldable pub requests : List ℕ → ℕ → ℕ → ℕ → ℕ → List Said
+requests nm a b c d =
     Bad
-    ∷ Asks (Fresh a b c d) ∷ Asks (Load a) ∷ Asks (Operator Ru) ∷ Asks (Operator Ss) ∷ Asks (Operator Go) ∷ Asks (Operator (Pr a))
-    ∷ Asks (Operator (Of a)) ∷ Asks Tick ∷ Bad ∷ Bad ∷ Page
+    ∷ Asks (Fresh a b c d) ∷ Asks (Load nm a) ∷ Asks (Operator Ru nm) ∷ Asks (Operator Ss nm) ∷ Asks (Operator Go nm) ∷ Asks (Operator (Pr a) nm)
+    ∷ Asks (Operator (Of a) nm) ∷ Asks Tick ∷ Bad ∷ Bad ∷ Page
     ∷ Asks (Running (Exec4 a b)) ∷ Asks (Running (Exec15 a b)) ∷ Asks (Running (Exec5 a b)) ∷ Asks (Running (Exec16 a b))
-    ∷ Asks (Running Exec6) ∷ Asks (Running Exec7) ∷ Asks (Running Exec11) ∷ Asks (Running Exec9) ∷ Asks (Running Exec10)
-    ∷ Asks (Running (Exec12 a b c))
+    ∷ Asks (Running Exec6) ∷ Asks (Running Exec7) ∷ Asks (Running Exec11) ∷ Asks (Running (Exec9 nm)) ∷ Asks (Running (Exec10 nm))
+    ∷ Asks (Running (Exec12 nm a b c))
     ∷ Bad ∷ Asks (Running (Lock a b)) ∷ Asks (Running (Clear a)) ∷ Asks (Running (Free a))
     ∷ Asks (Running (Alloc false a)) ∷ Asks (Running (Alloc true a))
     ∷ Asks (Running Exec5All) ∷ Ticks a
     ∷ []
 
-abbrev pub said_with : ℕ → List ℕ → Said
-said_with i ns = get_or (by_four requests ns) i Bad
+abbrev pub said_with : ℕ → List ℕ → List ℕ → Said
+said_with i nm ns = get_or (by_four (requests nm) ns) i Bad
 
 abbrev pub request : ℕ → List ℕ → Counted
-request i nm a b c d = saying nm (get_or (requests a b c d) i Bad)
+request i nm a b c d = says (get_or (requests nm a b c d) i Bad)
 
 abbrev pub taking : Bool → ℕ → Bool → ℕ → Form
 taking true n spare i = name (λ nm. counted n spare (request i nm))

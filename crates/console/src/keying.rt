@@ -8,7 +8,7 @@ ghost use Rattle.console.specs.Console.{keyed};
 ghost use Rattle.console.specs.Sheet.{line_shown};
 ghost use Rattle.console.specs.Inner.{obeys, refusing, says, answer_bytes};
 
-use super::{Command, Said, answers, parse};
+use super::{Said, answers, parse};
 use limits::PAGE_ROOM;
 use rules::Answer;
 use tables::{Outcome, Tables};
@@ -24,17 +24,17 @@ fn refusal(tables: Tables) -> Answer
     }
 }
 
-// What a command does.
-fn obey(tables: Tables, command: Command, buf: &mut [u8]) -> Outcome
-    ensures { beside buf.new (told result) ≡ obeys tables buf.old (says command) }
+// What a line that says so does.
+fn obey(tables: Tables, said: Said, buf: &mut [u8]) -> Outcome
+    ensures { beside buf.new (told result) ≡ obeys tables buf.old (says said) }
 {
-    match command.said {
+    match said {
         Said::Bad => Outcome {
             answer: refusal(tables),
             tables,
         },
         Said::Page => page::write_page(tables, buf),
-        Said::Asks(q) => tables.ask(command.name, q),
+        Said::Asks(q) => tables.ask(q),
         Said::Ticks(n) => tables.ticks(n),
     }
 }
@@ -82,10 +82,10 @@ pub fn print_line(tables: Tables, line: &[u8], out: &mut [u8]) -> Outcome
             tables,
         };
     }
-    let command = parse::command_of(line);
-    if let Said::Page = command.said {
+    let said = parse::command_of(line);
+    if let Said::Page = said {
         return print_page(tables, out);
     }
-    let outcome = obey(tables, command, out);
+    let outcome = obey(tables, said, out);
     print_outcome(outcome, out)
 }

@@ -21,10 +21,3 @@ pub enum Said {
     Asks(Request),
     Ticks(u64),
 }
-
-// The same, with the name in it; five blanks where there is none.
-#[derive(Clone, Copy)]
-pub struct Command {
-    pub name: [u8; 5],
-    pub said: Said,
-}

@@ -1,10 +1,10 @@
-// What a line says. A wrong word, field count or field form is none of it, and leaves with `Bad`, which is answered 13.
+// What a line says. A wrong word, field count or field form is none of it: the line says `Bad`, which is answered 13.
 ghost use Rattle.std.specs.Prelude.{◌≡◌, ◌≤◌, ◌<◌, length};
 ghost use Rattle.limits.specs.Limits.{longest_line};
 ghost use Rattle.console.specs.Line.{line_of};
 ghost use Rattle.console.specs.Inner.{no_word, fields_from, counted, request, ended, says, says_or_bad};
 
-use super::{Command, Said, fields, words};
+use super::{Said, fields, words};
 use limits::LONGEST_LINE;
 
 // Behind word `last` and a name the line ends with k numbers, or with one less where the last is spare.
@@ -15,18 +15,17 @@ fn with_numbers(
     name: [u8; 5],
     k: usize,
     spare: bool,
-) -> Option<Command>
+) -> Option<Said>
     requires s_len_bound { length s.now ≤ longest_line }
     requires last_lt_no_word { last < no_word }
     ensures { says_or_bad result ≡ counted k spare (request last name) (fields_from s.now at) }
 {
     let numbers = fields::read_numbers(s, at, k, spare)?;
-    let said = words::said_by(last, numbers);
-    Some(Command { name, said })
+    Some(words::said_by(last, name, numbers))
 }
 
 // Behind word `last` there is no other.
-fn end_of(s: &[u8], at: usize, last: usize) -> Option<Command>
+fn end_of(s: &[u8], at: usize, last: usize) -> Option<Said>
     requires s_len_bound { length s.now ≤ longest_line }
     requires last_lt_no_word { last < no_word }
     ensures { says_or_bad result ≡ ended last (fields_from s.now at) }
@@ -41,7 +40,7 @@ fn end_of(s: &[u8], at: usize, last: usize) -> Option<Command>
 }
 
 // Word after word is taken, as long as there is one behind the last.
-fn read_line(s: &[u8]) -> Option<Command>
+fn read_line(s: &[u8]) -> Option<Said>
     ensures { says_or_bad result ≡ line_of s.now }
 {
     if LONGEST_LINE < s.len() {
@@ -65,14 +64,8 @@ fn read_line(s: &[u8]) -> Option<Command>
 }
 
 // What a line of any bytes says.
-pub(crate) fn command_of(s: &[u8]) -> Command
+pub(crate) fn command_of(s: &[u8]) -> Said
     ensures { says result ≡ line_of s.now }
 {
-    match read_line(s) {
-        Some(command) => command,
-        None => Command {
-            name: [b' '; 5],
-            said: Said::Bad,
-        },
-    }
+    read_line(s).unwrap_or(Said::Bad)
 }

@@ -91,22 +91,22 @@ fn texts() -> &'static [&'static [u8]]
     &TEXTS
 }
 
-// What a line says whose last word is word i, by as many of the numbers as come behind it. It stands in a table like the others: a `match`
-// is no plainer, since its proof has an answer for each of the 30 words, and the table's has one.
-pub(crate) fn said_by(i: usize, numbers: [u64; 4]) -> Said
+// What a line says whose last word is word i, by the name and as many of the numbers as come behind it. It stands in a table like the others: a
+// `match` is no plainer, since its proof has an answer for each of the 30 words, and the table's has one.
+pub(crate) fn said_by(i: usize, name: [u8; 5], numbers: [u64; 4]) -> Said
     requires { i < no_word }
-    ensures { result ≡ said_with i numbers }
+    ensures { result ≡ said_with i name numbers }
 {
     let [a, b, c, d] = numbers;
     let all = [
         Said::Bad,
         Said::Asks(Request::Fresh(a, b, c, d)),
-        Said::Asks(Request::Load(a)),
-        Said::Asks(Request::Operator(Order::Ru)),
-        Said::Asks(Request::Operator(Order::Ss)),
-        Said::Asks(Request::Operator(Order::Go)),
-        Said::Asks(Request::Operator(Order::Pr(a))),
-        Said::Asks(Request::Operator(Order::Of(a))),
+        Said::Asks(Request::Load(name, a)),
+        Said::Asks(Request::Operator(Order::Ru, name)),
+        Said::Asks(Request::Operator(Order::Ss, name)),
+        Said::Asks(Request::Operator(Order::Go, name)),
+        Said::Asks(Request::Operator(Order::Pr(a), name)),
+        Said::Asks(Request::Operator(Order::Of(a), name)),
         Said::Asks(Request::Tick),
         Said::Bad,
         Said::Bad,
@@ -118,9 +118,9 @@ pub(crate) fn said_by(i: usize, numbers: [u64; 4]) -> Said
         Said::Asks(Request::Running(Call::Exec6)),
         Said::Asks(Request::Running(Call::Exec7)),
         Said::Asks(Request::Running(Call::Exec11)),
-        Said::Asks(Request::Running(Call::Exec9)),
-        Said::Asks(Request::Running(Call::Exec10)),
-        Said::Asks(Request::Running(Call::Exec12(a, b, c))),
+        Said::Asks(Request::Running(Call::Exec9(name))),
+        Said::Asks(Request::Running(Call::Exec10(name))),
+        Said::Asks(Request::Running(Call::Exec12(name, a, b, c))),
         Said::Bad,
         Said::Asks(Request::Running(Call::Lock(a, b))),
         Said::Asks(Request::Running(Call::Clear(a))),

@@ -15,19 +15,19 @@ use Rattle.decisions.specs.declared.Effect.TheVariants.{Stay}
 use Rattle.decisions.specs.declared.Decision.{Decision}
 use Rattle.decisions.specs.Inner.{Decides, OfTracks, OfNumbers, OfBook}
 
-module _ (v : View) (nm : List ℕ) where
-  pub like : {x y : Plan} {d : Decision} → x ≡ y → Decides v nm y d → Decides v nm x d
-  like {d = d} e D = subst (λ z. Decides v nm z d) (sym e) D
+module _ (v : View) where
+  pub like : {x y : Plan} {d : Decision} → x ≡ y → Decides v y d → Decides v x d
+  like {d = d} e D = subst (λ z. Decides v z d) (sym e) D
 
-  pub same : {x : Plan} {d e : Decision} → d ≡ e → Decides v nm x e → Decides v nm x d
-  same {x = x} e D = subst (Decides v nm x) (sym e) D
+  pub same : {x : Plan} {d e : Decision} → d ≡ e → Decides v x e → Decides v x d
+  same {x = x} e D = subst (Decides v x) (sym e) D
 
   pub stays : (a : Answer) (n : ℕ) {x : Plan} → values a ≡ n ∷ [] → x ≡ refused (number a) n
-      → Decides v nm x (record { answer = a; effect = Stay })
+      → Decides v x (record { answer = a; effect = Stay })
   stays a n w e = like e (record { number = refl; values = w; events = refl; apt = tt })
 
   pub rests : (a : Answer) (vs : List ℕ) {x : Plan} {d : Decision} → d ≡ record { answer = a; effect = Stay } → number a ≡ 0 → values a ≡ vs
-      → x ≡ done vs [] → Decides v nm x d
+      → x ≡ done vs [] → Decides v x d
   rests a vs D n w e = like e (same D (record { number = n; values = w; events = refl; apt = tt }))
 
 -- a test that cannot be passed

@@ -42,31 +42,31 @@ tick_events b = clocked (b.clock + 1) ∷ join (map (λ p. ticked p (at b p)) (k
 abbrev pub starts_now : Book → ℕ → Bool
 starts_now b p = due_at b p && eqb (state_of b p) dormant
 
--- what happens, by the effect; nm is the name that stands beside
-abbrev pub events_for : View → List ℕ → Effect → List Event
-events_for v nm Stay = []
-events_for v nm (Renew T S R Y) = renewed T S R Y ∷ []
-events_for v nm (Load p n) = on p (loaded nm n) ∷ []
-events_for v nm (Price p n) = on p (priced n) ∷ []
-events_for v nm (Time p d i) = on p (timed d i) ∷ []
-events_for v nm (Mark p) = on p marked ∷ []
-events_for v nm (Become p s w) = on p (becomes s w) ∷ []
-events_for v nm (Await p c) = on p (becomes scheduled why.Nothing) ∷ on c (becomes general (why.Son p)) ∷ []
-events_for v nm (Dismiss p k n) =
+-- what happens, by the effect
+abbrev pub events_for : View → Effect → List Event
+events_for v Stay = []
+events_for v (Renew T S R Y) = renewed T S R Y ∷ []
+events_for v (Load p nm n) = on p (loaded nm n) ∷ []
+events_for v (Price p n) = on p (priced n) ∷ []
+events_for v (Time p d i) = on p (timed d i) ∷ []
+events_for v (Mark p) = on p marked ∷ []
+events_for v (Become p s w) = on p (becomes s w) ∷ []
+events_for v (Await p c) = on p (becomes scheduled why.Nothing) ∷ on c (becomes general (why.Son p)) ∷ []
+events_for v (Dismiss p k n) =
     (dismissed k p ++ (held (replaced p nobody v.book.holders) ∷ quit v p ∷ [])) ++ wake (woken v (ends v p n))
-events_for v nm (End p) = on p (becomes dormant why.Nothing) ∷ quit v p ∷ wake (woken v (ends v p 0))
-events_for v nm (Take i n h) = held (filled i n h v.book.holders) ∷ []
-events_for v nm (Give i n) = held (filled i n nobody v.book.holders) ∷ wake (woken v (frees n))
-events_for v nm (GiveAll c n) = held (replaced c nobody v.book.holders) ∷ wake (woken v (frees n))
-events_for v nm (Number r o l) = assigned v r o l ∷ []
-events_for v nm (Release r o l d) = assigned v r o l ∷ wake (woken v (clears r d))
-events_for v nm Tick = tick_events v.book
+events_for v (End p) = on p (becomes dormant why.Nothing) ∷ quit v p ∷ wake (woken v (ends v p 0))
+events_for v (Take i n h) = held (filled i n h v.book.holders) ∷ []
+events_for v (Give i n) = held (filled i n nobody v.book.holders) ∷ wake (woken v (frees n))
+events_for v (GiveAll c n) = held (replaced c nobody v.book.holders) ∷ wake (woken v (frees n))
+events_for v (Number r o l) = assigned v r o l ∷ []
+events_for v (Release r o l d) = assigned v r o l ∷ wake (woken v (clears r d))
+events_for v Tick = tick_events v.book
 
 -- the number and the values: those of the answer, or what the effect tells: how many are woken or started, and 0 for new tables
 abbrev pub reply_for : View → Answer → Effect → ℕ × List ℕ
 reply_for v a Stay = (number a, values a)
 reply_for v a (Renew T S R Y) = (0, 0 ∷ [])
-reply_for v a (Load p n) = (number a, values a)
+reply_for v a (Load p nm n) = (number a, values a)
 reply_for v a (Price p n) = (number a, values a)
 reply_for v a (Time p d i) = (number a, values a)
 reply_for v a (Mark p) = (number a, values a)
@@ -94,7 +94,7 @@ pub record Sizes (T S R Y : ℕ) : Type 0 where
 abbrev pub Apt : View → Effect → Type 0
 Apt v Stay = Unit {0}
 Apt v (Renew T S R Y) = Sizes T S R Y
-Apt v (Load p n) = Known p
+Apt v (Load p nm n) = Known p
 Apt v (Price p n) = Known p
 Apt v (Time p d i) = Known p
 Apt v (Mark p) = Known p
@@ -110,10 +110,10 @@ Apt v (Release r o l d) = (1 ≤ r) × (r ≤ v.book.numbers)
 Apt v Tick = v.book.clock < ceiling
 
 -- the decision is the plan's
-pub record Decides (v : View) (nm : List ℕ) (x : Plan) (d : Decision) : Type 0 where
+pub record Decides (v : View) (x : Plan) (d : Decision) : Type 0 where
   pub number : (reply_for v d.answer d.effect).0 ≡ number_of x
   pub values : (reply_for v d.answer d.effect).1 ≡ values_of x
-  pub events : events_for v nm d.effect ≡ events_of v x
+  pub events : events_for v d.effect ≡ events_of v x
   pub apt : Apt v d.effect
 
 -- what it comes to where it may be refused: a refusal leaves everything as it is

@@ -30,7 +30,7 @@ pub fn may_start(tracks: u64, system: u64, numbers: u64, year: u64) -> bool
 }
 
 fn renews(tracks: u64, system: u64, numbers: u64, year: u64) -> Result<Decision, Answer>
-    ensures { (v : View) (nm : List ℕ) → Decides v nm (plan v (FRESH tracks system numbers year)) (settled result) }
+    ensures { (v : View) → Decides v (plan v (FRESH tracks system numbers year)) (settled result) }
 {
     if !may_start(tracks, system, numbers, year) {
         return Err(Answer::NotAllowed);
@@ -43,7 +43,7 @@ fn renews(tracks: u64, system: u64, numbers: u64, year: u64) -> Result<Decision,
 
 // TICK, unless the clock stands at its ceiling.
 fn ticks_on(ticks: u64) -> Result<Decision, Answer>
-    ensures { (v : View) (nm : List ℕ) → v.book.clock ≡ ticks → Decides v nm (plan v TICK) (settled result) }
+    ensures { (v : View) → v.book.clock ≡ ticks → Decides v (plan v TICK) (settled result) }
 {
     if Clock::CEILING <= ticks {
         return Err(Answer::AtCeiling);
@@ -69,21 +69,21 @@ fn task_of(o: Order) -> Task
 // A task of the program of that name.
 fn asks(book: &Ledger, c: u8, name: [u8; 5], task: Task) -> Result<Decision, Answer>
     requires { CanAsk book.now.tracks book.now.clock.ticks c task }
-    ensures { (v : View) (nm : List ℕ) → v.book ≡ book_of book.now → Decides v nm (asking v c name task) (settled result) }
+    ensures { (v : View) → v.book ≡ book_of book.now → Decides v (asking v c name task) (settled result) }
 {
     naming::upon(&book.programs, book.tracks, book.clock.ticks, c, name, task)
 }
 
 fn loads(book: &Ledger, name: [u8; 5], priority: u64) -> Result<Decision, Answer>
-    ensures { (v : View) → v.book ≡ book_of book.now → Decides v name (plan v (LOAD name priority)) (settled result) }
+    ensures { (v : View) → v.book ≡ book_of book.now → Decides v (plan v (LOAD name priority)) (settled result) }
 {
     naming::loads(&book.programs, name, priority)
 }
 
 // What program c asks.
-fn called(book: &Ledger, c: u8, name: [u8; 5], q: Call) -> Result<Decision, Answer>
+fn called(book: &Ledger, c: u8, q: Call) -> Result<Decision, Answer>
     requires { CanCall book.now c }
-    ensures { (v : View) (nm : List ℕ) → v.book ≡ book_of book.now → Decides v nm (call v c (the_call name q)) (settled result) }
+    ensures { (v : View) → v.book ≡ book_of book.now → Decides v (call v c (the_call q)) (settled result) }
 {
     match q {
         Call::Exec4(n, w) => discs::takes(book.tracks, c, c, n, w),
@@ -100,9 +100,9 @@ fn called(book: &Ledger, c: u8, name: [u8; 5], q: Call) -> Result<Decision, Answ
             effect: Effect::Become(c, SUSPENDED, Why::Nothing),
         }),
         Call::Exec11 => Ok(stay(Answer::Told(book.clock.time()))),
-        Call::Exec9 => asks(book, c, name, Task::Await),
-        Call::Exec10 => asks(book, c, name, Task::Send),
-        Call::Exec12(r, m, o) => asks(book, c, name, Task::Time(r, m, o)),
+        Call::Exec9(name) => asks(book, c, name, Task::Await),
+        Call::Exec10(name) => asks(book, c, name, Task::Send),
+        Call::Exec12(name, r, m, o) => asks(book, c, name, Task::Time(r, m, o)),
         Call::Alloc(global, w) => numbering::allocates(book.numbers, c, global, w),
         Call::Lock(r, w) => numbering::of_number(book.numbers, c, r, Wanted::Lock(w)),
         Call::Clear(r) => numbering::of_number(book.numbers, c, r, Wanted::Clear),
@@ -111,28 +111,28 @@ fn called(book: &Ledger, c: u8, name: [u8; 5], q: Call) -> Result<Decision, Answ
 }
 
 // What a request comes to where c is the caller, or 0: the one place where a call of the running program begins.
-fn decided(book: &Ledger, c: u8, name: [u8; 5], q: Request) -> Result<Decision, Answer>
+fn decided(book: &Ledger, c: u8, q: Request) -> Result<Decision, Answer>
     requires { CanDecide book.now c }
-    ensures { (v : View) → v.book ≡ book_of book.now → head (v.chain 1) ≡ c → Decides v name (plan v (the_request name q)) (settled result) }
+    ensures { (v : View) → v.book ≡ book_of book.now → head (v.chain 1) ≡ c → Decides v (plan v (the_request q)) (settled result) }
 {
     match q {
         Request::Fresh(t, s, r, y) => renews(t, s, r, y),
-        Request::Load(n) => loads(book, name, n),
-        Request::Operator(o) => asks(book, 0, name, task_of(o)),
+        Request::Load(name, n) => loads(book, name, n),
+        Request::Operator(o, name) => asks(book, 0, name, task_of(o)),
         Request::Tick => ticks_on(book.clock.ticks),
         Request::Running(call) => {
             if c == 0 {
                 return Err(Answer::NoCaller);
             }
-            called(book, c, name, call)
+            called(book, c, call)
         }
     }
 }
 
 // The same; a refusal is an answer, and nothing happens.
-pub fn decide(book: &Ledger, c: u8, name: [u8; 5], q: Request) -> Decision
+pub fn decide(book: &Ledger, c: u8, q: Request) -> Decision
     requires { CanDecide book.now c }
-    ensures { (v : View) → v.book ≡ book_of book.now → head (v.chain 1) ≡ c → Decides v name (plan v (the_request name q)) result }
+    ensures { (v : View) → v.book ≡ book_of book.now → head (v.chain 1) ≡ c → Decides v (plan v (the_request q)) result }
 {
-    settled(decided(book, c, name, q))
+    settled(decided(book, c, q))
 }

@@ -15,7 +15,7 @@ use tracks::Tracks;
 // EXEC 4 and 15: the lowest run of n free tracks becomes h's.
 pub(crate) fn takes(tracks: Tracks, c: u8, h: u8, n: u64, w: u64) -> Result<Decision, Answer>
     requires { CanTake tracks c }
-    ensures { (v : View) (nm : List ℕ) → OfTracks v tracks → Decides v nm (takes v c h n w) (settled result) }
+    ensures { (v : View) → OfTracks v tracks → Decides v (takes v c h n w) (settled result) }
 {
     if n == 0 || (tracks.count as u64) < n || 1 < w {
         return Err(Answer::NotAllowed);
@@ -33,7 +33,7 @@ pub(crate) fn takes(tracks: Tracks, c: u8, h: u8, n: u64, w: u64) -> Result<Deci
 // EXEC 5 and 16: n tracks from `start` on, each of them h's, are given back.
 pub(crate) fn gives(tracks: Tracks, h: u8, n: u64, start: u64) -> Result<Decision, Answer>
     requires { Fit tracks }
-    ensures { (v : View) (nm : List ℕ) → OfTracks v tracks → Decides v nm (gives v h n start) (settled result) }
+    ensures { (v : View) → OfTracks v tracks → Decides v (gives v h n start) (settled result) }
 {
     let all = tracks.count as u64;
     if n == 0 || all < n || all - n < start {
@@ -53,7 +53,7 @@ pub(crate) fn gives(tracks: Tracks, h: u8, n: u64, start: u64) -> Result<Decisio
 // EXEC 5 of all tracks that c holds.
 pub(crate) fn gives_all(tracks: Tracks, c: u8) -> Decision
     requires { Fit tracks }
-    ensures { (v : View) (nm : List ℕ) → OfTracks v tracks → Decides v nm (call v c EXEC5ALL) result }
+    ensures { (v : View) → OfTracks v tracks → Decides v (call v c EXEC5ALL) result }
 {
     let n = tracks.held_by(c);
     Decision {

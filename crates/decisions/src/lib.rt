@@ -17,12 +17,12 @@ pub use deciding::{decide, may_start};
 use records::Why;
 use rules::Answer;
 
-// What is left to be made; p and c are programs. A name stands beside, as it does beside a request.
+// What is left to be made; p and c are programs.
 #[derive(Clone, Copy)]
 pub enum Effect {
     Stay,
     Renew(u16, u16, u8, u16),
-    Load(u8, u16),
+    Load(u8, [u8; 5], u16),
     Price(u8, u16),
     Time(u8, u64, u64),
     Mark(u8),
@@ -68,7 +68,7 @@ fn settled(decided: Result<Decision, Answer>) -> Decision
 // c waits in a state for a reason, or is told that there is no room.
 fn waits(c: u8, w: u64, state: u8, why: Why) -> Result<Decision, Answer>
     requires { CanWait c state }
-    ensures { (v : View) (nm : List ℕ) → Decides v nm (waits c w state why) (settled result) }
+    ensures { (v : View) → Decides v (waits c w state why) (settled result) }
 {
     if w != 0 {
         return Err(Answer::NoRoom);

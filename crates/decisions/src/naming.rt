@@ -82,7 +82,7 @@ fn find(programs: &[Program; MOST_PROGRAMS], name: [u8; 5]) -> Result<u8, Answer
 // p goes from one state to another, and the answer has this value.
 fn shifts(state: u8, p: u8, from: u8, to: u8, value: u64) -> Result<Decision, Answer>
     requires { CanWait p to }
-    ensures { (v : View) (nm : List ℕ) → state_of v.book p ≡ state → Decides v nm (going v p from to value) (settled result) }
+    ensures { (v : View) → state_of v.book p ≡ state → Decides v (going v p from to value) (settled result) }
 {
     if state != from {
         return Err(Answer::WrongState(state));
@@ -96,8 +96,8 @@ fn shifts(state: u8, p: u8, from: u8, to: u8, value: u64) -> Result<Decision, An
 // SS: who waits is marked, and who is marked stays so; any other is suspended if it is scheduled.
 fn suspends(state: u8, mark: bool, p: u8) -> Result<Decision, Answer>
     requires { Known p }
-    ensures { (v : View) (nm : List ℕ) → state_of v.book p ≡ state → (at v.book p).suspend ≡ mark
-        → Decides v nm (order v SS p) (settled result) }
+    ensures { (v : View) → state_of v.book p ≡ state → (at v.book p).suspend ≡ mark
+        → Decides v (order v SS p) (settled result) }
 {
     if records::in_wait(state) {
         if mark {
@@ -114,7 +114,7 @@ fn suspends(state: u8, mark: bool, p: u8) -> Result<Decision, Answer>
 // EXEC 9: p is sent off, and c waits for it.
 fn awaits(state: u8, c: u8, p: u8) -> Result<Decision, Answer>
     requires { CanAwait c p }
-    ensures { (v : View) (nm : List ℕ) → state_of v.book p ≡ state → Decides v nm (awaiting v c p) (settled result) }
+    ensures { (v : View) → state_of v.book p ≡ state → Decides v (awaiting v c p) (settled result) }
 {
     if state != DORMANT {
         return Err(Answer::WrongState(state));
@@ -128,7 +128,7 @@ fn awaits(state: u8, c: u8, p: u8) -> Result<Decision, Answer>
 // OF: how many tracks p gives up.
 fn dismisses(tracks: Tracks, p: u8, k: u64) -> Decision
     requires { CanDismiss tracks p }
-    ensures { (v : View) (nm : List ℕ) → OfTracks v tracks → Decides v nm (order v (OF k) p) result }
+    ensures { (v : View) → OfTracks v tracks → Decides v (order v (OF k) p) result }
 {
     let n = tracks.held_by(p);
     Decision {
@@ -140,7 +140,7 @@ fn dismisses(tracks: Tracks, p: u8, k: u64) -> Decision
 // EXEC 12: the due, and the interval.
 fn times(ticks: u64, p: u8, resolution: u64, multiple: u64, offset: u64) -> Decision
     requires { CanTime ticks p resolution multiple offset }
-    ensures { (v : View) (nm : List ℕ) → v.book.clock ≡ ticks → Decides v nm (winding v p resolution multiple offset) result }
+    ensures { (v : View) → v.book.clock ≡ ticks → Decides v (winding v p resolution multiple offset) result }
 {
     let unit = Clock::unit(resolution);
     let due = ticks + offset * unit;
@@ -153,7 +153,7 @@ fn times(ticks: u64, p: u8, resolution: u64, multiple: u64, offset: u64) -> Deci
 // PR.
 fn prices(priority: u16, p: u8, n: u64) -> Decision
     requires { CanPrice p n }
-    ensures { (v : View) (nm : List ℕ) → prio_of v.book p ≡ priority → Decides v nm (order v (PR n) p) result }
+    ensures { (v : View) → prio_of v.book p ≡ priority → Decides v (order v (PR n) p) result }
 {
     Decision {
         answer: Answer::Done(priority as u64),
@@ -171,7 +171,7 @@ fn performs(
     task: Task,
 ) -> Result<Decision, Answer>
     requires { CanPerform tracks ticks c p task }
-    ensures { (v : View) (nm : List ℕ) → OfParts v p x tracks ticks → Decides v nm (performed v c task p) (settled result) }
+    ensures { (v : View) → OfParts v p x tracks ticks → Decides v (performed v c task p) (settled result) }
 {
     match task {
         Task::Shift(from, to) => shifts(x.state, p, from, to, 0),
@@ -194,7 +194,7 @@ pub(crate) fn upon(
     task: Task,
 ) -> Result<Decision, Answer>
     requires { CanAsk tracks ticks c task }
-    ensures { (v : View) (nm : List ℕ) → OfBook v programs.now tracks ticks → Decides v nm (asking v c name task) (settled result) }
+    ensures { (v : View) → OfBook v programs.now tracks ticks → Decides v (asking v c name task) (settled result) }
 {
     if !is_permitted(task) {
         return Err(Answer::NotAllowed);
@@ -209,7 +209,7 @@ pub(crate) fn loads(
     name: [u8; 5],
     priority: u64,
 ) -> Result<Decision, Answer>
-    ensures { (v : View) → v.book.programs ≡ programs.now → Decides v name (plan v (LOAD name priority)) (settled result) }
+    ensures { (v : View) → v.book.programs ≡ programs.now → Decides v (plan v (LOAD name priority)) (settled result) }
 {
     if !records::is_legal(name) {
         return Err(Answer::NotAllowed);
@@ -225,6 +225,6 @@ pub(crate) fn loads(
     };
     Ok(Decision {
         answer: Answer::Done(p as u64),
-        effect: Effect::Load(p, priority as u16),
+        effect: Effect::Load(p, name, priority as u16),
     })
 }

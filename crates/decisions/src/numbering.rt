@@ -37,7 +37,7 @@ fn may_free(c: u8, owner: u8, lock: u8) -> bool
 // RN ALLOC: the lowest free number becomes c's, or everybody's.
 pub(crate) fn allocates(numbers: Numbers, c: u8, global: bool, w: u64) -> Result<Decision, Answer>
     requires { CanAllocate numbers c }
-    ensures { (v : View) (nm : List ℕ) → OfNumbers v numbers → Decides v nm (call v c (ALLOC global w)) (settled result) }
+    ensures { (v : View) → OfNumbers v numbers → Decides v (call v c (ALLOC global w)) (settled result) }
 {
     if 1 < w {
         return Err(Answer::NotAllowed);
@@ -54,8 +54,8 @@ pub(crate) fn allocates(numbers: Numbers, c: u8, global: bool, w: u64) -> Result
 // RN LOCK of a number x that is allocated.
 fn locks(c: u8, r: usize, w: u64, owner: u8, lock: u8) -> Result<Decision, Answer>
     requires { Ours c r }
-    ensures { (v : View) (nm : List ℕ) → r ≤ v.book.numbers
-        → Decides v nm (wanted v c r (Lock w) (record { owner = owner; lock = lock })) (settled result) }
+    ensures { (v : View) → r ≤ v.book.numbers
+        → Decides v (wanted v c r (Lock w) (record { owner = owner; lock = lock })) (settled result) }
 {
     if lock == c {
         return Ok(stay(Answer::Done(r as u64)));
@@ -72,8 +72,8 @@ fn locks(c: u8, r: usize, w: u64, owner: u8, lock: u8) -> Result<Decision, Answe
 // RN CLEAR of it.
 fn clears(c: u8, r: usize, owner: u8, lock: u8) -> Result<Decision, Answer>
     requires { Ours c r }
-    ensures { (v : View) (nm : List ℕ) → r ≤ v.book.numbers
-        → Decides v nm (wanted v c r Clear (record { owner = owner; lock = lock })) (settled result) }
+    ensures { (v : View) → r ≤ v.book.numbers
+        → Decides v (wanted v c r Clear (record { owner = owner; lock = lock })) (settled result) }
 {
     if lock == 0 {
         return Ok(stay(Answer::Done(0)));
@@ -90,8 +90,8 @@ fn clears(c: u8, r: usize, owner: u8, lock: u8) -> Result<Decision, Answer>
 // RN FREE of it.
 fn frees(c: u8, r: usize, owner: u8, lock: u8) -> Result<Decision, Answer>
     requires { Ours c r }
-    ensures { (v : View) (nm : List ℕ) → r ≤ v.book.numbers
-        → Decides v nm (wanted v c r Free (record { owner = owner; lock = lock })) (settled result) }
+    ensures { (v : View) → r ≤ v.book.numbers
+        → Decides v (wanted v c r Free (record { owner = owner; lock = lock })) (settled result) }
 {
     if !may_free(c, owner, lock) {
         return Err(Answer::NotHolder);
@@ -115,7 +115,7 @@ fn waiting(q: Wanted) -> u64
 // What is wanted of number r: it is one of ours, and allocated.
 pub(crate) fn of_number(numbers: Numbers, c: u8, r: u64, q: Wanted) -> Result<Decision, Answer>
     requires { CanAllocate numbers c }
-    ensures { (v : View) (nm : List ℕ) → OfNumbers v numbers → Decides v nm (of_number v c r q) (settled result) }
+    ensures { (v : View) → OfNumbers v numbers → Decides v (of_number v c r q) (settled result) }
 {
     if 1 < waiting(q) || r < 1 || (numbers.count as u64) < r {
         return Err(Answer::NotAllowed);

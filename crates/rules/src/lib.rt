@@ -26,7 +26,7 @@ pub enum Answer {
     InNeither,
 }
 
-// What the operator asks of a program. A name stands beside a request, since an enum holds no array.
+// What the operator asks of a program.
 #[derive(Clone, Copy)]
 pub enum Order {
     Ru,
@@ -47,21 +47,21 @@ pub enum Call {
     Exec6,
     Exec7,
     Exec11,
-    Exec9,
-    Exec10,
-    Exec12(u64, u64, u64),
+    Exec9([u8; 5]),
+    Exec10([u8; 5]),
+    Exec12([u8; 5], u64, u64, u64),
     Alloc(bool, u64),
     Lock(u64, u64),
     Clear(u64),
     Free(u64),
 }
 
-// Every request, but for the name in it.
+// Every request, with the name in it where it has one.
 #[derive(Clone, Copy)]
 pub enum Request {
     Fresh(u64, u64, u64, u64),
-    Load(u64),
-    Operator(Order),
+    Load([u8; 5], u64),
+    Operator(Order, [u8; 5]),
     Tick,
     Running(Call),
 }

@@ -84,19 +84,19 @@ module _ (t : Tables) (O : Orderly t) (k o l : ℕ) (n : Numbers)
       (ap (λ (xs : List Resource). numbered xs ∷ []) (ap resources N ∙ resources-with t.ledger.numbers k o l O.numbers))
 
 -- what is handed back: the answer as it was decided, or a count
-module _ (t : Tables) (nm : List ℕ) (a : Answer) (e : Effect) (u : Tables) (h : Happens (events_for (view lists (plain t)) nm e))
-    (S : Played t (events_for (view lists (plain t)) nm e) u) where
+module _ (t : Tables) (a : Answer) (e : Effect) (u : Tables) (h : Happens (events_for (view lists (plain t)) e))
+    (S : Played t (events_for (view lists (plain t)) e) u) where
   pub moved : reply_for (view lists (plain t)) a e ≡ (answers.number a, answers.values a)
-      → told (record { answer = a; tables = u }) ≡ carried t nm a e
-  moved w = λ i. record { number = (sym w i).0; values = (sym w i).1; tables = laid-says t u (events_for (view lists (plain t)) nm e) h S i }
+      → told (record { answer = a; tables = u }) ≡ carried t a e
+  moved w = λ i. record { number = (sym w i).0; values = (sym w i).1; tables = laid-says t u (events_for (view lists (plain t)) e) h S i }
 
-  pub made_counted : (n : ℕ) → reply_for (view lists (plain t)) a e ≡ (0, n ∷ []) → counted n u ≡ carried t nm a e
+  pub made_counted : (n : ℕ) → reply_for (view lists (plain t)) a e ≡ (0, n ∷ []) → counted n u ≡ carried t a e
   made_counted n w =
-      λ i. record { number = (sym w i).0; values = (sym w i).1; tables = laid-says t u (events_for (view lists (plain t)) nm e) h S i }
+      λ i. record { number = (sym w i).0; values = (sym w i).1; tables = laid-says t u (events_for (view lists (plain t)) e) h S i }
 
-pub made-anew : (t : Tables) (nm : List ℕ) (a : Answer) (T S R Y : ℕ) → Sizes T S R Y → made T S R Y ≡ carried t nm a (Renew T S R Y)
+pub made-anew : (t : Tables) (a : Answer) (T S R Y : ℕ) → Sizes T S R Y → made T S R Y ≡ carried t a (Renew T S R Y)
 unfolding step made_by
-made-anew t nm a T S R Y Z =
+made-anew t a T S R Y Z =
     let W : Starts T S R Y =
     record { some = Z.least; most = Z.most; first = Z.part; few = Z.few; earliest = Z.earliest; latest = Z.latest } in
     rw (starts_is T S R Y W, made_by) refl
@@ -119,10 +119,10 @@ dismissal-happens k p es fs = go (eqb k 8)
     go false = tt
 
 -- a decision that is the plan's, made, is what was asked for
-pub as-asked : (t : Tables) → Ready t → (q : Request) (nm : List ℕ) (d : Decision)
-    → Decides (view lists (plain t)) nm (keeper.asks lists (plain t) q) d
-    → carried t nm d.answer d.effect ≡ asked t q
-as-asked t R q nm d D =
+pub as-asked : (t : Tables) → Ready t → (q : Request) (d : Decision)
+    → Decides (view lists (plain t)) (keeper.asks lists (plain t) q) d
+    → carried t d.answer d.effect ≡ asked t q
+as-asked t R q d D =
     (λ i. record { number = D.number i; values = D.values i; tables = laid t (D.events i) })
     ∙ sym (served-planned t q)
     ∙ sym (asked-sound t q R.sound)

@@ -188,11 +188,11 @@ pub record CanCarry (t : Tables) (e : Effect) : Type 0 where
   pub ready : Ready t
   pub apt : Apt (view lists (plain t)) e
 
-abbrev pub carried : Tables → List ℕ → Answer → Effect → Result
-carried t nm a e = record {
+abbrev pub carried : Tables → Answer → Effect → Result
+carried t a e = record {
   number = (reply_for (view lists (plain t)) a e).0;
   values = (reply_for (view lists (plain t)) a e).1;
-  tables = laid t (events_for (view lists (plain t)) nm e);
+  tables = laid t (events_for (view lists (plain t)) e);
 }
 
 abbrev pub counted : ℕ → Tables → Result

@@ -20,16 +20,16 @@ pub(crate) fn count_of(x: Counted) -> Outcome
 
 impl Tables {
     // What was decided is made.
-    fn carry(self, name: [u8; 5], d: Decision) -> Outcome
+    fn carry(self, d: Decision) -> Outcome
         requires { CanCarry self d.effect }
-        ensures { told result ≡ carried self name d.answer d.effect }
+        ensures { told result ≡ carried self d.answer d.effect }
     {
         let tables = match d.effect {
             Effect::Stay => self,
             Effect::Renew(t, s, r, y) => {
                 return Tables::fresh(t as u64, s as u64, r as u64, y as u64);
             }
-            Effect::Load(p, n) => self.loaded(p, name, n),
+            Effect::Load(p, name, n) => self.loaded(p, name, n),
             Effect::Price(p, n) => self.priced(p, n),
             Effect::Time(p, due, interval) => self.timed(p, due, interval),
             Effect::Mark(p) => self.marked(p),
@@ -52,15 +52,15 @@ impl Tables {
         }
     }
 
-    // Any request; the name stands beside it, and a request that needs none takes any.
-    pub fn ask(self, name: [u8; 5], q: Request) -> Outcome
-        ensures { told result ≡ asked self (the_request name q) }
+    // Any request.
+    pub fn ask(self, q: Request) -> Outcome
+        ensures { told result ≡ asked self (the_request q) }
     {
         let o = self.opened();
         if !o.sound {
             return self.refused(Answer::NotSound);
         }
-        self.carry(name, decisions::decide(&self.ledger, o.caller, name, q))
+        self.carry(decisions::decide(&self.ledger, o.caller, q))
     }
 
     // A refusal: the tables as they came.

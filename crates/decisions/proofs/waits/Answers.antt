@@ -6,8 +6,8 @@ use Rattle.decisions.proofs.Laws.{like, stays}
 use Rattle.decisions.proofs.waits.Goals as goal
 
 pub returns-then-w-ne0 : goal.returns-then-w-ne0
-returns-then-w-ne0 c = λ v nm. stays v nm NoRoom 0 refl (waits-told _ _ _ _ c.if-w-ne0.true)
+returns-then-w-ne0 c = λ v. stays v NoRoom 0 refl (waits-told _ _ _ _ c.if-w-ne0.true)
 
 pub returns : goal.returns
-returns c = λ v nm. like v nm (waits-so _ _ _ _ c.if-w-ne0.false)
+returns c = λ v. like v (waits-so _ _ _ _ c.if-w-ne0.false)
     (record { number = refl; values = refl; events = refl; apt = (c.requires.known, c.requires.state) })

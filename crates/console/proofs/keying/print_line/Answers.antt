@@ -8,7 +8,7 @@ use Rattle.console.specs.declared.Said.{Said}
 use Rattle.console.specs.declared.Said.TheVariants.{Bad, Page, Asks, Ticks}
 use Rattle.console.specs.Line.{PAGE, line_of}
 use Rattle.console.specs.Console.{keyed}
-use Rattle.console.specs.Inner.{obeys, saying, is_page}
+use Rattle.console.specs.Inner.{obeys, says, is_page}
 use Rattle.console.proofs.KeyLaws.{keyed-obeys, page-unsaid}
 use Rattle.console.proofs.OneLine.{shown-short, printed-room, printed-answer}
 use Rattle.console.proofs.keying.print_line.Goals.{After-obey-outcome}
@@ -24,7 +24,7 @@ print_page-requires c = c.if-out-lt-PAGE_ROOM.false
 pub returns-in-Page : goal.returns-in-Page
 returns-in-Page c =
     c.print_page.ensures c.args.line.now
-    (sym c.command_of-command.ensures ∙ ap (saying c.command_of-command.result.name) c.in-Page.is)
+    (sym c.command_of-said.ensures ∙ ap says c.in-Page.is)
 
 unsaid : (x : Said) → (x ≡ Page → ⊥) → is_page x ≡ false
 unsaid Bad h = refl
@@ -36,12 +36,12 @@ unsaid (Ticks n) h = refl
 same : (c : After-obey-outcome) → beside c.obey-outcome.new.buf (told c.obey-outcome.result) ≡ keyed c.args.tables c.args.line.now c.args.out.now
 same c =
     let a = c.args in
-    c.obey-outcome.ensures ∙ ap (obeys a.tables a.out.now) c.command_of-command.ensures ∙ sym (keyed-obeys a.tables a.line.now a.out.now)
+    c.obey-outcome.ensures ∙ ap (obeys a.tables a.out.now) c.command_of-said.ensures ∙ sym (keyed-obeys a.tables a.line.now a.out.now)
 
 other : (c : After-obey-outcome) → line_of c.args.line.now ≡ PAGE → ⊥
 other c p =
-    let x = c.command_of-command.result in
-    page-unsaid x.name x.said (unsaid x.said c.in_default.not-Page) (c.command_of-command.ensures ∙ p)
+    let x = c.command_of-said.result in
+    page-unsaid x (unsaid x c.in_default.not-Page) (c.command_of-said.ensures ∙ p)
 
 pub print_outcome-requires : goal.print_outcome-requires
 print_outcome-requires c =

@@ -1,6 +1,6 @@
 -- `console::parse::with_numbers` meets its contract: the numbers are there or not. Assumes nothing.
 use mathlib.Core.Path.{sym, ap, ◌∙◌}
-use Rattle.console.specs.Inner.{saying, request, says_or_bad}
+use Rattle.console.specs.Inner.{says, request, says_or_bad}
 use Rattle.console.proofs.parse.with_numbers.Goals as goal
 
 pub returns-in_err-numbers : goal.returns-in_err-numbers
@@ -9,5 +9,4 @@ returns-in_err-numbers c =
 
 pub returns : goal.returns
 returns c =
-    let nm = c.args.name in
-    ap (saying nm) c.said_by-said.ensures ∙ sym (c.in_ok-numbers.ensures.says (request c.args.last nm))
+    ap says c.said_by.ensures ∙ sym (c.in_ok-numbers.ensures.says (request c.args.last c.args.name))

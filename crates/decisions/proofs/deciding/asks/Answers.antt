@@ -3,4 +3,4 @@ use Rattle.decisions.proofs.Laws.{book-in}
 use Rattle.decisions.proofs.deciding.asks.Goals as goal
 
 pub returns : goal.returns
-returns c = λ v nm O. c.upon.ensures v nm (book-in v _ O)
+returns c = λ v O. c.upon.ensures v (book-in v _ O)

@@ -15,9 +15,9 @@ use Rattle.decisions.proofs.deciding.decided.Goals.{Start}
 use Rattle.decisions.proofs.deciding.decided.Goals as goal
 
 on : (k : Start) (v : View) {q : Request} {d : Decision} → k.args.q ≡ q
-    → Decides v k.args.name (plan v (the_request k.args.name q)) d
-    → Decides v k.args.name (plan v (the_request k.args.name k.args.q)) d
-on k v {d = d} e = subst (λ (q : Request). Decides v k.args.name (plan v (the_request k.args.name q)) d) (sym e)
+    → Decides v (plan v (the_request q)) d
+    → Decides v (plan v (the_request k.args.q)) d
+on k v {d = d} e = subst (λ (q : Request). Decides v (plan v (the_request q)) d) (sym e)
 
 pub asks-requires : goal.asks-requires
 asks-requires c =
@@ -30,7 +30,7 @@ asks-requires c =
 pub returns-then-c-eq0 : goal.returns-then-c-eq0
 returns-then-c-eq0 c =
     λ v O C. on (goal.at.returns-then-c-eq0 c).Start v c.in-Running.is
-    (stays v _ NoCaller 0 refl (no-caller v _ _ C c.if-c-eq0.true))
+    (stays v NoCaller 0 refl (no-caller v _ _ C c.if-c-eq0.true))
 
 pub called-requires : goal.called-requires
 called-requires c =
@@ -42,7 +42,7 @@ called-requires c =
     }
 
 pub returns-in-Fresh : goal.returns-in-Fresh
-returns-in-Fresh c = λ v O C. on (goal.at.returns-in-Fresh c).Start v c.in-Fresh.is (c.renews.ensures v _)
+returns-in-Fresh c = λ v O C. on (goal.at.returns-in-Fresh c).Start v c.in-Fresh.is (c.renews.ensures v)
 
 pub returns-in-Load : goal.returns-in-Load
 returns-in-Load c = λ v O C. on (goal.at.returns-in-Load c).Start v c.in-Load.is (c.loads.ensures v O)
@@ -51,13 +51,13 @@ pub returns-in-Operator : goal.returns-in-Operator
 returns-in-Operator c =
     λ v O C.
     on (goal.at.returns-in-Operator c).Start v c.in-Operator.is
-    (like v _ (order-asks v _ c.in-Operator.o ∙ ap (asking v 0 c.args.name) (sym c.task_of.ensures))
-    (c.asks.ensures v _ O))
+    (like v (order-asks v _ c.in-Operator.o ∙ ap (asking v 0 c.in-Operator.name) (sym c.task_of.ensures))
+    (c.asks.ensures v O))
 
 pub returns-in-Tick : goal.returns-in-Tick
 returns-in-Tick c =
-    λ v O C. on (goal.at.returns-in-Tick c).Start v c.in-Tick.is (c.ticks_on.ensures v _ (book-in v _ O).clock)
+    λ v O C. on (goal.at.returns-in-Tick c).Start v c.in-Tick.is (c.ticks_on.ensures v (book-in v _ O).clock)
 
 pub returns-else-c-eq0 : goal.returns-else-c-eq0
 returns-else-c-eq0 c =
-    λ v O C. on (goal.at.returns-else-c-eq0 c).Start v c.in-Running.is (like v _ (by-caller v _ _ C (omega arith)) (c.called.ensures v _ O))
+    λ v O C. on (goal.at.returns-else-c-eq0 c).Start v c.in-Running.is (like v (by-caller v _ _ C (omega arith)) (c.called.ensures v O))

@@ -24,8 +24,8 @@ pub overflow_cast-result-4 : goal.overflow_cast-result-4
 overflow_cast-result-4 c = omega (arith, sized (goal.at.overflow_cast-result-4 c).Else-not-may_start)
 
 pub returns-then-not-may_start : goal.returns-then-not-may_start
-returns-then-not-may_start c = λ v nm. stays v nm NotAllowed 0 refl (renewing-not v _ _ _ _ (sym c.may_start.ensures ∙ c.if-not-may_start.true))
+returns-then-not-may_start c = λ v. stays v NotAllowed 0 refl (renewing-not v _ _ _ _ (sym c.may_start.ensures ∙ c.if-not-may_start.true))
 
 pub returns : goal.returns
-returns c = λ v nm. like v nm (renewing v _ _ _ _ (sym c.may_start.ensures ∙ c.if-not-may_start.false))
+returns c = λ v. like v (renewing v _ _ _ _ (sym c.may_start.ensures ∙ c.if-not-may_start.false))
     (record { number = refl; values = refl; events = refl; apt = sized (goal.at.returns c).Else-not-may_start })

@@ -7,8 +7,8 @@ use Rattle.decisions.proofs.Requested.{ticking, ticking-not}
 use Rattle.decisions.proofs.deciding.ticks_on.Goals as goal
 
 pub returns-then-ticks-ge-CEILING : goal.returns-then-ticks-ge-CEILING
-returns-then-ticks-ge-CEILING c = λ v nm T. stays v nm AtCeiling 0 refl (ticking-not v (omega (arith, T)))
+returns-then-ticks-ge-CEILING c = λ v T. stays v AtCeiling 0 refl (ticking-not v (omega (arith, T)))
 
 pub returns : goal.returns
 returns c =
-    λ v nm T. like v nm (ticking v (omega (arith, T))) (record { number = refl; values = refl; events = refl; apt = omega (arith, T) })
+    λ v T. like v (ticking v (omega (arith, T))) (record { number = refl; values = refl; events = refl; apt = omega (arith, T) })

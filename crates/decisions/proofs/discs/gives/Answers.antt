@@ -15,7 +15,7 @@ passed : (c : Else-all-n-2) (v : View) → OfTracks v c.args.tracks → There v.
 passed c v O = record { least = omega arith; within = omega (arith, O.size) }
 
 pub returns-then-n-eq0 : goal.returns-then-n-eq0
-returns-then-n-eq0 c = λ v nm O. stays v nm NotAllowed 0 refl (gives-not v _ _ _ (λ a.
+returns-then-n-eq0 c = λ v O. stays v NotAllowed 0 refl (gives-not v _ _ _ (λ a.
     elim c.then-n-eq0.branch [
       | then-n-eq0-via-then-n-eq0 w ↦ omega (arith, O.size)
       | then-n-eq0-via-else-n-eq0+then-all-n w ↦ omega (arith, O.size)
@@ -24,12 +24,12 @@ returns-then-n-eq0 c = λ v nm O. stays v nm NotAllowed 0 refl (gives-not v _ _ 
 
 pub returns-then-not-run_at : goal.returns-then-not-run_at
 returns-then-not-run_at c =
-    λ v nm O.
-    stays v nm NotHolder 0 refl
+    λ v O.
+    stays v NotHolder 0 refl
     (gives-stray v _ _ _ _ O (passed (goal.at.returns-then-not-run_at c).Else-all-n-2 v O) _ c.run_at.ensures c.if-not-run_at.true)
 
 pub returns : goal.returns
 returns c =
-    λ v nm O.
-    like v nm (gives-done v _ _ _ _ O (passed (goal.at.returns c).Else-all-n-2 v O) _ c.run_at.ensures c.if-not-run_at.false)
+    λ v O.
+    like v (gives-done v _ _ _ _ O (passed (goal.at.returns c).Else-all-n-2 v O) _ c.run_at.ensures c.if-not-run_at.false)
     (record { number = refl; values = refl; events = refl; apt = (passed (goal.at.returns c).Else-all-n-2 v O).within })

@@ -6,5 +6,5 @@ use Rattle.decisions.proofs.Tracked.{gives_all}
 use Rattle.decisions.proofs.discs.gives_all.Goals as goal
 
 pub returns : goal.returns
-returns c = λ v nm O. like v nm (gives_all v _ _ (ap (count c.args.c) O.held ∙ sym c.held_by-n.ensures))
+returns c = λ v O. like v (gives_all v _ _ (ap (count c.args.c) O.held ∙ sym c.held_by-n.ensures))
     (record { number = refl; values = refl; events = refl; apt = tt })

@@ -15,7 +15,7 @@ passed : (c : Else-w-gt1) (v : View) → OfTracks v c.args.tracks → Allowed v.
 passed c v O = record { least = omega arith; most = omega (arith, O.size); waits = omega arith }
 
 pub returns-then-n-eq0 : goal.returns-then-n-eq0
-returns-then-n-eq0 c = λ v nm O. stays v nm NotAllowed 0 refl (takes-not v _ _ _ _ (λ a.
+returns-then-n-eq0 c = λ v O. stays v NotAllowed 0 refl (takes-not v _ _ _ _ (λ a.
     elim c.then-n-eq0.branch [
       | then-n-eq0-via-then-n-eq0 w ↦ omega (arith, O.size)
       | then-n-eq0-via-else-n-eq0+then-tracks-n w ↦ omega (arith, O.size)
@@ -24,14 +24,14 @@ returns-then-n-eq0 c = λ v nm O. stays v nm NotAllowed 0 refl (takes-not v _ _ 
 
 pub returns-in_default : goal.returns-in_default
 returns-in_default c =
-    λ v nm O.
-    like v nm (takes-waits v _ _ _ _ _ O (passed (goal.at.returns-in_default c).Else-w-gt1 v O) _ c.lowest_run.ensures c.in_default.is)
-    (c.waits.ensures v nm)
+    λ v O.
+    like v (takes-waits v _ _ _ _ _ O (passed (goal.at.returns-in_default c).Else-w-gt1 v O) _ c.lowest_run.ensures c.in_default.is)
+    (c.waits.ensures v)
 
 pub returns : goal.returns
 returns c =
-    λ v nm O.
-    like v nm (takes-done v _ _ _ _ _ O (passed (goal.at.returns c).Else-w-gt1 v O) _ c.lowest_run.ensures _ c.in-Some.is)
+    λ v O.
+    like v (takes-done v _ _ _ _ _ O (passed (goal.at.returns c).Else-w-gt1 v O) _ c.lowest_run.ensures _ c.in-Some.is)
     (record {
       number = refl;
       values = refl;

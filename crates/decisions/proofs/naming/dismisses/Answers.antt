@@ -7,6 +7,6 @@ use Rattle.decisions.proofs.naming.dismisses.Goals as goal
 
 pub returns : goal.returns
 returns c =
-    λ v nm O.
+    λ v O.
     let n = ap (count c.args.p) O.held ∙ sym c.held_by-n.ensures in
-    like v nm (dismissing v _ _ _ n) (record { number = refl; values = refl; events = refl; apt = (c.requires.known, sym n) })
+    like v (dismissing v _ _ _ n) (record { number = refl; values = refl; events = refl; apt = (c.requires.known, sym n) })

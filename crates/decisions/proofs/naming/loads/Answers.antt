@@ -19,23 +19,23 @@ module _ {n : ℕ} {r : Option ℕ} (F : r ≡ unless_0 n) where
 
 pub returns-then-not-is_legal : goal.returns-then-not-is_legal
 returns-then-not-is_legal c = λ v O.
-    stays v _ NotAllowed 0 refl (load-illegal v _ _ _ c.is_legal.ensures (ap not c.if-not-is_legal.true))
+    stays v NotAllowed 0 refl (load-illegal v _ _ _ c.is_legal.ensures (ap not c.if-not-is_legal.true))
 
 pub returns-then-priority : goal.returns-then-priority
-returns-then-priority c = λ v O. stays v _ NotAllowed 0 refl
+returns-then-priority c = λ v O. stays v NotAllowed 0 refl
     (load-high v _ _ _ c.is_legal.ensures c.if-priority.true)
 
 pub returns-then-is_some : goal.returns-then-is_some
 returns-then-is_some c =
     λ v O.
-    stays v _ NameInUse 0 refl
+    stays v NameInUse 0 refl
     (load-used v _ _ _ c.is_legal.ensures (ap not c.if-not-is_legal.false) c.if-priority.false _ O
     (taken c.find_program.ensures (sym c.is_some.ensures ∙ c.if-is_some.true)))
 
 pub returns-in_default : goal.returns-in_default
 returns-in_default c =
     λ v O.
-    stays v _ AllUsed 0 refl
+    stays v AllUsed 0 refl
     (load_full v _ _ _ c.is_legal.ensures (ap not c.if-not-is_legal.false) c.if-priority.false _ O
     (free c.find_program.ensures (sym c.is_some.ensures ∙ c.if-is_some.false)) _ refl (unless-none _ c.in_default.ensures))
 
@@ -44,7 +44,7 @@ returns c =
     let f = free c.find_program.ensures (sym c.is_some.ensures ∙ c.if-is_some.false) in
     let k = unless-some _ _ c.in-Some.ensures in
     λ v O.
-    like v _ (load-done v _ _ _ c.is_legal.ensures (ap not c.if-not-is_legal.false) c.if-priority.false _ O f _ k.0 k.1)
+    like v (load-done v _ _ _ c.is_legal.ensures (ap not c.if-not-is_legal.false) c.if-priority.false _ O f _ k.0 k.1)
     (record {
       number = refl;
       values = refl;

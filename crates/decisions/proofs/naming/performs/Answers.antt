@@ -1,8 +1,6 @@
 -- `decisions::naming::performs` meets its contract: each arm does what its task says. Assumes nothing.
-use Prim.Native.Nat.{ℕ}
 use mathlib.Core.Path.{◌≡◌, sym, ap, ◌∙◌, subst}
 use mathlib.Core.Bool.{true}
-use mathlib.Core.List.{List}
 use Rattle.records.specs.declared.Program.{Program}
 use Rattle.rules.specs.Plans.{View}
 use Rattle.decisions.specs.declared.Decision.{Decision}
@@ -14,10 +12,10 @@ use Rattle.decisions.proofs.naming.performs.Goals as goal
 permits : (s : Start) {q : Task} → s.args.task ≡ q → permitted q ≡ true
 permits s e = sym (ap permitted e) ∙ s.requires.allowed
 
-on : (s : Start) (v : View) (nm : List ℕ) {q : Task} {d : Decision} → s.args.task ≡ q
-    → Decides v nm (performed v s.args.c q s.args.p) d
-    → Decides v nm (performed v s.args.c s.args.task s.args.p) d
-on s v nm {d = d} e = subst (λ (x : Task). Decides v nm (performed v s.args.c x s.args.p) d) (sym e)
+on : (s : Start) (v : View) {q : Task} {d : Decision} → s.args.task ≡ q
+    → Decides v (performed v s.args.c q s.args.p) d
+    → Decides v (performed v s.args.c s.args.task s.args.p) d
+on s v {d = d} e = subst (λ (x : Task). Decides v (performed v s.args.c x s.args.p) d) (sym e)
 
 pub shifts-requires : goal.shifts-requires
 shifts-requires c =
@@ -37,29 +35,29 @@ times-requires c =
 
 pub returns-in-Shift : goal.returns-in-Shift
 returns-in-Shift c =
-    λ v nm O. on (goal.at.returns-in-Shift c).Start v nm c.in-Shift.is (c.shifts.ensures v nm (ap (λ (r : Program). r.state) O.row))
+    λ v O. on (goal.at.returns-in-Shift c).Start v c.in-Shift.is (c.shifts.ensures v (ap (λ (r : Program). r.state) O.row))
 
 pub returns-in-Suspend : goal.returns-in-Suspend
 returns-in-Suspend c =
-    λ v nm O. on (goal.at.returns-in-Suspend c).Start v nm c.in-Suspend.is
-    (c.suspends.ensures v nm (ap (λ (r : Program). r.state) O.row) (ap (λ (r : Program). r.suspend) O.row))
+    λ v O. on (goal.at.returns-in-Suspend c).Start v c.in-Suspend.is
+    (c.suspends.ensures v (ap (λ (r : Program). r.state) O.row) (ap (λ (r : Program). r.suspend) O.row))
 
 pub returns-in-Price : goal.returns-in-Price
 returns-in-Price c =
-    λ v nm O. on (goal.at.returns-in-Price c).Start v nm c.in-Price.is (c.prices.ensures v nm (ap (λ (r : Program). r.priority) O.row))
+    λ v O. on (goal.at.returns-in-Price c).Start v c.in-Price.is (c.prices.ensures v (ap (λ (r : Program). r.priority) O.row))
 
 pub returns-in-Dismiss : goal.returns-in-Dismiss
 returns-in-Dismiss c =
-    λ v nm O. on (goal.at.returns-in-Dismiss c).Start v nm c.in-Dismiss.is (c.dismisses.ensures v nm O.tracks)
+    λ v O. on (goal.at.returns-in-Dismiss c).Start v c.in-Dismiss.is (c.dismisses.ensures v O.tracks)
 
 pub returns-in-Await : goal.returns-in-Await
 returns-in-Await c =
-    λ v nm O. on (goal.at.returns-in-Await c).Start v nm c.in-Await.is (c.awaits.ensures v nm (ap (λ (r : Program). r.state) O.row))
+    λ v O. on (goal.at.returns-in-Await c).Start v c.in-Await.is (c.awaits.ensures v (ap (λ (r : Program). r.state) O.row))
 
 pub returns-in-Send : goal.returns-in-Send
 returns-in-Send c =
-    λ v nm O. on (goal.at.returns-in-Send c).Start v nm c.in-Send.is (c.shifts-in-Send.ensures v nm (ap (λ (r : Program). r.state) O.row))
+    λ v O. on (goal.at.returns-in-Send c).Start v c.in-Send.is (c.shifts-in-Send.ensures v (ap (λ (r : Program). r.state) O.row))
 
 pub returns-in-Time : goal.returns-in-Time
 returns-in-Time c =
-    λ v nm O. on (goal.at.returns-in-Time c).Start v nm c.in-Time.is (c.times.ensures v nm O.clock)
+    λ v O. on (goal.at.returns-in-Time c).Start v c.in-Time.is (c.times.ensures v O.clock)

@@ -10,4 +10,4 @@ pub overflow_cast-result-2 : goal.overflow_cast-result-2
 overflow_cast-result-2 c = omega (arith, (up_to-true 1 32767 c.args.n c.requires.allowed).1)
 
 pub returns : goal.returns
-returns c = λ v nm S. like v nm (pricing v _ _ _ S) (record { number = refl; values = refl; events = refl; apt = c.requires.known })
+returns c = λ v S. like v (pricing v _ _ _ S) (record { number = refl; values = refl; events = refl; apt = c.requires.known })

@@ -6,9 +6,9 @@ use Rattle.decisions.proofs.Asked.{going-not, going_done}
 use Rattle.decisions.proofs.naming.shifts.Goals as goal
 
 pub returns-then-state-from : goal.returns-then-state-from
-returns-then-state-from c = λ v nm S.
-    stays v nm (WrongState c.args.state) _ refl (going-not v _ _ S _ _ _ c.if-state-from.true)
+returns-then-state-from c = λ v S.
+    stays v (WrongState c.args.state) _ refl (going-not v _ _ S _ _ _ c.if-state-from.true)
 
 pub returns : goal.returns
-returns c = λ v nm S. like v nm (going_done v _ _ S _ _ _ c.if-state-from.false)
+returns c = λ v S. like v (going_done v _ _ S _ _ _ c.if-state-from.false)
     (record { number = refl; values = refl; events = refl; apt = (c.requires.known, c.requires.state) })

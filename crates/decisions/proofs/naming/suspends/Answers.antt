@@ -9,17 +9,17 @@ use Rattle.decisions.proofs.naming.suspends.Goals as goal
 
 pub returns-then-mark : goal.returns-then-mark
 returns-then-mark c =
-    λ v nm S M. rests v nm (Done 0) (0 ∷ []) c.stay.ensures refl refl
+    λ v S M. rests v (Done 0) (0 ∷ []) c.stay.ensures refl refl
     (suspending-again v _ _ S (sym c.in_wait.ensures ∙ c.if-in_wait.true) (M ∙ c.if-mark.true))
 
 pub returns-then-in_wait : goal.returns-then-in_wait
 returns-then-in_wait c =
-    λ v nm S M. like v nm (suspending-marks v _ _ S (sym c.in_wait.ensures ∙ c.if-in_wait.true) (M ∙ c.if-mark.false))
+    λ v S M. like v (suspending-marks v _ _ S (sym c.in_wait.ensures ∙ c.if-in_wait.true) (M ∙ c.if-mark.false))
     (record { number = refl; values = refl; events = refl; apt = c.requires })
 
 pub returns : goal.returns
 returns c =
-    λ v nm S M. like v nm (suspending-goes v _ _ S (sym c.in_wait.ensures ∙ c.if-in_wait.false)) (c.shifts.ensures v nm S)
+    λ v S M. like v (suspending-goes v _ _ S (sym c.in_wait.ensures ∙ c.if-in_wait.false)) (c.shifts.ensures v S)
 
 pub shifts-requires : goal.shifts-requires
 shifts-requires c = record { known = c.requires; state = omega arith }

@@ -18,5 +18,5 @@ overflow_mul-result c =
     omega (arith, multiple-most c.args.resolution c.args.multiple c.args.offset _ c.unit-unit.ensures c.requires.allowed)
 
 pub returns : goal.returns
-returns c = λ v nm T. like v nm (winds v _ _ _ _ _ _ T c.unit-unit.ensures)
+returns c = λ v T. like v (winds v _ _ _ _ _ _ T c.unit-unit.ensures)
     (record { number = refl; values = refl; events = refl; apt = c.requires.known })

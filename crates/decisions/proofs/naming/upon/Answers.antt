@@ -18,8 +18,8 @@ known : (k : In_ok-p) → Known k.in_ok-p.p
 known k = subst KnownIn k.in_ok-p.was k.find.ensures.known
 
 pub returns-then-not-is_permitted : goal.returns-then-not-is_permitted
-returns-then-not-is_permitted c = λ v nm O.
-    stays v nm NotAllowed 0 refl (asked-not v _ _ _ _ c.is_permitted.ensures (ap not c.if-not-is_permitted.true))
+returns-then-not-is_permitted c = λ v O.
+    stays v NotAllowed 0 refl (asked-not v _ _ _ _ c.is_permitted.ensures (ap not c.if-not-is_permitted.true))
 
 pub overflow_sub-p : goal.overflow_sub-p
 overflow_sub-p c = omega (arith, (known (goal.at.overflow_sub-p c).In_ok-p).0)
@@ -39,15 +39,15 @@ pub returns-in_err-p : goal.returns-in_err-p
 returns-in_err-p c =
     let p = err_from_is_err_and c.from_residual.result c.from_residual.ensures.1 in
     rw (p.1, p.2)
-    (λ v nm O. stays v nm _ 0 c.in_err-p.ensures.known (asked_of v _ _ _ _ c.is_permitted.ensures
+    (λ v O. stays v _ 0 c.in_err-p.ensures.known (asked_of v _ _ _ _ c.is_permitted.ensures
     (ap not c.if-not-is_permitted.false) _ _ _ c.find.ensures O.programs c.in_err-p.was))
 
 pub returns : goal.returns
 returns c =
-    λ v nm O.
-    like v nm (asked_of v _ _ _ _ c.is_permitted.ensures (ap not c.if-not-is_permitted.false) _ _ _ c.find.ensures O.programs
+    λ v O.
+    like v (asked_of v _ _ _ _ c.is_permitted.ensures (ap not c.if-not-is_permitted.false) _ _ _ c.find.ensures O.programs
     c.in_ok-p.was)
-    (c.performs.ensures v nm (record {
+    (c.performs.ensures v (record {
       row = ap (λ (ps : List Program). record_at ps c.in_ok-p.p) O.programs;
       tracks = O.tracks;
       clock = O.clock;

@@ -8,17 +8,17 @@ use Rattle.decisions.proofs.Numbered.{alloc-not, alloc-waits, alloc-done, lowest
 use Rattle.decisions.proofs.numbering.allocates.Goals as goal
 
 pub returns-then-w-gt1 : goal.returns-then-w-gt1
-returns-then-w-gt1 c = λ v nm O. stays v nm NotAllowed 0 refl (alloc-not v _ _ _ c.if-w-gt1.true)
+returns-then-w-gt1 c = λ v O. stays v NotAllowed 0 refl (alloc-not v _ _ _ c.if-w-gt1.true)
 
 pub returns-in_default : goal.returns-in_default
 returns-in_default c =
-    λ v nm O. like v nm (alloc-waits v _ _ _ c.if-w-gt1.false _ O _ refl (unless-none _ c.in_default.ensures)) (c.waits.ensures v nm)
+    λ v O. like v (alloc-waits v _ _ _ c.if-w-gt1.false _ O _ refl (unless-none _ c.in_default.ensures)) (c.waits.ensures v)
 
 pub returns : goal.returns
 returns c =
     let k = unless-some _ _ c.in-Some.ensures in
-    λ v nm O.
-    like v nm (alloc-done v _ _ _ c.if-w-gt1.false _ O _ k.0 k.1 _ c.owner_of.ensures)
+    λ v O.
+    like v (alloc-done v _ _ _ c.if-w-gt1.false _ O _ k.0 k.1 _ c.owner_of.ensures)
     (record {
       number = refl;
       values = refl;

@@ -28,7 +28,7 @@ there : (n : After-number-x) (v : View) → OfNumbers v n.args.numbers
 there n v O = ap (λ (xs : List Resource). number_at xs n.args.r) O.all ∙ sym n.number-x.ensures
 
 pub returns-then-waiting-gt1 : goal.returns-then-waiting-gt1
-returns-then-waiting-gt1 c = λ v nm O. stays v nm NotAllowed 0 refl
+returns-then-waiting-gt1 c = λ v O. stays v NotAllowed 0 refl
     (elim c.then-waiting-gt1.branch [
       | then-waiting-gt1-via-then-waiting-gt1 w ↦ wanted-not v _ _ _ _ c.waiting.ensures (λ a. omega arith)
       | then-waiting-gt1-via-else-waiting-gt1+then-r-lt1 w ↦
@@ -40,30 +40,30 @@ returns-then-waiting-gt1 c = λ v nm O. stays v nm NotAllowed 0 refl
 pub returns-then-x-eq0 : goal.returns-then-x-eq0
 returns-then-x-eq0 c =
     let n = (goal.at.returns-then-x-eq0 c).After-number-x in
-    λ v nm O.
-    stays v nm NotAllocated 0 refl
+    λ v O.
+    stays v NotAllocated 0 refl
     (number-free v _ _ _ _ c.waiting.ensures c.if-waiting-gt1.false (least n) (most n v O) _ (there n v O) c.if-x-eq0.true)
 
 pub returns-in-Lock : goal.returns-in-Lock
 returns-in-Lock c =
     let n = (goal.at.returns-in-Lock c).After-number-x in
-    λ v nm O.
-    like v nm (number-owned v _ _ _ _ c.waiting.ensures c.if-waiting-gt1.false (least n) (most n v O) _ (there n v O) c.if-x-eq0.false)
-    (subst (λ (q : Wanted). Decides v nm (wanted v c.args.c c.args.r q c.number-x.result) (settled c.locks.result))
-    (sym c.in-Lock.is) (c.locks.ensures v nm (most n v O)))
+    λ v O.
+    like v (number-owned v _ _ _ _ c.waiting.ensures c.if-waiting-gt1.false (least n) (most n v O) _ (there n v O) c.if-x-eq0.false)
+    (subst (λ (q : Wanted). Decides v (wanted v c.args.c c.args.r q c.number-x.result) (settled c.locks.result))
+    (sym c.in-Lock.is) (c.locks.ensures v (most n v O)))
 
 pub returns-in-Clear : goal.returns-in-Clear
 returns-in-Clear c =
     let n = (goal.at.returns-in-Clear c).After-number-x in
-    λ v nm O.
-    like v nm (number-owned v _ _ _ _ c.waiting.ensures c.if-waiting-gt1.false (least n) (most n v O) _ (there n v O) c.if-x-eq0.false)
-    (subst (λ (q : Wanted). Decides v nm (wanted v c.args.c c.args.r q c.number-x.result) (settled c.clears.result))
-    (sym c.in-Clear.is) (c.clears.ensures v nm (most n v O)))
+    λ v O.
+    like v (number-owned v _ _ _ _ c.waiting.ensures c.if-waiting-gt1.false (least n) (most n v O) _ (there n v O) c.if-x-eq0.false)
+    (subst (λ (q : Wanted). Decides v (wanted v c.args.c c.args.r q c.number-x.result) (settled c.clears.result))
+    (sym c.in-Clear.is) (c.clears.ensures v (most n v O)))
 
 pub returns-in-Free : goal.returns-in-Free
 returns-in-Free c =
     let n = (goal.at.returns-in-Free c).After-number-x in
-    λ v nm O.
-    like v nm (number-owned v _ _ _ _ c.waiting.ensures c.if-waiting-gt1.false (least n) (most n v O) _ (there n v O) c.if-x-eq0.false)
-    (subst (λ (q : Wanted). Decides v nm (wanted v c.args.c c.args.r q c.number-x.result) (settled c.frees.result))
-    (sym c.in-Free.is) (c.frees.ensures v nm (most n v O)))
+    λ v O.
+    like v (number-owned v _ _ _ _ c.waiting.ensures c.if-waiting-gt1.false (least n) (most n v O) _ (there n v O) c.if-x-eq0.false)
+    (subst (λ (q : Wanted). Decides v (wanted v c.args.c c.args.r q c.number-x.result) (settled c.frees.result))
+    (sym c.in-Free.is) (c.frees.ensures v (most n v O)))

@@ -46,4 +46,4 @@ returns-then-not-o c =
 pub returns : goal.returns
 returns c =
     let T = tested-is c.args.self _ _ (arrays (goal.at.returns c).Start) c.opened-o.ensures.0 c.opened-o.ensures.1 in
-    c.carry.ensures ∙ as-asked _ (T.ready (not-false _ c.if-not-o.false)) _ _ _ (c.decide.ensures (view lists (plain c.args.self)) refl (sym (T.caller (not-false _ c.if-not-o.false))))
+    c.carry.ensures ∙ as-asked _ (T.ready (not-false _ c.if-not-o.false)) _ _ (c.decide.ensures (view lists (plain c.args.self)) refl (sym (T.caller (not-false _ c.if-not-o.false))))

@@ -20,23 +20,23 @@ use Rattle.tables.proofs.Tables.carry.Goals as goal
 apt : (s : Start) {e : Effect} → s.args.d.effect ≡ e → Apt (view lists (plain s.args.self)) e
 apt s q = subst (Apt (view lists (plain s.args.self))) q s.requires.apt
 
-on : (s : Start) {e : Effect} {r : Result} → s.args.d.effect ≡ e → r ≡ carried s.args.self s.args.name s.args.d.answer e
-    → r ≡ carried s.args.self s.args.name s.args.d.answer s.args.d.effect
-on s q R = R ∙ ap (carried s.args.self s.args.name s.args.d.answer) (sym q)
+on : (s : Start) {e : Effect} {r : Result} → s.args.d.effect ≡ e → r ≡ carried s.args.self s.args.d.answer e
+    → r ≡ carried s.args.self s.args.d.answer s.args.d.effect
+on s q R = R ∙ ap (carried s.args.self s.args.d.answer) (sym q)
 
 -- the effect's events are played, and the answer is the one decided; or it is a count
 module _ (s : Start) (e : Effect) {u : Tables} (q : s.args.d.effect ≡ e)
-    (h : Happens (events_for (view lists (plain s.args.self)) s.args.name e))
-    (S : Played s.args.self (events_for (view lists (plain s.args.self)) s.args.name e) u) where
+    (h : Happens (events_for (view lists (plain s.args.self)) e))
+    (S : Played s.args.self (events_for (view lists (plain s.args.self)) e) u) where
   moves : reply_for (view lists (plain s.args.self)) s.args.d.answer e ≡ (number s.args.d.answer, values s.args.d.answer)
       → told (record { answer = s.args.d.answer; tables = u })
-      ≡ carried s.args.self s.args.name s.args.d.answer s.args.d.effect
-  moves w = on s q (moved s.args.self s.args.name s.args.d.answer e u h S w)
+      ≡ carried s.args.self s.args.d.answer s.args.d.effect
+  moves w = on s q (moved s.args.self s.args.d.answer e u h S w)
 
   counts : {n m : ℕ} → n ≡ m → reply_for (view lists (plain s.args.self)) s.args.d.answer e ≡ (0, m ∷ [])
-      → counted n u ≡ carried s.args.self s.args.name s.args.d.answer s.args.d.effect
+      → counted n u ≡ carried s.args.self s.args.d.answer s.args.d.effect
   counts {n} N w =
-      on s q (made_counted s.args.self s.args.name s.args.d.answer e u h S n (w ∙ ap (λ (k : ℕ). (0, k ∷ [])) (sym N)))
+      on s q (made_counted s.args.self s.args.d.answer e u h S n (w ∙ ap (λ (k : ℕ). (0, k ∷ [])) (sym N)))
 
 pub loaded-tables-requires : goal.loaded-tables-requires
 loaded-tables-requires c =
@@ -115,11 +115,11 @@ returns-in-Stay c = on (goal.at.returns-in-Stay c).Start c.in-Stay.is refl
 pub returns-in-Renew : goal.returns-in-Renew
 returns-in-Renew c =
     let q = c.in-Renew.is in
-    on (goal.at.returns-in-Renew c).Start q (c.fresh.ensures ∙ made-anew c.args.self c.args.name c.args.d.answer c.in-Renew.t c.in-Renew.s c.in-Renew.r c.in-Renew.y (apt (goal.at.returns-in-Renew c).Start q))
+    on (goal.at.returns-in-Renew c).Start q (c.fresh.ensures ∙ made-anew c.args.self c.args.d.answer c.in-Renew.t c.in-Renew.s c.in-Renew.r c.in-Renew.y (apt (goal.at.returns-in-Renew c).Start q))
 
 pub returns-in-Load : goal.returns-in-Load
 returns-in-Load c =
-    moves (goal.at.returns-in-Load c).Start (Load c.in-Load.p c.in-Load.n) c.in-Load.is tt c.loaded-tables.ensures refl
+    moves (goal.at.returns-in-Load c).Start (Load c.in-Load.p c.in-Load.name c.in-Load.n) c.in-Load.is tt c.loaded-tables.ensures refl
 
 pub returns-in-Price : goal.returns-in-Price
 returns-in-Price c =
