@@ -1,5 +1,5 @@
 // Every request: which part of the book decides it.
-ghost use Rattle.std.specs.Prelude.{ℕ, ◌≡◌, List};
+ghost use Rattle.std.specs.Prelude.{◌≡◌};
 ghost use Rattle.rules.specs.Plans.{View};
 ghost use Rattle.rules.specs.Rules.{head, may_start, plan, call};
 ghost use Rattle.rules.specs.Requests.{FRESH, LOAD, TICK};

@@ -1,5 +1,4 @@
 // Tracks asked for, and given back: EXEC 4, 15, 5 and 16.
-ghost use Rattle.std.specs.Prelude.{ℕ, List};
 ghost use Rattle.tracks.specs.Inner.{Fit};
 ghost use Rattle.rules.specs.Plans.{View};
 ghost use Rattle.rules.specs.Rules.{takes, gives, call};

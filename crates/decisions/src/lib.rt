@@ -7,7 +7,7 @@ mod discs;
 mod naming;
 mod numbering;
 
-ghost use Rattle.std.specs.Prelude.{ℕ, ◌≡◌, List};
+ghost use Rattle.std.specs.Prelude.{◌≡◌};
 ghost use Rattle.rules.specs.Plans.{View};
 ghost use Rattle.rules.specs.Rules.{waits};
 ghost use Rattle.decisions.specs.declared.Effect.TheVariants.{Stay};

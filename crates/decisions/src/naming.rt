@@ -1,5 +1,5 @@
 // What is asked of a program by its name: the operator's orders, and EXEC 9, 10 and 12. And LOAD, whose name must be new.
-ghost use Rattle.std.specs.Prelude.{ℕ, ◌≡◌, ◌||◌, List, eqb};
+ghost use Rattle.std.specs.Prelude.{◌≡◌, ◌||◌, eqb};
 ghost use Rattle.limits.specs.Limits.{last_priority};
 ghost use Rattle.lists.specs.Lists.{up_to};
 ghost use Rattle.records.specs.Records.{Known};

@@ -1,5 +1,5 @@
 // Resource numbers: RN ALLOC, LOCK, CLEAR and FREE.
-ghost use Rattle.std.specs.Prelude.{ℕ, ◌≤◌, ◌≡◌, cond, ◌||◌, List, eqb};
+ghost use Rattle.std.specs.Prelude.{◌≤◌, ◌≡◌, cond, ◌||◌, eqb};
 ghost use Rattle.records.specs.Numbers.{globally};
 ghost use Rattle.rules.specs.Plans.{View};
 ghost use Rattle.rules.specs.Rules.{call};
