@@ -28,7 +28,8 @@ pub fn part_end(s: &[u8], from: usize, d: u8) -> usize
     }
 }
 
-// Whether s from a place on is w. Every byte is compared, also behind one that differs: so the compiler compares many at once.
+// Whether s from a place on is w. It is no `==`, which stops at the first byte that differs: here every byte is compared, so the compiler compares
+// many at once.
 pub fn rest_is(s: &[u8], from: usize, w: &[u8]) -> bool
     requires { from ≤ length s.now }
     ensures { result ≡ alike (drop from s.now) w.now }
@@ -73,6 +74,7 @@ pub fn digits_from(s: &[u8], from: usize, most: usize) -> Digits
 {
     let limit = s.len().min(from + most);
     let mut value: u64 = 0;
+    // a loop over places: the place where the digits end is told
     for i in from..limit {
         if !s[i].is_ascii_digit() {
             return Digits { value, end: i };
