@@ -6,6 +6,7 @@ use native.Mathlib.Nat.{suc-add, zero-add}
 use native.Mathlib.Numerals.{add-one}
 use native.Mathlib.Omega.{arith}
 use mathlib.Core.Path.{◌≡◌, refl, sym, ap, subst, ◌∙◌}
+use mathlib.Core.Logic.{◌≢◌}
 use mathlib.Core.Bool.{Bool, true, false, cond, ◌&&◌}
 use mathlib.Core.List.{List, [], ◌∷◌, ◌++◌}
 use Rattle.std.proofs.Common.{nat_eq}
@@ -19,6 +20,7 @@ use lib.Seq.{slice, slice-cons, slice_empty, drop-cons, take-nil, drop-drop, tak
 use Rattle.std.proofs.lemmas.List.{take_all}
 use borrow.Author.Tests.{eq-eqb, ne_eqb, ltb-false}
 use Rattle.lists.specs.Lists.{alike}
+use Rattle.lists.proofs.Tests.{alike-true}
 use Rattle.text.specs.Text.{on_first, parts}
 use Rattle.text.specs.Inner.{PartEnd}
 
@@ -141,3 +143,10 @@ same_bytes (x ∷ a) (y ∷ b) = ap (λ (t : Bool). nat_eq x y && t) (same_bytes
 pub rest_same : (s w : List ℕ) (from : ℕ) → pointwise nat_eq (take (length s - from) (drop from s)) w ≡ alike (drop from s) w
 rest_same s w from = same_bytes (take (length s - from) (drop from s)) w
     ∙ ap (λ (r : List ℕ). alike r w) (take_all (length s - from) (drop from s) (omega (arith, length-drop from s)))
+
+pub alike-not : (a b : List ℕ) → a ≢ b → alike a b ≡ false
+alike-not a b n = go (alike a b) refl
+  where
+    go : (t : Bool) → alike a b ≡ t → t ≡ false
+    go true e = absurd (n (alike-true a b e))
+    go false e = refl
