@@ -1,7 +1,6 @@
 // One line on standard error, where nothing is printed.
-use std::fmt;
-use std::io;
 use std::io::Write;
+use std::{fmt, io};
 use streams::{ReadError, Stopped};
 
 /// What is wrong with an argument, or with the file that it names.

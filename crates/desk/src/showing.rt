@@ -83,10 +83,7 @@ pub fn show_list(
 ) -> Result<(), Stopped> {
     let answer = transcripts::list_figures(original, copy, list);
     let Answer::Done(many) = answer else {
-        return Err(stop(
-            &output.outlet.rt,
-            "more than 65536 lines differ",
-        ));
+        return Err(stop(&output.outlet.rt, "more than 65536 lines differ"));
     };
     let Some(listed) = list.get(..(many as usize).saturating_mul(3)) else {
         return Err(wrong_list(output));

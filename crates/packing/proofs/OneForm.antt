@@ -20,6 +20,7 @@ use Rattle.records.specs.declared.Program.{Program}
 use Rattle.records.specs.declared.Why.TheVariants.{Nothing, Tracks, Son, Lock, Number}
 use Rattle.tables.specs.declared.Tables.{Tables}
 use Rattle.tables.specs.Tables.{Arrays}
+use Rattle.text.proofs.Fields.{same_bytes}
 use Rattle.packing.specs.Packed.{of_bytes, figure_at, why_of, pack_program, program_at, packed, unpacked, is_packed, programs_place, packed_length}
 use Rattle.packing.proofs.Pieces.{resources-length, program-length}
 use Rattle.packing.proofs.Lossless.{wide, FitWhy, FitProgram, Each, FitTables, lossless}
@@ -113,12 +114,6 @@ module _ (s : List ℕ) (b : Bytes s) where
   }
 
 -- THE TEST
-point_by_point : (xs ys : List ℕ) → pointwise nat_eq xs ys ≡ alike xs ys
-point_by_point [] [] = refl
-point_by_point [] (y ∷ ys) = refl
-point_by_point (x ∷ xs) [] = refl
-point_by_point (x ∷ xs) (y ∷ ys) = ap (λ (b : Bool). nat_eq x y && b) (point_by_point xs ys)
-
 module _ (s : List ℕ) where
   by_length : (b : Bool) → eqb (length s) packed_length ≡ b → is_packed s ≡ (b && alike (packed (unpacked s)) s)
   unfolding is_packed
@@ -131,7 +126,7 @@ module _ (s : List ℕ) where
   pub packed-is : (form : List ℕ) (r : Bool) → length s ≡ packed_length → form ≡ packed (unpacked s) → r ≡ pointwise nat_eq form s
       → r ≡ is_packed s
   packed-is form r long e t =
-      t ∙ point_by_point form s ∙ ap (λ (x : List ℕ). alike x s) e ∙ sym (by_length true (eq-eqb (length s) packed_length long))
+      t ∙ same_bytes form s ∙ ap (λ (x : List ℕ). alike x s) e ∙ sym (by_length true (eq-eqb (length s) packed_length long))
 
   pub is-length : is_packed s ≡ true → length s ≡ packed_length
   unfolding is_packed

@@ -18,10 +18,6 @@ use Rattle.reader.proofs.ScanLaws.{Good}
 use Rattle.reader.proofs.LineLaws.{word-there}
 use Rattle.reader.proofs.PerhapsLaws.{begins-value, some-line, there-begins, there-scan, none-begins, none-scan, one-good, none-good}
 
-pub hit-most : (b : Bool) → hit b ≤ 1
-hit-most true = omega arith
-hit-most false = omega arith
-
 -- behind a record a page is not at its end
 not-ended : (n k : ℕ) (l : List ℕ) → behind_all (records_ahead n) k l ≡ k
 not-ended zero k l = refl

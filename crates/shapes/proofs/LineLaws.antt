@@ -1,19 +1,12 @@
 -- Laws of the line at a place: its key and its value.
 -- Assumes nothing.
-use Prim.Native.Nat.{ℕ, ◌+◌, ◌≤◌}
+use Prim.Native.Nat.{ℕ, ◌+◌}
 use native.Mathlib.Omega.{arith}
-use mathlib.Core.Path.{◌≡◌, sym, ap, subst}
-use mathlib.Core.List.{List, []}
+use mathlib.Core.Path.{◌≡◌, sym, subst}
+use mathlib.Core.List.{List}
 use mathlib.Core.Option.{Option, none, some, none-ne-some}
-use lib.ListN.{length, drop_of_length-le}
 use lib.Seq.{slice}
-use Rattle.text.specs.Text.{parts}
 use Rattle.shapes.specs.Inner.{LineIs, NoLine, unended, keyless, shapeless, ValueIs}
-
--- behind the last byte there is none
-pub past_end : {A : Type 0} (shape : List ℕ → Option A) (s key : List ℕ) (at : ℕ) → length s ≤ at → NoLine shape s at key
-unfolding parts
-past_end shape s key at h = unended [] (ap (parts 10) (drop_of_length-le s h))
 
 -- a key that is another one
 pub value_as : {s key key' : List ℕ} {at from to : ℕ} → key ≡ key' → ValueIs s at key from to → ValueIs s at key' from to

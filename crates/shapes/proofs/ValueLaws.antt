@@ -41,9 +41,6 @@ first_of fs o = elim o [ none ↦ none | some n ↦ into (λ ns. n ∷ ns) (each
 pub record Chaining (v : List ℕ) (links : List ℕ) (state : ℕ) (l : List ℕ) (slot i : ℕ) : Type 0 where
   pub same : laid_on links state (each (parts 44 v)) ≡ laid_on l slot (each (drop i (parts 44 v)))
 
-pub chaining_start : (v links : List ℕ) (state : ℕ) → Chaining v links state links state 0
-chaining_start v links state = record { same = refl }
-
 listed-each : (v : List ℕ) → (length v ≡ 0 → ⊥) → listed v ≡ each (parts 44 v)
 listed-each v h = ap (λ (b : Bool). cond b (some []) (each (parts 44 v))) (ne_eqb (length v) 0 h)
 

@@ -1,13 +1,13 @@
 -- What stands at the front of bytes of a call's own: bytes that were put there, and an answer's line as it is printed.
 -- Assumes nothing.
-use Prim.Native.Nat.{ℕ, ◌-◌, ◌≤◌}
+use Prim.Native.Nat.{ℕ, ◌+◌, ◌-◌, ◌≤◌}
 use native.Mathlib.Nat.{sub-zero}
 use native.Mathlib.Omega.{arith}
-use mathlib.Core.Path.{◌≡◌, refl, ap, ◌∙◌}
+use mathlib.Core.Path.{◌≡◌, refl, sym, ap, ◌∙◌}
 use mathlib.Core.Bool.{Bool, cond}
-use mathlib.Core.List.{List}
+use mathlib.Core.List.{List, ◌++◌}
 use lib.ListN.{length, take, drop, replicate, length-append, length-replicate}
-use lib.Seq.{take-append-le, take-length}
+use lib.Seq.{sets, sets-eq, take-append-le, take-length}
 use borrow.Author.Tests.{le-leb}
 use Rattle.text.specs.Inner.{Wrote}
 use Rattle.text.proofs.Laws.{wrote-take}
@@ -22,6 +22,12 @@ use Rattle.showing.specs.Showing.{answer_text}
 -- bytes that were put at the front, as the code takes them out
 pub front-part : {l x l' : List ℕ} {n : ℕ} → Wrote l 0 x l' n → length x ≤ length l → take (n - 0) l' ≡ x
 front-part {l' = l'} {n = n} w room = ap (λ (k : ℕ). take k l') (sub-zero n) ∙ wrote-take w room
+
+-- bytes at the front of others, as the library's slices put them
+pub put-front : (x out : List ℕ) {after : List ℕ} (m : ℕ) → m ≡ length x → m ≤ length out → after ≡ x ++ drop m out → after ≡ sets out 0 x
+put-front x out m e h w =
+    let k : m ≡ 0 + length x = omega arith in
+    w ∙ ap (λ (i : ℕ). x ++ drop i out) k ∙ sym (sets-eq x out 0 (omega arith))
 
 -- an answer's line has a byte, and no more than the room that is lent for it
 pub answer-some : (a : Answer) → 1 ≤ length (answer_of (number a) (values a))

@@ -1,10 +1,10 @@
 -- A front of what was to be let out is one of what waited and a piece, in the cases that `put` has.
 -- Assumes nothing.
-use Rattle.std.proofs.Common.{◌≡◌, ℕ, List, [], ◌++◌, None, Some, refl, sym, ap, ◌∙◌, subst, append_assoc, append-nil}
+use Rattle.std.proofs.Common.{ℕ, List, [], ◌++◌, None, Some, refl, sym, ap, ◌∙◌, append_assoc, append-nil}
 use Rattle.std.specs.declared.option.Option.{Option}
 use Rattle.std.specs.Io.KnownBytes.{Appends}
 use Rattle.std.proofs.KnownBytes.{Appends-trans}
-use Rattle.streams.specs.Fronts.{Written, AppendsFront}
+use Rattle.streams.specs.Fronts.{AppendsFront}
 
 -- nothing was let out
 pub front_none : (a : Option (List ℕ)) (bytes : List ℕ) → AppendsFront a a bytes

@@ -1,2 +1,3 @@
 pub mod Fronts
 pub mod Gathered
+pub mod Given

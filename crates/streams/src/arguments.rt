@@ -1,5 +1,6 @@
 // The program's arguments.
-ghost use Rattle.std.specs.Prelude.{◌≡◌, ◌≢◌, ◌+◌, ◌≤◌, ◌<◌, length};
+ghost use Rattle.std.specs.Prelude.{◌≡◌, ◌≢◌, ◌≤◌, length, slice_index, EachIndex};
+ghost use Rattle.streams.specs.Fronts.{IsShown};
 
 use std::env::{Env, FillError};
 
@@ -22,6 +23,8 @@ pub struct Argument {
 }
 
 impl Argument {
+    ghost use Rattle.streams.specs.Given.{given};
+
     /// Argument i; none where it is longer than those that are taken, or is not there.
     pub fn take(rt: &impl Env, i: usize) -> Option<Argument> {
         let mut bytes = [0; LONGEST_ARGUMENT];
@@ -32,6 +35,7 @@ impl Argument {
     /// These bytes in place of an argument.
     pub fn from_slice(s: &[u8]) -> Argument
         requires { length s.now ≤ 4095 }
+        ensures { given result ≡ s.now }
     {
         let mut bytes = [0; LONGEST_ARGUMENT];
         bytes[..s.len()].copy_from_slice(s);
@@ -42,25 +46,35 @@ impl Argument {
     }
 
     pub fn as_slice(&self) -> &[u8]
-        ensures { length result.now ≤ 4095 }
+        ensures value { result.now ≡ given self.now }
+        ensures bound { length result.now ≤ 4095 }
     {
         &self.bytes[..self.count]
     }
 
     /// The argument with each byte as it is shown.
-    pub fn into_shown(self) -> Argument {
+    pub fn into_shown(self) -> Argument
+        ensures length { length (given result) ≡ length (given self) }
+        ensures shown { EachIndex (given result) (λ k. IsShown (slice_index (given result) k)) }
+    {
         let Argument { mut bytes, count } = self;
-        for b in &mut bytes[..count] {
-            *b = shown(*b);
-        }
+        show_all(&mut bytes[..count]);
         Argument { bytes, count }
+    }
+}
+
+// Makes each byte one that is shown.
+fn show_all(bytes: &mut [u8])
+    ensures { EachIndex bytes.new (λ k. IsShown (slice_index bytes.new k)) }
+{
+    for b in bytes.iter_mut() {
+        *b = shown(*b);
     }
 }
 
 /// A byte of a name as it is shown. One that would end the line, or move about on the terminal, is a question mark.
 pub fn shown(b: u8) -> u8
-    ensures low { 32 ≤ result }
-    ensures delete { result ≢ 127 }
+    ensures shown { IsShown result }
     ensures same { 32 ≤ b → b ≢ 127 → result ≡ b }
 {
     if b.is_ascii_control() { b'?' } else { b }

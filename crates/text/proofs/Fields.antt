@@ -5,10 +5,12 @@ use Prim.Native.Nat.{ℕ, zero, suc, ◌+◌, ◌-◌, ◌<◌, ◌≤◌}
 use native.Mathlib.Nat.{suc-add, zero-add}
 use native.Mathlib.Numerals.{add-one}
 use native.Mathlib.Omega.{arith}
-use mathlib.Core.Path.{◌≡◌, refl, sym, ap, ap₂, subst, ◌∙◌}
+use mathlib.Core.Path.{◌≡◌, refl, sym, ap, subst, ◌∙◌}
 use mathlib.Core.Logic.{◌≢◌}
 use mathlib.Core.Bool.{Bool, true, false, cond, ◌&&◌}
 use mathlib.Core.List.{List, [], ◌∷◌, ◌++◌}
+use Rattle.std.proofs.Common.{nat_eq}
+use lib.Pointwise.{pointwise}
 use lib.Dec.{eqb, eqb-zero-suc, eqb-suc-suc}
 use Rattle.std.specs.Prelude.{Option, Some, None}
 use Rattle.std.specs.List.{position, position_or_len}
@@ -131,17 +133,16 @@ pub until_end : (d : ℕ) (s : List ℕ) (i : ℕ) → length s ≤ i → until 
 unfolding until
 until_end d s i h = ap (until d) (drop_of_length-le s h)
 
--- two texts, from o and from i on
-module _ (s w : List ℕ) (o i t : ℕ) (h : o < t) (k : t ≤ length s) (l : i < length w) where
-  alike_next : (b : Bool) → eqb (get_or s o 0) (get_or w i 0) ≡ b
-      → alike (slice o t s) (drop i w) ≡ (b && alike (slice (o + 1) t s) (drop (i + 1) w))
-  alike_next b e = ap₂ alike (slice-next s o t h k) (drop-next w i l) ∙ ap (λ (c : Bool). c && alike (slice (o + 1) t s) (drop (i + 1) w)) e
+-- bytes are compared by `==` as `alike` compares them
+pub same_bytes : (a b : List ℕ) → pointwise nat_eq a b ≡ alike a b
+same_bytes [] [] = refl
+same_bytes [] (y ∷ b) = refl
+same_bytes (x ∷ a) [] = refl
+same_bytes (x ∷ a) (y ∷ b) = ap (λ (t : Bool). nat_eq x y && t) (same_bytes a b)
 
-  pub alike-on : get_or s o 0 ≡ get_or w i 0 → alike (slice o t s) (drop i w) ≡ alike (slice (o + 1) t s) (drop (i + 1) w)
-  alike-on e = alike_next true (eq-eqb (get_or s o 0) (get_or w i 0) e)
-
-  pub alike-differ : (get_or s o 0 ≡ get_or w i 0 → ⊥) → alike (slice o t s) (drop i w) ≡ false
-  alike-differ n = alike_next false (ne_eqb (get_or s o 0) (get_or w i 0) n)
+pub rest_same : (s w : List ℕ) (from : ℕ) → pointwise nat_eq (take (length s - from) (drop from s)) w ≡ alike (drop from s) w
+rest_same s w from = same_bytes (take (length s - from) (drop from s)) w
+    ∙ ap (λ (r : List ℕ). alike r w) (take_all (length s - from) (drop from s) (omega (arith, length-drop from s)))
 
 pub alike-not : (a b : List ℕ) → a ≢ b → alike a b ≡ false
 alike-not a b n = go (alike a b) refl

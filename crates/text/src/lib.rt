@@ -28,21 +28,13 @@ pub fn part_end(s: &[u8], from: usize, d: u8) -> usize
     }
 }
 
-// Whether s from a place on is w. Every byte is compared, also behind one that differs: so the compiler compares many at once.
+// Whether s from a place on is w.
+#[tactic(auto, using(crate::proofs::Fields::rest_same))]
 pub fn rest_is(s: &[u8], from: usize, w: &[u8]) -> bool
     requires { from ≤ length s.now }
     ensures { result ≡ alike (drop from s.now) w.now }
 {
-    if s.len() - from != w.len() {
-        return false;
-    }
-    let mut same = true;
-    for i in 0..w.len() {
-        if s[from + i] != w[i] {
-            same = false;
-        }
-    }
-    same
+    &s[from..] == w
 }
 
 // The place behind w, where s[from..to] begins with it.
@@ -73,6 +65,7 @@ pub fn digits_from(s: &[u8], from: usize, most: usize) -> Digits
 {
     let limit = s.len().min(from + most);
     let mut value: u64 = 0;
+    // a loop over places: the place where the digits end is told
     for i in from..limit {
         if !s[i].is_ascii_digit() {
             return Digits { value, end: i };

@@ -55,13 +55,6 @@ one_end d s from e e' p q = omega (arith, is e p, is e' q, p.low, q.low)
     is : (x : ℕ) → PartEnd d s from x → length (get_or (parts d (drop from s)) 0 []) ≡ x - from
     is x p = ap length (first x p) ∙ length-slice from x s p.high
 
--- bytes are compared as `alike` compares them
-pub same_bytes : (a b : List ℕ) → pointwise nat_eq a b ≡ alike a b
-same_bytes [] [] = refl
-same_bytes [] (y ∷ b) = refl
-same_bytes (x ∷ a) [] = refl
-same_bytes (x ∷ a) (y ∷ b) = ap (λ (t : Bool). nat_eq x y && t) (same_bytes a b)
-
 -- the same place is told
 abbrev begins_in : option.Option Span → ℕ
 begins_in None = 0

@@ -17,7 +17,7 @@ pub loop-reached-smaller : goal.loop-reached-smaller
 loop-reached-smaller c =
     let l = c.loop-reached in
     let p = c.print_block-turn in
-    omega (arith, turn-fewer l.reached.tables c.args.block.now l.reached.place l.out _ p.ensures (λ q. omega (arith, q, c.if-used-eq0.false)))
+    omega (arith, turn-fewer l.reached.tables c.args.block.now l.reached.place l.out _ p.ensures (λ q. omega arith))
 
 pub loop-reached-preserved : goal.loop-reached-preserved
 loop-reached-preserved c =

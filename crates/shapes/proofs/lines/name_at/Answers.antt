@@ -1,6 +1,5 @@
 -- `lines::name_at` reads a line with a name: its key, then its value.
 -- Assumes nothing.
-use native.Mathlib.Omega.{arith}
 use mathlib.Core.Path.{sym, ap, subst, ◌∙◌}
 use Rattle.std.proofs.lemmas.Slice.{between_is}
 use Rattle.records.specs.Names.{name_of}

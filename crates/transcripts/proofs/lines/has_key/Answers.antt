@@ -4,7 +4,7 @@ use mathlib.Core.Path.{sym, ◌∙◌}
 use lib.ListN.{length, take}
 use borrow.Author.Tests.{le-ltb}
 use Rattle.transcripts.proofs.KeyLaws.{key-none, key-some, has-none, has_some}
-use Rattle.transcripts.proofs.LineLaws.{same_bytes}
+use Rattle.text.proofs.Fields.{same_bytes}
 use Rattle.transcripts.proofs.lines.has_key.Goals as goal
 
 pub returns-then-end-line : goal.returns-then-end-line

@@ -6,7 +6,8 @@ use lib.ListN.{take, drop}
 use lib.Seq.{slice}
 use Rattle.lists.specs.Lists.{alike}
 use Rattle.transcripts.specs.Inner.{SpanIn, held_at}
-use Rattle.transcripts.proofs.LineLaws.{part-taken, same_bytes}
+use Rattle.text.proofs.Fields.{same_bytes}
+use Rattle.transcripts.proofs.LineLaws.{part-taken}
 use Rattle.transcripts.proofs.listing.hold.Goals as goal
 
 pub returns-in-Some : goal.returns-in-Some
