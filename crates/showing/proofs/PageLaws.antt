@@ -7,14 +7,14 @@ use mathlib.Core.Path.{◌≡◌, refl, sym, ap, ◌∙◌}
 use mathlib.Core.Bool.{Bool, true, false, cond, ◌&&◌}
 use mathlib.Core.List.{List, [], ◌∷◌, ◌++◌, append_assoc, append-nil}
 use lib.Dec.{leb, eqb}
-use lib.ListN.{length, get_or, drop, length-append}
+use lib.ListN.{length, get_or, take, drop, length-append}
 use lib.Seq.{slice, length-slice}
 use borrow.Author.Tests.{le-leb, lt-leb}
 use Rattle.lists.specs.Lists.{join}
 use Rattle.lists.proofs.Tests.{and, not-both}
 use Rattle.text.specs.Text.{text}
 use Rattle.text.specs.Lines.{lines_of}
-use Rattle.text.specs.Inner.{PartEnd, Wrote}
+use Rattle.text.specs.Inner.{PartEnd}
 use Rattle.text.proofs.Fields.{until, part_end}
 use Rattle.text.proofs.Lines.{lines_none, lines_next}
 use Rattle.rules.specs.Answers.{number, values}
@@ -22,7 +22,7 @@ use Rattle.rules.specs.declared.Answer.{Answer}
 use Rattle.rules.specs.declared.Answer.TheVariants.{NotAllowed, NotRead}
 use Rattle.tables.specs.declared.Outcome.{Outcome}
 use Rattle.tables.specs.Calls.{Result, told}
-use Rattle.page.proofs.Writing.{wrote_as}
+use Rattle.transcripts.proofs.LineLaws.{part-taken}
 use Rattle.following.proofs.Fifteen.{not-fifteen}
 use Rattle.reader.specs.Reading.{reading}
 use Rattle.transcripts.specs.Listing.{Filled, answered}
@@ -45,6 +45,13 @@ module _ (s : List ℕ) (from : ℕ) where
     -- the first line from here on, and any behind it
     pub number-one : line_of_number 1 (lines_of (drop from s)) ≡ slice from e s ++ (10 ∷ [])
     number-one = ap (line_of_number 1) (lines_next s from e h p)
+
+    -- where it is the one of that number, it is what the code takes, and a byte 10
+    pub number-here : (n left : ℕ) → left ≡ 1 → line_of_number left (lines_of (drop from s)) ≡ line_of_number n (lines_of s)
+        → line_of_number n (lines_of s) ≡ take (e - from) (drop from s) ++ (10 ∷ [])
+    number-here n left one i =
+        sym i ∙ ap (λ (k : ℕ). line_of_number k (lines_of (drop from s))) one ∙ number-one
+        ∙ ap (λ (x : List ℕ). x ++ (10 ∷ [])) (sym (part-taken s from e p.low))
 
     next-on : (k : ℕ) → line_of_number (suc (suc k)) (lines_of (drop from s)) ≡ line_of_number (suc k) (lines_of (drop (e + 1) s))
     next-on k = ap (line_of_number (suc (suc k))) (lines_next s from e h p)
@@ -77,10 +84,6 @@ line-most (suc k) s from = go k (dec_lt from (length s)) (λ e. line-most k s e)
         let e : ℕ = from + until 10 (drop from s) in
         omega (arith, ap length (next-on s from e h p k), most (e + 1))
 
--- what is written, from a buffer and of bytes under other names
-pub wrote-from : {l₀ l x y l' : List ℕ} {at n : ℕ} → l ≡ l₀ → x ≡ y → Wrote l at y l' n → Wrote l₀ at x l' n
-wrote-from e f w = wrote_as f (rw e at w)
-
 -- THE LINE THAT IS NOT WELL FORMED
 abbrev shown_bad : List ℕ → List ℕ → Bool → List ℕ
 shown_bad s vs b = cond b (line_of_number (get_or vs 0 0) (lines_of s)) []
@@ -88,7 +91,7 @@ shown_bad s vs b = cond b (line_of_number (get_or vs 0 0) (lines_of s)) []
 pub bad-none : (s : List ℕ) (a : Answer) → ((n : ℕ) → a ≡ NotRead n → ⊥) → bad_text s (number a) (values a) ≡ []
 bad-none s a h = ap (shown_bad s (values a)) (not-fifteen a h)
 
-bad-most : (s : List ℕ) (a : ℕ) (vs : List ℕ) → length (bad_text s a vs) ≤ length s + 1
+pub bad-most : (s : List ℕ) (a : ℕ) (vs : List ℕ) → length (bad_text s a vs) ≤ length s + 1
 bad-most s a vs = go (eqb a 15)
   where
     go : (b : Bool) → length (shown_bad s vs b) ≤ length s + 1
@@ -118,6 +121,8 @@ page-room name s a h k =
       answer-most a,
       bad-most s (number a) (values a),
     )
+
+pub ruleset page_put = (answer-most, bad-most, length-append)
 
 -- WHAT IS HANDED BACK
 module _ (name s : List ℕ) (a : ℕ) (vs out : List ℕ) where

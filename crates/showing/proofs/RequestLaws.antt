@@ -2,20 +2,18 @@
 -- Assumes nothing.
 use Prim.Native.Nat.{ℕ, zero, suc, ◌+◌, ◌-◌, ◌≤◌, ◌<◌, min}
 use native.Mathlib.Decide.{dec_lt}
-use native.Mathlib.Nat.{zero-add}
 use native.Mathlib.Omega.{arith}
 use mathlib.Core.Path.{◌≡◌, refl, sym, ap, ◌∙◌}
 use mathlib.Core.Bool.{Bool, true, false, cond}
 use mathlib.Core.List.{List, [], ◌∷◌, ◌++◌, map, append_assoc, append-nil}
 use lib.Dec.{leb, ltb}
-use lib.ListN.{length, get_or, take, length-append, length-take, length-map, get_or-eq_default}
-use lib.Seq.{get_or-take, length-take-le}
+use lib.ListN.{length, get_or, take, drop, length-append, length-take, length-map, get_or-eq_default, drop_of_length-le}
+use lib.Seq.{get_or-take, length-take-le, take_all}
 use borrow.Author.Tests.{leb-true, lt-ltb, le-ltb, le-leb, lt-leb}
 use Rattle.limits.specs.Limits.{longest_line}
 use Rattle.lists.specs.Lists.{join}
 use Rattle.lists.proofs.Tests.{along-in}
 use Rattle.text.specs.Text.{text, decimal}
-use Rattle.text.specs.Inner.{Wrote}
 use Rattle.text.proofs.Laws.{decimal-most}
 use Rattle.rules.specs.Answers.{number, values}
 use Rattle.rules.specs.declared.Answer.{Answer}
@@ -32,7 +30,7 @@ use Rattle.console.specs.Sheet.{lent, answer_of}
 use Rattle.showing.specs.Showing.{shown_in, with_tables, shown_byte, shown_request, meanings, refusal, answer_text, request_text}
 use Rattle.showing.specs.Showing.{request_bytes, request_shown}
 use Rattle.showing.specs.Inner.{meant, request_room}
-use Rattle.showing.proofs.ShownLaws.{answer-some, answer-most}
+use Rattle.showing.proofs.ShownLaws.{answer-some, answer-most, put-front}
 
 -- A LINE'S BYTES
 -- the first 72, and what stands for the others
@@ -64,11 +62,28 @@ tail_none l h = ap tail (le-leb (length l) longest_line h)
 pub tail-dots : (l : List ℕ) → longest_line < length l → line_tail l ≡ text ".."
 tail-dots l h = ap tail (lt-leb (length l) longest_line h)
 
+pub line-long : (l : List ℕ) → length (shown_request l) ≡ min longest_line (length l) + length (line_tail l)
+line-long l = length-append (line_bytes l) (line_tail l) ∙ ap (λ (k : ℕ). k + length (line_tail l)) (bytes-long l)
+
+-- the first bytes of a line, when all of them are put behind others
+first : (l : List ℕ) (n : ℕ) → n ≡ min (length l) longest_line → take n l ≡ take longest_line l
+first l n e = go (dec_lt longest_line (length l))
+  where
+    go : Dec (longest_line < length l) → take n l ≡ take longest_line l
+    go (yes h) = let k : n ≡ longest_line = omega arith in ap (λ (m : ℕ). take m l) k
+    go (no h) = take_all n l (omega arith) ∙ sym (take_all longest_line l (omega arith))
+
+pub line-put : (l b : List ℕ) {o : List ℕ} (n : ℕ) → n ≡ min (length l) longest_line → (i : ℕ) → length (take n l) ≤ i
+    → o ++ map shown_byte (drop i (take n l)) ≡ b ++ map shown_byte (take n l) → o ≡ b ++ line_bytes l
+line-put l b {o} n e i h p =
+    sym (append-nil o) ∙ ap (λ (x : List ℕ). o ++ map shown_byte x) (sym (drop_of_length-le (take n l) {i = i} h)) ∙ p
+    ∙ ap (λ (x : List ℕ). b ++ map shown_byte x) (first l n e)
+
 tail-most : (b : Bool) → length (tail b) ≤ 2
 tail-most true = omega arith
 tail-most false = omega arith
 
-shown-most : (l : List ℕ) → length (shown_request l) ≤ 74
+pub shown-most : (l : List ℕ) → length (shown_request l) ≤ 74
 shown-most l = omega (arith, length-append (line_bytes l) (line_tail l), bytes-long l, tail-most (leb (length l) longest_line))
 
 -- ITS REFUSAL
@@ -89,7 +104,7 @@ meaning-most i = go (dec_lt i 13)
     go (yes h) = leb-true (length (text (get_or meanings i ""))) 42 (along-in "" (λ j m. leb (length (text m)) 42) 0 13 meanings refl i h)
     go (no h) = omega (arith, ap (λ m. length (text m)) (get_or-eq_default meanings "" {n = i} (omega arith)))
 
-refusal-most : (a : ℕ) → length (refusal a) ≤ 54
+pub refusal-most : (a : ℕ) → length (refusal a) ≤ 54
 refusal-most a = go (ltb a 2)
   where
     go : (b : Bool) → length (marked a b) ≤ 54
@@ -116,7 +131,7 @@ module _ (a b c d e f g : List ℕ) where
 pub request-pieces : (n : ℕ) (l : List ℕ) (a : ℕ) (vs : List ℕ) → request_text n l a vs ≡ join (request_pieces n l a vs)
 request-pieces n l a vs = seven (decimal n) (text ": ") (shown_request l) (text " -> ") (answer_text a vs) (refusal a) (10 ∷ [])
 
-text-most : (a : Answer) → length (answer_text (number a) (values a)) ≤ 159
+pub text-most : (a : Answer) → length (answer_text (number a) (values a)) ≤ 159
 text-most a =
     let s = answer_of (number a) (values a) in
     omega (arith, answer-some a, answer-most a, length-take-le (length s - 1) s (omega arith))
@@ -132,6 +147,10 @@ request-room n l a =
       refusal-most (number a),
     )
 
+pub ruleset refused = (refusal-none, refusal-pieces, append_assoc, append-nil, length-append)
+
+pub ruleset request = (decimal-most, shown-most, text-most, refusal-most, length-append)
+
 -- WHAT IS HANDED BACK for a line that was keyed in
 module _ (t : Tables) (n : ℕ) (l : List ℕ) (o : Outcome) {space : List ℕ} (k : beside space (told o) ≡ keyed t l lent) where
   abbrev pub shown_text : List ℕ
@@ -143,15 +162,15 @@ module _ (t : Tables) (n : ℕ) (l : List ℕ) (o : Outcome) {space : List ℕ} 
       ap (with_tables t o.tables) (sym e)
       ∙ ap (λ (w : Written). with_tables t w.tables (shown_in (request_text n l w.number w.values) out)) k
 
-  pub request-short : (out : List ℕ) (m : ℕ) → m ≡ 0 + length shown_text → length out < m
+  pub request-short : (out : List ℕ) (m : ℕ) → m ≡ length shown_text → length out < m
       → beside out (told (record { answer = TooShort m; tables = t })) ≡ request_shown t n l out
   request-short out m e h =
-      ap (λ (i : ℕ). with_tables t o.tables (answered (TooShort i) out)) (e ∙ zero-add (length shown_text))
+      ap (λ (i : ℕ). with_tables t o.tables (answered (TooShort i) out)) e
       ∙ shown-as out (answered (TooShort (length shown_text)) out) (filled-short (length shown_text) shown_text out (omega arith))
 
-  pub request-done : (out after : List ℕ) (m r : ℕ) → m ≡ 0 + length shown_text → m ≤ length out → Wrote out 0 shown_text after r
+  pub request-done : (out : List ℕ) {after : List ℕ} (m : ℕ) → m ≡ length shown_text → m ≤ length out → after ≡ shown_text ++ drop m out
       → beside after (told (record { answer = Done m; tables = o.tables })) ≡ request_shown t n l out
-  request-done out after m r e h w =
-      ap (λ (i : ℕ). with_tables t o.tables (answered (Done i) after)) (e ∙ zero-add (length shown_text))
+  request-done out {after} m e h w =
+      ap (λ (i : ℕ). with_tables t o.tables (answered (Done i) after)) e
       ∙ shown-as out (answered (Done (length shown_text)) after)
-      (filled-long (length shown_text) shown_text out after (omega arith) w.buffer)
+      (filled-long (length shown_text) shown_text out after (omega arith) (put-front shown_text out m e h w))

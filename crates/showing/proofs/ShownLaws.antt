@@ -64,12 +64,12 @@ module _ (a : Answer) {n : ℕ} {after : List ℕ}
       ap (λ (p : Put). take m p.buffer) is-put ∙ take-append-le m line (drop (length line) room) (omega (arith, printed-many))
 
   -- all of it, and less its byte 10
-  pub printed-all : take (n - 0) after ≡ line
+  pub printed-all : take n after ≡ line
   printed-all =
-      let k : n - 0 ≡ length line = omega (arith, printed-many) in
-      printed-take (n - 0) (omega arith) ∙ ap (λ (m : ℕ). take m line) k ∙ take-length line
+      let k : n ≡ length line = omega (arith, printed-many) in
+      printed-take n (omega arith) ∙ ap (λ (m : ℕ). take m line) k ∙ take-length line
 
-  pub printed-less : take (n - 1 - 0) after ≡ answer_text (number a) (values a)
-  printed-less =
-      let k : n - 1 - 0 ≡ length line - 1 = omega (arith, printed-many) in
-      printed-take (n - 1 - 0) (omega arith) ∙ ap (λ (m : ℕ). take m line) k
+  pub printed_line : take (n - 1) after ≡ answer_text (number a) (values a)
+  printed_line =
+      let k : n - 1 ≡ length line - 1 = omega (arith, printed-many) in
+      printed-take (n - 1) (omega arith) ∙ ap (λ (m : ℕ). take m line) k

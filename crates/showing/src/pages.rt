@@ -1,7 +1,6 @@
 // A page and what its reading came to, as they are shown.
-ghost use Rattle.std.specs.Prelude.{◌+◌, ◌≤◌, ◌≡◌, length};
+ghost use Rattle.std.specs.Prelude.{◌+◌, ◌≤◌, ◌≡◌, ◌++◌, length};
 ghost use Rattle.text.specs.Lines.{lines_of};
-ghost use Rattle.text.specs.Inner.{Wrote};
 ghost use Rattle.rules.specs.Answers.{number, values};
 ghost use Rattle.tables.specs.Calls.{told};
 ghost use Rattle.transcripts.specs.Listing.{answered};
@@ -9,9 +8,11 @@ ghost use Rattle.showing.specs.Showing.{line_of_number, page_text, page_shown, l
 ghost use Rattle.showing.specs.Inner.{bad_text, read_shown, page_text_room};
 
 use super::hand_over;
+use arrayvec::ArrayVec;
 use console::LONGEST_ANSWER;
 use rules::Answer;
 use tables::Outcome;
+use text::writing::put_bytes;
 
 // The longest name, and the longest text of a page.
 pub const LONGEST_NAME: usize = 4095;
@@ -21,52 +22,52 @@ pub const LONGEST_PAGE: usize = 65536;
 const PAGE_TEXT: usize = 69794;
 
 // Line n of a text, from 1, as it stands, with a byte 10 behind it; nothing where there is none.
-fn put_line_of(out: &mut [u8], at: usize, s: &[u8], n: u64) -> usize
-    requires { at + length (line_of_number n (lines_of s.now)) ≤ length out.old }
-    ensures { Wrote out.old at (line_of_number n (lines_of s.now)) out.new result }
+fn put_line_of(out: &mut ArrayVec<u8, PAGE_TEXT>, s: &[u8], n: u64)
+    requires { length out.old.items + length (line_of_number n (lines_of s.now)) ≤ page_text_room }
+    ensures { out.new.items ≡ out.old.items ++ line_of_number n (lines_of s.now) }
 {
     let mut from: usize = 0;
     let mut left = n;
     while from < s.len() {
         if left == 0 {
-            return at;
+            return;
         }
         let end = text::part_end(s, from, 10);
         if left == 1 {
-            let next = text::put_bytes(out, at, &s[from..end]);
-            return text::put_byte(out, next, 10);
+            put_bytes(out, &s[from..end]);
+            out.push(b'\n');
+            return;
         }
         left -= 1;
         from = end + 1;
     }
-    at
 }
 
 // Behind 15 the line that is not well formed.
-fn put_bad(out: &mut [u8], at: usize, s: &[u8], answer: Answer) -> usize
-    requires { at + length (bad_text s.now (number answer) (values answer)) ≤ length out.old }
-    ensures { Wrote out.old at (bad_text s.now (number answer) (values answer)) out.new result }
+fn put_bad(out: &mut ArrayVec<u8, PAGE_TEXT>, s: &[u8], answer: Answer)
+    requires { length out.old.items + length (bad_text s.now (number answer) (values answer)) ≤ page_text_room }
+    ensures { out.new.items ≡ out.old.items ++ bad_text s.now (number answer) (values answer) }
 {
-    match answer {
-        Answer::NotRead(n) => put_line_of(out, at, s, n),
-        _ => at,
+    if let Answer::NotRead(n) = answer {
+        put_line_of(out, s, n);
     }
 }
 
-// `NAME: answer=a,value=v`, and behind 15 the line, at the front.
-fn put_text(out: &mut [u8], name: &[u8], s: &[u8], answer: Answer) -> usize
+// `NAME: answer=a,value=v`, and behind 15 the line.
+#[tactic(auto, using(crate::proofs::PageLaws::page_put))]
+fn page_bytes(name: &[u8], s: &[u8], answer: Answer) -> ArrayVec<u8, PAGE_TEXT>
     requires name_len_bound { length name.now ≤ longest_name }
     requires s_len_bound { length s.now ≤ longest_page }
-    requires page_text_room_in_bounds { page_text_room ≤ length out.old }
-    ensures { Wrote out.old 0 (page_text name.now s.now (number answer) (values answer))
-        out.new result }
+    ensures { result.items ≡ page_text name.now s.now (number answer) (values answer) }
 {
-    let a = text::put_bytes(out, 0, name);
-    let b = text::put_bytes(out, a, b": ");
+    let mut out = ArrayVec::new();
+    put_bytes(&mut out, name);
+    put_bytes(&mut out, b": ");
     let mut printed = [0u8; LONGEST_ANSWER];
     let n = console::print_answer(answer, &mut printed);
-    let c = text::put_bytes(out, b, &printed[0..n]);
-    put_bad(out, c, s, answer)
+    put_bytes(&mut out, &printed[..n]);
+    put_bad(&mut out, s, answer);
+    out
 }
 
 // A page that was read: what its reading comes to, and the answer of what is shown of it.
@@ -87,9 +88,8 @@ fn show_read(name: &[u8], page: &[u8], read: Answer, out: &mut [u8]) -> Answer
     if LONGEST_PAGE < page.len() {
         return Answer::NotAllowed;
     }
-    let mut shown = [0u8; PAGE_TEXT];
-    let n = put_text(&mut shown, name, page, read);
-    hand_over(&shown[0..n], out)
+    let shown = page_bytes(name, page, read);
+    hand_over(shown.as_slice(), out)
 }
 
 // Reads a page, and puts what is shown of it at the front of `out`: 0 and how many bytes, or 12 and how many are needed. 3 where the name
@@ -99,10 +99,6 @@ pub fn show_page(name: &[u8], page: &[u8], out: &mut [u8]) -> Sheet
         ≡ page_shown name.now page.now out.old }
 {
     let read = reader::read_page(page);
-    let answer = read.answer;
-    let shown = show_read(name, page, answer, out);
-    Sheet {
-        read: read,
-        shown: shown,
-    }
+    let shown = show_read(name, page, read.answer, out);
+    Sheet { read, shown }
 }

@@ -1,25 +1,31 @@
 -- `requests::put_answer` meets its contract: the bytes printed are the answer's line, of which the last byte is left out.
 -- Assumes nothing.
+use Prim.Native.Nat.{ℕ, ◌-◌}
 use native.Mathlib.Omega.{arith}
-use mathlib.Core.Path.{sym, ap}
+use borrow.Author.Rules.{rules}
+use mathlib.Core.Path.{sym, ap, ◌∙◌}
+use mathlib.Core.List.{List, ◌++◌}
 use lib.ListN.{length}
-use Rattle.page.proofs.Writing.{wrote_as}
-use Rattle.showing.proofs.ShownLaws.{answer-some, printed-many, printed-within, printed-less}
+use lib.Seq.{length-take-le}
+use Rattle.showing.proofs.ShownLaws.{answer-some, printed-many, printed-within, printed_line}
 use Rattle.showing.proofs.requests.put_answer.Goals as goal
 
-pub overflow_sub-n : goal.overflow_sub-n
-overflow_sub-n c =
+pub slice_bounds-printed-count : goal.slice_bounds-printed-count
+slice_bounds-printed-count c =
     let a = c.args.answer in
     omega (arith, answer-some a, printed-many a c.print_answer-n.ensures)
 
-pub slice_bounds-put_bytes-end : goal.slice_bounds-put_bytes-end
-slice_bounds-put_bytes-end c =
-    omega (arith, printed-within c.args.answer c.print_answer-n.ensures)
+pub slice_bounds-printed-end : goal.slice_bounds-printed-end
+slice_bounds-printed-end c = omega (arith, printed-within c.args.answer c.print_answer-n.ensures)
+
+pub slice_bounds-put_bytes-length : goal.slice_bounds-put_bytes-length
+slice_bounds-put_bytes-length c =
+    let p = c.print_answer-n in
+    sym (length-take-le (p.result - 1) p.new.out (omega (arith, printed-within c.args.answer p.ensures)))
 
 pub put_bytes-requires : goal.put_bytes-requires
-put_bytes-requires c =
-    omega (arith, ap length (printed-less c.args.answer c.print_answer-n.ensures))
+put_bytes-requires c = (search rules, omega (arith, c.requires, ap length (printed_line c.args.answer c.print_answer-n.ensures)))
 
 pub returns : goal.returns
 returns c =
-    wrote_as (sym (printed-less c.args.answer c.print_answer-n.ensures)) c.put_bytes.ensures
+    c.put_bytes.ensures ∙ ap (λ (x : List ℕ). c.args.out.now.items ++ x) (printed_line c.args.answer c.print_answer-n.ensures)

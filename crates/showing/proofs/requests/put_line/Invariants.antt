@@ -1,13 +1,10 @@
--- `requests::put_line` meets its contract. The invariant: what is left to be put of the first bytes are those from i on. Assumes nothing.
-use Prim.Native.Nat.{◌+◌, ◌-◌, ◌≤◌}
-use mathlib.Core.Path.{◌≡◌}
-use lib.ListN.{length, drop}
-use Rattle.text.proofs.Laws.{Left}
-use Rattle.showing.proofs.RequestLaws.{line_bytes}
+-- `requests::put_line`: what is put and what is left to be put make up the bytes that are shown. Assumes nothing.
+use Rattle.std.proofs.Common.{◌≡◌, ◌+◌, ◌++◌, map, drop, length}
+use Rattle.showing.specs.Showing.{shown_byte}
 use Rattle.showing.proofs.requests.put_line.Given as goal
 
-abbrev pub invariant-loop-i : goal.invariant-loop-i
-invariant-loop-i l = (l.i ≤ l.n) × (l.n ≡ length (line_bytes l.line)) × Left l.initial.out l.at (line_bytes l.line) l.out (l.at + l.i) (drop l.i (line_bytes l.line))
-
-abbrev pub decreases-loop-i : goal.decreases-loop-i
-decreases-loop-i l = l.n - l.i
+abbrev pub invariant-loop-b : goal.invariant-loop-b
+invariant-loop-b l = record {
+  left : l.out.items ++ map shown_byte (drop l.b-index l.b-items) ≡ l.initial.out.items ++ map shown_byte l.b-items;
+  long : length l.out.items ≡ length l.initial.out.items + l.b-index;
+}
