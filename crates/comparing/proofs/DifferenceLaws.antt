@@ -7,27 +7,19 @@ use mathlib.Core.Path.{◌≡◌, refl, sym, ap, ap₂, subst, ◌∙◌}
 use mathlib.Core.Bool.{Bool, true, false, cond}
 use mathlib.Core.List.{List, [], ◌∷◌, ◌++◌, append-nil, append_assoc}
 use mathlib.Core.Option.{none}
-use lib.ListN.{length, length-append}
-use lib.Seq.{length-slice, length-sets}
+use lib.ListN.{length, take, drop, length-append}
+use lib.Seq.{sets, sets-eq, drop-drop, length-slice, length-sets}
 use lib.Dec.{eqb, ltb}
+use borrow.Rule.Slice.PartMut.{put_mid}
 use borrow.Author.Tests.{eq-eqb, ne_eqb, lt-ltb, le-ltb}
 use Rattle.limits.specs.Limits.{page_room}
 use Rattle.lists.specs.Lists.{join}
 use Rattle.text.specs.Text.{text, decimal}
-use Rattle.text.specs.Inner.{Wrote}
-use Rattle.text.proofs.Laws.{wrote_then, wrote-length, decimal-most}
+use Rattle.text.proofs.Laws.{sets-append, decimal-most}
 use Rattle.console.specs.Sheet.{line_end}
 use Rattle.console.proofs.LineEnds.{line-end}
 use Rattle.comparing.specs.Verdicts.{side, sides}
 use Rattle.comparing.specs.Inner.{line_from, said_of, parted_at, Puts, piece_room}
-
--- the pieces of what is said
-abbrev pub said_pieces : List ℕ → ℕ → List ℕ → List ℕ → List (List ℕ)
-said_pieces what n x y =
-    what ∷ decimal n ∷ text ": " ∷ x ∷ text " on the sheet, " ∷ y ∷ text " by the requests" ∷ (10 ∷ []) ∷ []
-
-pub said-pieces : (what : List ℕ) (n : ℕ) (x y : List ℕ) → what ++ sides n x y ≡ join (said_pieces what n x y)
-said-pieces what n x y = simp append_assoc
 
 said-length : (what : List ℕ) (n : ℕ) (x y : List ℕ)
     → length (what ++ sides n x y) ≡ length what + length (decimal n) + length x + length y + 34
@@ -132,14 +124,17 @@ module _ (s : List ℕ) (a : ℕ) (w : List ℕ) (b n : ℕ) where
           said-room (text "line ") n (side none) (line_from w b) (omega arith) (omega arith) (line-room w b k)
       go false false = omega arith
 
--- what was put at the front of a buffer, as the code takes it
-pub front-within : {l x l' : List ℕ} {n : ℕ} → Wrote l 0 x l' n → length x ≤ length l → n ≤ length l'
-front-within h room = omega (arith, h.place, wrote-length h)
+-- what the check wants of what is said
+pub ruleset said_put = (append_assoc, length-append)
 
--- bytes that are put, or only counted: a write, none, two one after the other
-pub puts-wrote : {w : Bool} {l x l' : List ℕ} {at n : ℕ} → w ≡ true → Wrote l at x l' n → Puts w l at x l' n
-puts-wrote {w} {l} {x} {l'} {at} {n} e h =
-    subst (λ (b : Bool). Puts b l at x l' n) (sym e) (record { place = h.place; buffer = h.buffer })
+-- bytes that are put, or only counted: copied to their place, none, two one after the other
+pub puts-copied : {w : Bool} (l x : List ℕ) (at n : ℕ) {part : List ℕ} → w ≡ true → n ≡ length x → at + length x ≤ length l → part ≡ x
+    → Puts w l at x (put_mid at n l part) (at + length x)
+puts-copied l x at n {part} e k h p = subst (λ (b : Bool). Puts b l at x (put_mid at n l part) (at + length x)) (sym e) (record {
+  place = refl;
+  buffer = ap₂ (λ (i : ℕ) (y : List ℕ). put_mid at i l y) k p ∙ ap (λ (r : List ℕ). take at l ++ (x ++ r)) (drop-drop (length x) at l)
+      ∙ sym (append_assoc (take at l) x (drop (at + length x) l)) ∙ sym (sets-eq x l at h);
+})
 
 puts_none : (w : Bool) (l : List ℕ) (at : ℕ) → Puts w l at [] l at
 puts_none true l at = record { place = sym (add-zero at); buffer = refl }
@@ -147,11 +142,10 @@ puts_none false l at = record { place = sym (add-zero at); buffer = refl }
 
 puts_then : (w : Bool) {l₀ l₁ l₂ : List ℕ} {at₀ at₁ at₂ : ℕ} (x y : List ℕ) → Puts w l₀ at₀ x l₁ at₁ → Puts w l₁ at₁ y l₂ at₂
     → Puts w l₀ at₀ (x ++ y) l₂ at₂
-puts_then true {l₀} {l₁} {l₂} {at₀} {at₁} {at₂} x y p q =
-    let r : Wrote l₀ at₀ (x ++ y) l₂ at₂ =
-    wrote_then x y (record { place = p.place; buffer = p.buffer }) (record { place = q.place; buffer = q.buffer })
-    in
-    record { place = r.place; buffer = r.buffer }
+puts_then true {l₀} x y p q = record {
+  place = omega (arith, p.place, q.place, length-append x y);
+  buffer = q.buffer ∙ ap₂ (λ (l : List ℕ) (i : ℕ). sets l i y) p.buffer p.place ∙ sym (sets-append x y l₀ _);
+}
 puts_then false x y p q =
     record { place = omega (arith, p.place, q.place, length-append x y); buffer = q.buffer ∙ p.buffer }
 

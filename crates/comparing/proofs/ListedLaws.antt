@@ -131,7 +131,7 @@ pub listed-lie : (o c : List ℕ) → AllLie o c (listed_lines o c)
 unfolding listed_lines lines_in
 listed-lie o c = (behind-lie o c 0 []).all
 
-listed-few : (o c : List ℕ) → length (listed_lines o c) + length (listed_lines o c) ≤ length o + 1
+pub listed-few : (o c : List ℕ) → length (listed_lines o c) + length (listed_lines o c) ≤ length o + 1
 unfolding listed_lines lines_in
 listed-few o c = omega (arith, (behind-lie o c 0 []).few (omega arith))
 

@@ -5,15 +5,18 @@ use native.Mathlib.Numerals.{add-one}
 use native.Mathlib.Decide.{dec_lt}
 use native.Mathlib.Omega.{arith}
 use mathlib.Core.Path.{◌≡◌, refl, sym, ap, ap₂, ◌∙◌}
-use mathlib.Core.Bool.{Bool, true, false, cond}
+use mathlib.Core.Bool.{Bool, true, false, cond, not}
 use mathlib.Core.List.{List, [], ◌∷◌, ◌++◌, map, map-append, append-nil, append_assoc}
 use mathlib.Core.Option.{none, some}
 use lib.ListN.{length, take, drop, length-append}
 use lib.Seq.{slice}
+use lib.Pointwise.{pointwise}
+use Rattle.std.proofs.Common.{nat_eq}
 use Rattle.lists.specs.Lists.{alike, join}
 use Rattle.text.specs.Text.{text}
 use Rattle.text.specs.Lines.{lines_of}
 use Rattle.text.specs.Inner.{PartEnd}
+use Rattle.text.proofs.Fields.{same_bytes}
 use Rattle.text.proofs.Lines.{lines_none, lines_next}
 use Rattle.console.specs.Sheet.{line_end}
 use Rattle.console.proofs.LineEnds.{line-end, end-within, line_taken}
@@ -33,9 +36,12 @@ pub together-start : (s w : List ℕ) → Together s w 0 0 1
 together-start s w = record { same = refl; count = omega arith; past = omega arith }
 
 -- two lines, up to where the search for their ends came: as the code holds them against each other, and as lines of their texts
-pub held-alike : (s w : List ℕ) (a b e f : ℕ) (r : Bool) → b ≤ f → r ≡ alike (slice a e s) (take (f - b) (drop b w))
-    → alike (slice a e s) (slice b f w) ≡ r
-held-alike s w a b e f r h k = ap (alike (slice a e s)) (sym (line_taken w b f h)) ∙ sym k
+pub held-apart : (s w : List ℕ) (a b e f : ℕ) (r : Bool) → a ≤ e → b ≤ f
+    → r ≡ not (pointwise nat_eq (take (e - a) (drop a s)) (take (f - b) (drop b w)))
+    → not (alike (slice a e s) (slice b f w)) ≡ r
+held-apart s w a b e f r h k d =
+    ap not (sym (same_bytes (take (e - a) (drop a s)) (take (f - b) (drop b w)) ∙ ap₂ alike (line_taken s a e h) (line_taken w b f k)))
+    ∙ sym d
 
 pub lines-there : (s w : List ℕ) (a b e f : ℕ) → a < length s → b < length w → PartEnd 10 s a e → PartEnd 10 w b f
     → alike (line_from s a) (line_from w b) ≡ alike (slice a e s) (slice b f w)

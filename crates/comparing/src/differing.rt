@@ -2,32 +2,37 @@
 // is too short is not touched.
 ghost use Rattle.std.specs.Prelude.{◌+◌, ◌≤◌, ◌≡◌, true, ◌++◌, length};
 ghost use Rattle.limits.specs.Limits.{page_room};
-ghost use Rattle.text.specs.Inner.{Wrote};
 ghost use Rattle.showing.specs.Showing.{longest_name};
 ghost use Rattle.comparing.specs.Verdicts.{sides};
 ghost use Rattle.comparing.specs.Inner.{line_from, said_of, pieces, Puts, parted_at, parting_text, parts_text, far_place, piece_room};
 
+use arrayvec::ArrayVec;
 use limits::PAGE_ROOM;
 use rules::Answer;
+use text::writing::{put_bytes, put_number};
 
 // Of each listed line three figures, and no page has more than half as many lines with a byte each as it has bytes.
 const LISTED: usize = PAGE_ROOM / 2 * 3;
 // The bytes that are said of one line, with a page's for either side.
 const PIECE: usize = 2 * PAGE_ROOM + 68;
 
-// `line N: X on the sheet, Y by the requests`, at the front.
-fn put_difference(out: &mut [u8], what: &[u8], n: u64, x: &[u8], y: &[u8]) -> usize
-    requires { length (what.now ++ sides n x.now y.now) ≤ length out.old }
-    ensures { Wrote out.old 0 (what.now ++ sides n x.now y.now) out.new result }
+// What is said of one line.
+type Piece = ArrayVec<u8, PIECE>;
+
+// `line N: X on the sheet, Y by the requests`.
+#[tactic(auto, using(crate::proofs::DifferenceLaws::said_put), unfolding(crate::specs::Verdicts::sides))]
+fn put_difference(out: &mut Piece, what: &[u8], n: u64, x: &[u8], y: &[u8])
+    requires { length out.old.items + length (what.now ++ sides n x.now y.now) ≤ piece_room }
+    ensures { out.new.items ≡ out.old.items ++ (what.now ++ sides n x.now y.now) }
 {
-    let a = text::put_bytes(out, 0, what);
-    let b = text::put_number(out, a, n);
-    let c = text::put_bytes(out, b, b": ");
-    let d = text::put_bytes(out, c, x);
-    let e = text::put_bytes(out, d, b" on the sheet, ");
-    let f = text::put_bytes(out, e, y);
-    let g = text::put_bytes(out, f, b" by the requests");
-    text::put_byte(out, g, 10)
+    put_bytes(out, what);
+    put_number(out, n);
+    put_bytes(out, b": ");
+    put_bytes(out, x);
+    put_bytes(out, b" on the sheet, ");
+    put_bytes(out, y);
+    put_bytes(out, b" by the requests");
+    out.push(b'\n');
 }
 
 // The line that begins at a place of a text, without its byte 10.
@@ -39,34 +44,32 @@ fn line_at(s: &[u8], begins: usize) -> &[u8]
     &s[begins..end]
 }
 
-// What is said of one listed line, at the front: its number, where it begins, and where its counterpart begins, the copy's length where it
-// has none. The original is the page that was given, or the written one: of its lines something is said only where the sheet lacks them.
+// What is said of one listed line: its number, where it begins, and where its counterpart begins, the copy's length where it has none. The
+// original is the page that was given, or the written one: of its lines something is said only where the sheet lacks them.
 fn put_listed(
-    out: &mut [u8],
+    out: &mut Piece,
     given: bool,
     original: &[u8],
     copy: &[u8],
     number: u64,
     begins: usize,
     other: usize,
-) -> usize
+)
     requires begins_in_bounds { begins ≤ length original.now }
     requires other_in_bounds { other ≤ length copy.now }
-    requires other_in_bounds_2 { length (said_of given original.now copy.now number begins other) ≤ length out.old }
-    ensures { Wrote out.old 0 (said_of given original.now copy.now number begins other)
-        out.new result }
+    requires room { length out.old.items + length (said_of given original.now copy.now number begins other) ≤ piece_room }
+    ensures { out.new.items ≡ out.old.items ++ said_of given original.now copy.now number begins other }
 {
     let line = line_at(original, begins);
     if given {
         if other == copy.len() {
-            return put_difference(out, b"line ", number, line, b"no such line");
+            put_difference(out, b"line ", number, line, b"no such line");
+        } else {
+            put_difference(out, b"line ", number, line, line_at(copy, other));
         }
-        return put_difference(out, b"line ", number, line, line_at(copy, other));
+    } else if other == copy.len() {
+        put_difference(out, b"written line ", number, b"no such line", line);
     }
-    if other == copy.len() {
-        return put_difference(out, b"written line ", number, b"no such line", line);
-    }
-    0
 }
 
 // Puts a piece at `at`, or only counts it.
@@ -76,10 +79,11 @@ fn put_piece(out: &mut [u8], at: usize, piece: &[u8], writing: bool) -> usize
     requires piece_in_bounds { writing ≡ true → at + length piece.now ≤ length out.old }
     ensures { Puts writing out.old at piece.now out.new result }
 {
+    let end = at + piece.len();
     if writing {
-        return text::put_bytes(out, at, piece);
+        out[at..end].copy_from_slice(piece);
     }
-    at + piece.len()
+    end
 }
 
 // Puts what is said of each line of the original that the desk lists against the copy, or only counts it.
@@ -102,37 +106,37 @@ fn put_all_listed(
     let Answer::Done(many) = answer else {
         return at;
     };
-    let mut piece = [0u8; PIECE];
+    let mut piece = ArrayVec::new();
     let mut next = at;
     let mut i: usize = 0;
     let mut left = many;
     while left > 0 {
         let begins = list[i + 1] as usize;
         let other = list[i + 2] as usize;
-        let n = put_listed(&mut piece, given, original, copy, list[i], begins, other);
-        next = put_piece(out, next, &piece[0..n], writing);
+        piece.clear();
+        put_listed(&mut piece, given, original, copy, list[i], begins, other);
+        next = put_piece(out, next, piece.as_slice(), writing);
         i += 3;
         left -= 1;
     }
     next
 }
 
-// What is said of line n of two texts, which begins at a in the sheet and at b in the written page, where it is there; at the front.
-fn put_parted(out: &mut [u8], sheet: &[u8], a: usize, written: &[u8], b: usize, n: u64) -> usize
-    requires { length (parted_at sheet.now a written.now b n) ≤ length out.old }
-    ensures { Wrote out.old 0 (parted_at sheet.now a written.now b n) out.new result }
+// What is said of line n of two texts, which begins at a in the sheet and at b in the written page, where it is there.
+fn put_parted(out: &mut Piece, sheet: &[u8], a: usize, written: &[u8], b: usize, n: u64)
+    requires { length out.old.items + length (parted_at sheet.now a written.now b n) ≤ piece_room }
+    ensures { out.new.items ≡ out.old.items ++ parted_at sheet.now a written.now b n }
 {
     if a < sheet.len() {
         let line = line_at(sheet, a);
         if b < written.len() {
-            return put_difference(out, b"line ", n, line, line_at(written, b));
+            put_difference(out, b"line ", n, line, line_at(written, b));
+        } else {
+            put_difference(out, b"line ", n, line, b"no such line");
         }
-        return put_difference(out, b"line ", n, line, b"no such line");
+    } else if b < written.len() {
+        put_difference(out, b"line ", n, b"no such line", line_at(written, b));
     }
-    if b < written.len() {
-        return put_difference(out, b"line ", n, b"no such line", line_at(written, b));
-    }
-    0
 }
 
 // Puts the first line at which the two part, or only counts it.
@@ -146,22 +150,19 @@ fn put_parting(sheet: &[u8], written: &[u8], out: &mut [u8], at: usize, writing:
     let mut a: usize = 0;
     let mut b: usize = 0;
     let mut n: u64 = 1;
-    while a < sheet.len() {
-        if written.len() <= b {
-            break;
-        }
+    while a < sheet.len() && b < written.len() {
         let end = text::part_end(sheet, a, 10);
         let there = text::part_end(written, b, 10);
-        if !text::is_word(sheet, a, end, &written[b..there]) {
+        if sheet[a..end] != written[b..there] {
             break;
         }
         a = end + 1;
         b = there + 1;
         n += 1;
     }
-    let mut piece = [0u8; PIECE];
-    let k = put_parted(&mut piece, sheet, a, written, b, n);
-    put_piece(out, at, &piece[0..k], writing)
+    let mut piece = ArrayVec::new();
+    put_parted(&mut piece, sheet, a, written, b, n);
+    put_piece(out, at, piece.as_slice(), writing)
 }
 
 // Puts that the sheet of this name does not follow, and how the two part, or only counts it.

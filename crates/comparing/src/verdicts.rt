@@ -12,9 +12,11 @@ ghost use Rattle.comparing.specs.Verdicts.{verdict_text, verdict_shown};
 ghost use Rattle.comparing.specs.Inner.{follows_text, parts_text};
 
 use super::differing;
+use arrayvec::ArrayVec;
 use rules::Answer;
 use showing::{LONGEST_NAME, LONGEST_PAGE};
 use tables::{Outcome, Tables};
+use text::writing::put_bytes;
 
 // The bytes of the longest name, and of what is said of a page that follows.
 const FOLLOWS: usize = 4105;
@@ -24,10 +26,10 @@ fn show_follows(name: &[u8], out: &mut [u8]) -> Answer
     requires { length name.now ≤ longest_name }
     ensures { answered result out.new ≡ shown_in (follows_text name.now) out.old }
 {
-    let mut shown = [0u8; FOLLOWS];
-    let a = text::put_bytes(&mut shown, 0, name);
-    let n = text::put_bytes(&mut shown, a, b": follows\n");
-    showing::hand_over(&shown[0..n], out)
+    let mut shown = ArrayVec::<u8, FOLLOWS>::new();
+    put_bytes(&mut shown, name);
+    put_bytes(&mut shown, b": follows\n");
+    showing::hand_over(shown.as_slice(), out)
 }
 
 // It does not, and how the two part: counted, then put.
@@ -71,19 +73,19 @@ pub fn show_verdict(tables: Tables, name: &[u8], next: &[u8], out: &mut [u8]) ->
     if !o.sound {
         return Outcome {
             answer: Answer::NotSound,
-            tables: tables,
+            tables,
         };
     }
     if LONGEST_NAME < name.len() {
         return Outcome {
             answer: Answer::NotAllowed,
-            tables: tables,
+            tables,
         };
     }
     if LONGEST_PAGE < next.len() {
         return Outcome {
             answer: Answer::NotAllowed,
-            tables: tables,
+            tables,
         };
     }
     let given = reader::read_page(next);
@@ -92,14 +94,14 @@ pub fn show_verdict(tables: Tables, name: &[u8], next: &[u8], out: &mut [u8]) ->
     if console::number_of(read) != 0 {
         return Outcome {
             answer: read,
-            tables: tables,
+            tables,
         };
     }
     let shown = show_held(tables, name, next, out);
     if console::number_of(shown) != 0 {
         return Outcome {
             answer: shown,
-            tables: tables,
+            tables,
         };
     }
     Outcome {

@@ -28,8 +28,7 @@ pub fn key_lines(tables: Tables, requests: &[u8]) -> Tables
     while at < requests.len() {
         let end = text::part_end(requests, at, 10);
         let mut space = [0u8; PAGE_ROOM];
-        let outcome = console::key_line(t, &requests[at..end], &mut space);
-        t = outcome.tables;
+        t = console::key_line(t, &requests[at..end], &mut space).tables;
         at = end + 1;
     }
     t
@@ -51,9 +50,8 @@ pub(crate) fn hold(tables: Tables, next: &[u8]) -> Verdict
     ensures { result ≡ briefly (held_against tables next.now) }
 {
     let given = reader::read_page(next);
-    let answer = given.answer;
-    if console::number_of(answer) != 0 {
-        return Verdict::NoNext(bad_line(answer));
+    if console::number_of(given.answer) != 0 {
+        return Verdict::NoNext(bad_line(given.answer));
     }
     let page = page::page_of(tables);
     if text::rest_is(next, 0, page.as_slice()) {
@@ -67,9 +65,8 @@ pub fn judge(first: &[u8], requests: &[u8], next: &[u8]) -> Verdict
     ensures { result ≡ briefly (verdict first.now (lines_of requests.now) next.now) }
 {
     let read = reader::read_page(first);
-    let answer = read.answer;
-    if console::number_of(answer) != 0 {
-        return Verdict::NoFirst(bad_line(answer));
+    if console::number_of(read.answer) != 0 {
+        return Verdict::NoFirst(bad_line(read.answer));
     }
     let after = key_lines(read.tables, requests);
     hold(after, next)

@@ -32,7 +32,7 @@ loop-at-preserved c =
     let l = c.loop-at in
     let s = c.args.requests.now in
     let e = c.part_end-end.result in
-    let r = c.key_line-outcome in
+    let r = c.key_line in
     after_line s l.t l.at e c.loop-at-test.true c.part_end-end.ensures r.result.tables
     (ap (λ (w : Written). w.tables) r.ensures
     ∙ ap (λ (k : List ℕ). (keyed l.t k lent).tables) (part-taken s l.at e c.part_end-end.ensures.low))
