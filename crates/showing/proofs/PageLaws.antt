@@ -1,35 +1,29 @@
--- A page as it is shown: the line of a number, found line by line; its pieces, and the room that they take; what is handed back for it.
+-- A page as it is shown: the line of a number, found line by line, and how long it is; what is handed back for it.
 -- Assumes nothing.
 use Prim.Native.Nat.{ℕ, zero, suc, ◌+◌, ◌-◌, ◌≤◌, ◌<◌}
 use native.Mathlib.Decide.{dec_lt}
 use native.Mathlib.Omega.{arith}
 use mathlib.Core.Path.{◌≡◌, refl, sym, ap, ◌∙◌}
 use mathlib.Core.Bool.{Bool, true, false, cond, ◌&&◌}
-use mathlib.Core.List.{List, [], ◌∷◌, ◌++◌, append_assoc, append-nil}
+use mathlib.Core.List.{List, [], ◌∷◌, ◌++◌}
 use lib.Dec.{leb, eqb}
 use lib.ListN.{length, get_or, take, drop, length-append}
 use lib.Seq.{slice, length-slice}
 use borrow.Author.Tests.{le-leb, lt-leb}
-use Rattle.lists.specs.Lists.{join}
 use Rattle.lists.proofs.Tests.{and, not-both}
-use Rattle.text.specs.Text.{text}
 use Rattle.text.specs.Lines.{lines_of}
 use Rattle.text.specs.Inner.{PartEnd}
 use Rattle.text.proofs.Fields.{until, part_end}
 use Rattle.text.proofs.Lines.{lines_none, lines_next}
 use Rattle.rules.specs.Answers.{number, values}
-use Rattle.rules.specs.declared.Answer.{Answer}
-use Rattle.rules.specs.declared.Answer.TheVariants.{NotAllowed, NotRead}
+use Rattle.rules.specs.declared.Answer.TheVariants.{NotAllowed}
 use Rattle.tables.specs.declared.Outcome.{Outcome}
 use Rattle.tables.specs.Calls.{Result, told}
 use Rattle.transcripts.proofs.LineLaws.{part-taken}
-use Rattle.following.proofs.Fifteen.{not-fifteen}
 use Rattle.reader.specs.Reading.{reading}
 use Rattle.transcripts.specs.Listing.{Filled, answered}
-use Rattle.console.specs.Sheet.{answer_of}
 use Rattle.showing.specs.Showing.{shown_in, longest_name, longest_page, is_taken, line_of_number, page_text, page_bytes, page_shown}
-use Rattle.showing.specs.Inner.{bad_text, page_text_room, read_shown}
-use Rattle.showing.proofs.ShownLaws.{answer-most}
+use Rattle.showing.specs.Inner.{bad_text, read_shown}
 
 -- LINE n OF A TEXT
 none-there : (n : ℕ) → line_of_number n [] ≡ []
@@ -88,41 +82,12 @@ line-most (suc k) s from = go k (dec_lt from (length s)) (λ e. line-most k s e)
 abbrev shown_bad : List ℕ → List ℕ → Bool → List ℕ
 shown_bad s vs b = cond b (line_of_number (get_or vs 0 0) (lines_of s)) []
 
-pub bad-none : (s : List ℕ) (a : Answer) → ((n : ℕ) → a ≡ NotRead n → ⊥) → bad_text s (number a) (values a) ≡ []
-bad-none s a h = ap (shown_bad s (values a)) (not-fifteen a h)
-
 pub bad-most : (s : List ℕ) (a : ℕ) (vs : List ℕ) → length (bad_text s a vs) ≤ length s + 1
 bad-most s a vs = go (eqb a 15)
   where
     go : (b : Bool) → length (shown_bad s vs b) ≤ length s + 1
     go true = line-most (get_or vs 0 0) s 0
     go false = omega arith
-
--- THE PIECES
-abbrev pub page_pieces : List ℕ → List ℕ → ℕ → List ℕ → List (List ℕ)
-page_pieces name s a vs = name ∷ text ": " ∷ answer_of a vs ∷ bad_text s a vs ∷ []
-
-module _ (a b c d : List ℕ) where
-  four : a ++ b ++ c ++ d ≡ join (a ∷ b ∷ c ∷ d ∷ [])
-  four = simp (append_assoc, append-nil)
-
-  four-long : length (a ++ b ++ c ++ d) ≡ length a + length b + length c + length d
-  four-long = simp length-append
-
-pub page-pieces : (name s : List ℕ) (a : ℕ) (vs : List ℕ) → page_text name s a vs ≡ join (page_pieces name s a vs)
-page-pieces name s a vs = four name (text ": ") (answer_of a vs) (bad_text s a vs)
-
-pub page-room : (name s : List ℕ) (a : Answer) → length name ≤ longest_name → length s ≤ longest_page
-    → length (page_text name s (number a) (values a)) ≤ page_text_room
-page-room name s a h k =
-    omega (
-      arith,
-      four-long name (text ": ") (answer_of (number a) (values a)) (bad_text s (number a) (values a)),
-      answer-most a,
-      bad-most s (number a) (values a),
-    )
-
-pub ruleset page_put = (answer-most, bad-most, length-append)
 
 -- WHAT IS HANDED BACK
 module _ (name s : List ℕ) (a : ℕ) (vs out : List ℕ) where

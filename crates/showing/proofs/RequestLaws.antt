@@ -1,6 +1,6 @@
--- A request as it is shown: its bytes one by one, its refusal, its pieces and the room that they take; and what is handed back for it.
+-- A request as it is shown: its bytes, its refusal, how long its pieces are, and what is handed back for it.
 -- Assumes nothing.
-use Prim.Native.Nat.{ℕ, zero, suc, ◌+◌, ◌-◌, ◌≤◌, ◌<◌, min}
+use Prim.Native.Nat.{ℕ, ◌+◌, ◌-◌, ◌≤◌, ◌<◌, min}
 use native.Mathlib.Decide.{dec_lt}
 use native.Mathlib.Omega.{arith}
 use mathlib.Core.Path.{◌≡◌, refl, sym, ap, ◌∙◌}
@@ -8,12 +8,12 @@ use mathlib.Core.Bool.{Bool, true, false, cond}
 use mathlib.Core.List.{List, [], ◌∷◌, ◌++◌, map, append_assoc, append-nil}
 use lib.Dec.{leb, ltb}
 use lib.ListN.{length, get_or, take, drop, length-append, length-take, length-map, get_or-eq_default, drop_of_length-le}
-use lib.Seq.{get_or-take, length-take-le, take_all}
-use borrow.Author.Tests.{leb-true, lt-ltb, le-ltb, le-leb, lt-leb}
+use lib.Seq.{length-take-le, take_all}
+use borrow.Author.Tests.{leb-true, lt-ltb, le-ltb, le-leb}
 use Rattle.limits.specs.Limits.{longest_line}
 use Rattle.lists.specs.Lists.{join}
 use Rattle.lists.proofs.Tests.{along-in}
-use Rattle.text.specs.Text.{text, decimal}
+use Rattle.text.specs.Text.{text}
 use Rattle.text.proofs.Laws.{decimal-most}
 use Rattle.rules.specs.Answers.{number, values}
 use Rattle.rules.specs.declared.Answer.{Answer}
@@ -29,7 +29,7 @@ use Rattle.console.specs.Console.{keyed}
 use Rattle.console.specs.Sheet.{lent, answer_of}
 use Rattle.showing.specs.Showing.{shown_in, with_tables, shown_byte, shown_request, meanings, refusal, answer_text, request_text}
 use Rattle.showing.specs.Showing.{request_bytes, request_shown}
-use Rattle.showing.specs.Inner.{meant, request_room}
+use Rattle.showing.specs.Inner.{meant}
 use Rattle.showing.proofs.ShownLaws.{answer-some, answer-most, put-front}
 
 -- A LINE'S BYTES
@@ -43,24 +43,11 @@ line_tail l = cond (leb (length l) longest_line) [] (text "..")
 pub bytes-long : (l : List ℕ) → length (line_bytes l) ≡ min longest_line (length l)
 bytes-long l = length-map (take longest_line l) shown_byte ∙ length-take longest_line l
 
-map_at : (f : ℕ → ℕ) (xs : List ℕ) (i : ℕ) → i < length xs → get_or (map f xs) i 0 ≡ f (get_or xs i 0)
-map_at f [] i h = absurd (omega arith)
-map_at f (x ∷ xs) zero h = refl
-map_at f (x ∷ xs) (suc i) h = map_at f xs i (omega arith)
-
-pub byte_at : (l : List ℕ) (i : ℕ) → i < length (line_bytes l) → get_or (line_bytes l) i 0 ≡ shown_byte (get_or l i 0)
-byte_at l i h =
-    map_at shown_byte (take longest_line l) i (omega (arith, length-map (take longest_line l) shown_byte))
-    ∙ ap shown_byte (get_or-take longest_line l i 0 (omega (arith, bytes-long l)))
-
 abbrev tail : Bool → List ℕ
 tail b = cond b [] (text "..")
 
 pub tail_none : (l : List ℕ) → length l ≤ longest_line → line_tail l ≡ []
 tail_none l h = ap tail (le-leb (length l) longest_line h)
-
-pub tail-dots : (l : List ℕ) → longest_line < length l → line_tail l ≡ text ".."
-tail-dots l h = ap tail (lt-leb (length l) longest_line h)
 
 pub line-long : (l : List ℕ) → length (shown_request l) ≡ min longest_line (length l) + length (line_tail l)
 line-long l = length-append (line_bytes l) (line_tail l) ∙ ap (λ (k : ℕ). k + length (line_tail l)) (bytes-long l)
@@ -117,35 +104,11 @@ refusal-most a = go (ltb a 2)
           length-append (text " (refused: ") (text (get_or meanings (a - 2) "")),
         )
 
--- ITS PIECES
-abbrev pub request_pieces : ℕ → List ℕ → ℕ → List ℕ → List (List ℕ)
-request_pieces n l a vs = decimal n ∷ text ": " ∷ shown_request l ∷ text " -> " ∷ answer_text a vs ∷ refusal a ∷ (10 ∷ []) ∷ []
-
-module _ (a b c d e f g : List ℕ) where
-  seven : a ++ b ++ c ++ d ++ e ++ f ++ g ≡ join (a ∷ b ∷ c ∷ d ∷ e ∷ f ∷ g ∷ [])
-  seven = simp (append_assoc, append-nil)
-
-  seven-long : length (a ++ b ++ c ++ d ++ e ++ f ++ g) ≡ length a + length b + length c + length d + length e + length f + length g
-  seven-long = simp length-append
-
-pub request-pieces : (n : ℕ) (l : List ℕ) (a : ℕ) (vs : List ℕ) → request_text n l a vs ≡ join (request_pieces n l a vs)
-request-pieces n l a vs = seven (decimal n) (text ": ") (shown_request l) (text " -> ") (answer_text a vs) (refusal a) (10 ∷ [])
-
+-- ITS ROOM
 pub text-most : (a : Answer) → length (answer_text (number a) (values a)) ≤ 159
 text-most a =
     let s = answer_of (number a) (values a) in
     omega (arith, answer-some a, answer-most a, length-take-le (length s - 1) s (omega arith))
-
-pub request-room : (n : ℕ) (l : List ℕ) (a : Answer) → length (request_text n l (number a) (values a)) ≤ request_room
-request-room n l a =
-    omega (
-      arith,
-      seven-long (decimal n) (text ": ") (shown_request l) (text " -> ") (answer_text (number a) (values a)) (refusal (number a)) (10 ∷ []),
-      decimal-most n,
-      shown-most l,
-      text-most a,
-      refusal-most (number a),
-    )
 
 pub ruleset refused = (refusal-none, refusal-pieces, append_assoc, append-nil, length-append)
 

@@ -26,7 +26,8 @@ fn put_line_of(out: &mut ArrayVec<u8, PAGE_TEXT>, s: &[u8], n: u64)
     requires { length out.old.items + length (line_of_number n (lines_of s.now)) ≤ page_text_room }
     ensures { out.new.items ≡ out.old.items ++ line_of_number n (lines_of s.now) }
 {
-    let mut from: usize = 0;
+    // by places: what comes behind the last byte 10 of a text is no line, where the library's `split` gives one more part
+    let mut from = 0;
     let mut left = n;
     while from < s.len() {
         if left == 0 {
@@ -54,7 +55,6 @@ fn put_bad(out: &mut ArrayVec<u8, PAGE_TEXT>, s: &[u8], answer: Answer)
 }
 
 // `NAME: answer=a,value=v`, and behind 15 the line.
-#[tactic(auto, using(crate::proofs::PageLaws::page_put))]
 fn page_bytes(name: &[u8], s: &[u8], answer: Answer) -> ArrayVec<u8, PAGE_TEXT>
     requires name_len_bound { length name.now ≤ longest_name }
     requires s_len_bound { length s.now ≤ longest_page }
