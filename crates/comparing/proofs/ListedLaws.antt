@@ -8,8 +8,8 @@ use mathlib.Core.Logic.{inr}
 use mathlib.Core.Bool.{Bool, true, false, cond}
 use mathlib.Core.List.{List, [], ◌∷◌, ◌++◌, map, map-map, append-nil}
 use mathlib.Core.Option.{Option, none, some}
-use lib.ListN.{length, get_or, drop, length-append, length-drop}
-use lib.Seq.{slice, length-slice, get_or-drop, drop-drop}
+use lib.ListN.{length, get_or, take, drop, length-append}
+use lib.Seq.{slice, take_at, length-slice}
 use borrow.Author.Tests.{le-leb}
 use Rattle.limits.specs.Limits.{page_room}
 use Rattle.lists.specs.Lists.{join}
@@ -194,10 +194,10 @@ pieces-far g o c h k =
 abbrev pub list_room : ℕ
 list_room = page_room / 2 * 3
 
-module _ (o c list : List ℕ) (h : length o ≤ page_room) (r : length list ≡ list_room) where
-  figures-long : length (figures_listed o c) ≡ length (listed_lines o c) * 3
-  figures-long = ap length (sym (cut_all c (listed_lines o c))) ∙ cut-long 3 (inr (inr refl)) c (listed_lines o c)
+pub figures-long : (o c : List ℕ) → length (figures_listed o c) ≡ length (listed_lines o c) * 3
+figures-long o c = ap length (sym (cut_all c (listed_lines o c))) ∙ cut-long 3 (inr (inr refl)) c (listed_lines o c)
 
+module _ (o c list : List ℕ) (h : length o ≤ page_room) (r : length list ≡ list_room) where
   fits : figuring o c list ≡ answered (Done (length (listed_lines o c))) (front (figures_listed o c) list)
   unfolding figuring
   fits =
@@ -205,90 +205,76 @@ module _ (o c list : List ℕ) (h : length o ≤ page_room) (r : length list ≡
       (λ (b : Bool). cond b
       (record { number = 0; values = length (listed_lines o c) ∷ []; list = front (figures_listed o c) list })
       (record { number = 12; values = length (figures_listed o c) ∷ []; list = list }))
-      (le-leb (length (figures_listed o c)) (length list) (omega (arith, figures-long, listed-few o c)))
+      (le-leb (length (figures_listed o c)) (length list) (omega (arith, figures-long o c, listed-few o c)))
 
   pub all_listed : (a : Answer) (list' : List ℕ) → answered a list' ≡ figuring o c list
       → (a ≡ Done (length (listed_lines o c))) × (list' ≡ front (figures_listed o c) list)
   all_listed a list' e = list-determined a (Done (length (listed_lines o c))) list' (front (figures_listed o c) list) (e ∙ fits)
 
--- the loop: `left` lines are left, their figures stand in the list from i on, and what is said of them is due
-pub record Ahead (g w : Bool) (o c list l₀ : List ℕ) (at : ℕ) (l : List ℕ) (next i left : ℕ) : Type 0 where
+-- the loop: of some lines the figures are left, and what is said of them is due
+pub record Ahead (g w : Bool) (o c l₀ : List ℕ) (at : ℕ) (l : List ℕ) (next : ℕ) (figures : List ℕ) : Type 0 where
   pub ds : List Listed
   pub lie : AllLie o c ds
-  pub count : left ≡ length ds
-  pub rest : List ℕ
-  pub figures : drop i list ≡ join (map (figures_of c) ds) ++ rest
+  pub left : figures ≡ join (map (figures_of c) ds)
   pub due : Due w l₀ at (pieces g o c) l next (map (piece_text g) ds)
 
-pub ahead-start : {g w : Bool} {o c list l : List ℕ} {at left : ℕ} (before : List ℕ) → list ≡ front (figures_listed o c) before
-    → left ≡ length (listed_lines o c) → Ahead g w o c list l at l at 0 left
-ahead-start {g} {w} {o} {c} {list} {l} {at} {left} before e n = record {
+pub ahead-start : {g w : Bool} {o c l : List ℕ} {at : ℕ} (list before : List ℕ) (n : ℕ)
+    → list ≡ front (figures_listed o c) before → n ≡ length (listed_lines o c)
+    → Ahead g w o c l at l at (take (3 * n) list)
+ahead-start {g} {w} {o} {c} list before n e k = record {
   ds = listed_lines o c;
   lie = listed-lie o c;
-  count = n;
-  rest = drop (length (figures_listed o c)) before;
-  figures = e;
+  left = ap (take (3 * n)) e
+      ∙ take_at (figures_listed o c) (drop (length (figures_listed o c)) before) (3 * n) (omega (arith, k, figures-long o c));
   due = due-start (pieces_are g o c);
 }
 
 -- the next of them: its figures, what is said of it by them, and the others
-pub record Turn (g w : Bool) (o c list l₀ : List ℕ) (at : ℕ) (l : List ℕ) (next i left : ℕ) : Type 0 where
-  pub inside : i + 3 ≤ length list
-  pub begins : get_or list (i + 1) 0 ≤ length o
-  pub other : get_or list (i + 2) 0 ≤ length c
+pub record Turn (g w : Bool) (o c l₀ : List ℕ) (at : ℕ) (l : List ℕ) (next : ℕ) (figures : List ℕ) : Type 0 where
+  pub begins : get_or figures 1 0 ≤ length o
+  pub other : get_or figures 2 0 ≤ length c
   pub piece : List ℕ
-  pub said : said_of g o c (get_or list i 0) (get_or list (i + 1) 0) (get_or list (i + 2) 0) ≡ piece
+  pub said : said_of g o c (get_or figures 0 0) (get_or figures 1 0) (get_or figures 2 0) ≡ piece
   pub more : List (List ℕ)
   pub due : Due w l₀ at (pieces g o c) l next (piece ∷ more)
-  pub after : {l' : List ℕ} {next' : ℕ} → Puts w l next piece l' next' → Ahead g w o c list l₀ at l' next' (i + 3) (left - 1)
+  pub after : {l' rest : List ℕ} {next' : ℕ} → rest ≡ drop 3 figures → Puts w l next piece l' next' → Ahead g w o c l₀ at l' next' rest
 
-module _ {g w : Bool} {o c list l₀ l : List ℕ} {at next i left : ℕ} where
-  pub ahead-next : Ahead g w o c list l₀ at l next i left → 0 < left → Turn g w o c list l₀ at l next i left
-  ahead-next a h = go a.ds a.lie a.count a.figures a.due
+module _ {g w : Bool} {o c l₀ l : List ℕ} {at next : ℕ} {figures : List ℕ} where
+  pub ahead-next : Ahead g w o c l₀ at l next figures → 3 ≤ length figures → Turn g w o c l₀ at l next figures
+  ahead-next a h = go a.ds a.lie a.left a.due
     where
-      go : (ds : List Listed) → AllLie o c ds → left ≡ length ds → drop i list ≡ join (map (figures_of c) ds) ++ a.rest
-          → Due w l₀ at (pieces g o c) l next (map (piece_text g) ds) → Turn g w o c list l₀ at l next i left
-      go [] lie n f due = absurd (omega (arith, n))
-      go (d ∷ ds) lie n f due = record {
-        inside = omega (arith, ap length f, length-drop i list);
+      go : (ds : List Listed) → AllLie o c ds → figures ≡ join (map (figures_of c) ds)
+          → Due w l₀ at (pieces g o c) l next (map (piece_text g) ds) → Turn g w o c l₀ at l next figures
+      go [] lie f due = absurd (omega (arith, h, ap length f))
+      go (d ∷ ds) lie f due = record {
         begins = omega (arith, first, lie.0.begins);
         other = omega (arith, second, there d.counterpart lie.1);
         piece = piece_text g d;
-        said = ap (λ (k : ℕ). said_of g o c k (get_or list (i + 1) 0) (get_or list (i + 2) 0)) zeroth
+        said = ap (λ (k : ℕ). said_of g o c k (get_or figures 1 0) (get_or figures 2 0)) zeroth
             ∙ ap₂ (said_of g o c d.number) first second ∙ figures-say g o c d lie.0 lie.1;
         more = map (piece_text g) ds;
         due = due;
-        after = λ p. record {
-          ds = ds;
-          lie = lie.2;
-          count = omega (arith, n);
-          rest = a.rest;
-          figures = sym (drop-drop 3 i list) ∙ ap (drop 3) f;
-          due = due-step due p;
-        };
+        after = λ e p. record { ds = ds; lie = lie.2; left = e ∙ ap (drop 3) f; due = due-step due p };
       }
         where
-          figure : (k : ℕ) → get_or list (i + k) 0 ≡ get_or (join (map (figures_of c) (d ∷ ds)) ++ a.rest) k 0
-          figure k = sym (get_or-drop i list k 0) ∙ ap (λ (xs : List ℕ). get_or xs k 0) f
+          zeroth : get_or figures 0 0 ≡ d.number
+          zeroth = ap (λ (xs : List ℕ). get_or xs 0 0) f
 
-          zeroth : get_or list i 0 ≡ d.number
-          zeroth = let e : i ≡ i + 0 = omega arith in ap (λ (k : ℕ). get_or list k 0) e ∙ figure 0
+          first : get_or figures 1 0 ≡ d.line.begins
+          first = ap (λ (xs : List ℕ). get_or xs 1 0) f
 
-          first : get_or list (i + 1) 0 ≡ d.line.begins
-          first = figure 1
-
-          second : get_or list (i + 2) 0 ≡ begin_of c d.counterpart
-          second = figure 2
+          second : get_or figures 2 0 ≡ begin_of c d.counterpart
+          second = ap (λ (xs : List ℕ). get_or xs 2 0) f
 
           there : (y : Option Line) → MayLie c y → begin_of c y ≤ length c
           there none m = omega arith
           there (some y) m = omega (arith, m.begins)
 
   -- none is left
-  pub ahead-end : Ahead g w o c list l₀ at l next i left → left ≤ 0 → Puts w l₀ at (pieces g o c) l next
-  ahead-end a h = go a.ds a.count a.due
+  pub ahead-end : Ahead g w o c l₀ at l next figures → length figures < 3 → Puts w l₀ at (pieces g o c) l next
+  ahead-end a h = go a.ds a.left a.due
     where
-      go : (ds : List Listed) → left ≡ length ds → Due w l₀ at (pieces g o c) l next (map (piece_text g) ds)
+      go : (ds : List Listed) → figures ≡ join (map (figures_of c) ds) → Due w l₀ at (pieces g o c) l next (map (piece_text g) ds)
           → Puts w l₀ at (pieces g o c) l next
-      go [] n d = due-end d
-      go (x ∷ xs) n d = absurd (omega (arith, n))
+      go [] f d = due-end d
+      go (x ∷ xs) f d = absurd (omega (arith, h, ap length f))

@@ -102,22 +102,25 @@ fn put_all_listed(
     ensures { Puts writing out.old at (pieces given original.now copy.now) out.new result }
 {
     let mut list = [0u64; LISTED];
-    let answer = transcripts::list_figures(original, copy, &mut list);
-    let Answer::Done(many) = answer else {
+    let Answer::Done(many) = transcripts::list_figures(original, copy, &mut list) else {
         return at;
     };
     let mut piece = ArrayVec::new();
     let mut next = at;
-    let mut i: usize = 0;
-    let mut left = many;
-    while left > 0 {
-        let begins = list[i + 1] as usize;
-        let other = list[i + 2] as usize;
+    let mut figures = &list[..3 * many as usize];
+    while let [number, begins, other, rest @ ..] = figures {
         piece.clear();
-        put_listed(&mut piece, given, original, copy, list[i], begins, other);
+        put_listed(
+            &mut piece,
+            given,
+            original,
+            copy,
+            *number,
+            *begins as usize,
+            *other as usize,
+        );
         next = put_piece(out, next, piece.as_slice(), writing);
-        i += 3;
-        left -= 1;
+        figures = rest;
     }
     next
 }
