@@ -14,6 +14,9 @@ use Rattle.text.specs.Inner.{PartEnd}
 use Rattle.text.proofs.Fields.{until, part_end}
 use Rattle.text.proofs.Lines.{lines_none, lines_next}
 use Rattle.rules.specs.Answers.{number, values}
+use Rattle.rules.specs.declared.Answer.{Answer}
+use Rattle.rules.specs.declared.Answer.TheVariants.{NotRead}
+use Rattle.following.proofs.Fifteen.{not-fifteen}
 use Rattle.tables.specs.declared.Outcome.{Outcome}
 use Rattle.tables.specs.Calls.{Result, told}
 use Rattle.transcripts.proofs.LineLaws.{part-taken}
@@ -78,6 +81,9 @@ line-most (suc k) s from = go k (dec_lt from (length s)) (λ e. line-most k s e)
 -- THE LINE THAT IS NOT WELL FORMED
 abbrev shown_bad : List ℕ → List ℕ → Bool → List ℕ
 shown_bad s vs b = cond b (line_of_number (get_or vs 0 0) (lines_of s)) []
+
+pub bad-none : (s : List ℕ) (a : Answer) → ((n : ℕ) → a ≡ NotRead n → ⊥) → bad_text s (number a) (values a) ≡ []
+bad-none s a h = ap (shown_bad s (values a)) (not-fifteen a h)
 
 pub bad-most : (s : List ℕ) (a : ℕ) (vs : List ℕ) → length (bad_text s a vs) ≤ length s + 1
 bad-most s a vs = go (eqb a 15)
