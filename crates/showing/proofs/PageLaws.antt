@@ -4,25 +4,25 @@ use Prim.Native.Nat.{ℕ, zero, suc, ◌+◌, ◌-◌, ◌≤◌, ◌<◌}
 use native.Mathlib.Decide.{dec_lt}
 use native.Mathlib.Omega.{arith}
 use mathlib.Core.Path.{◌≡◌, refl, sym, ap, ◌∙◌}
-use mathlib.Core.Bool.{Bool, true, false, cond, ◌&&◌}
+use mathlib.Core.Bool.{Bool, true, false, cond}
 use mathlib.Core.List.{List, [], ◌∷◌, ◌++◌}
-use lib.Dec.{leb, eqb}
+use lib.Dec.{eqb}
 use lib.ListN.{length, get_or, take, drop, length-append}
 use lib.Seq.{slice, length-slice}
-use borrow.Author.Tests.{le-leb, lt-leb}
-use Rattle.lists.proofs.Tests.{and, not-both}
 use Rattle.text.specs.Lines.{lines_of}
 use Rattle.text.specs.Inner.{PartEnd}
 use Rattle.text.proofs.Fields.{until, part_end}
 use Rattle.text.proofs.Lines.{lines_none, lines_next}
 use Rattle.rules.specs.Answers.{number, values}
-use Rattle.rules.specs.declared.Answer.TheVariants.{NotAllowed}
+use Rattle.rules.specs.declared.Answer.{Answer}
+use Rattle.rules.specs.declared.Answer.TheVariants.{NotRead}
+use Rattle.following.proofs.Fifteen.{not-fifteen}
 use Rattle.tables.specs.declared.Outcome.{Outcome}
 use Rattle.tables.specs.Calls.{Result, told}
 use Rattle.transcripts.proofs.LineLaws.{part-taken}
 use Rattle.reader.specs.Reading.{reading}
-use Rattle.transcripts.specs.Listing.{Filled, answered}
-use Rattle.showing.specs.Showing.{shown_in, longest_name, longest_page, is_taken, line_of_number, page_text, page_bytes, page_shown}
+use Rattle.transcripts.specs.Listing.{Filled}
+use Rattle.showing.specs.Showing.{line_of_number, page_bytes, page_shown}
 use Rattle.showing.specs.Inner.{bad_text, read_shown}
 
 -- LINE n OF A TEXT
@@ -82,6 +82,9 @@ line-most (suc k) s from = go k (dec_lt from (length s)) (λ e. line-most k s e)
 abbrev shown_bad : List ℕ → List ℕ → Bool → List ℕ
 shown_bad s vs b = cond b (line_of_number (get_or vs 0 0) (lines_of s)) []
 
+pub bad-none : (s : List ℕ) (a : Answer) → ((n : ℕ) → a ≡ NotRead n → ⊥) → bad_text s (number a) (values a) ≡ []
+bad-none s a h = ap (shown_bad s (values a)) (not-fifteen a h)
+
 pub bad-most : (s : List ℕ) (a : ℕ) (vs : List ℕ) → length (bad_text s a vs) ≤ length s + 1
 bad-most s a vs = go (eqb a 15)
   where
@@ -90,22 +93,6 @@ bad-most s a vs = go (eqb a 15)
     go false = omega arith
 
 -- WHAT IS HANDED BACK
-module _ (name s : List ℕ) (a : ℕ) (vs out : List ℕ) where
-  by-taken : (b : Bool) → is_taken name s ≡ b
-      → read_shown name s a vs out ≡ cond b (shown_in (page_text name s a vs) out) (answered NotAllowed out)
-  by-taken b e = ap (λ (t : Bool). cond t (shown_in (page_text name s a vs) out) (answered NotAllowed out)) e
-
-  pub long-name : longest_name < length name → answered NotAllowed out ≡ read_shown name s a vs out
-  long-name h = sym (by-taken false (ap (λ (t : Bool). t && leb (length s) longest_page) (lt-leb (length name) longest_name h)))
-
-  pub long-page : longest_page < length s → answered NotAllowed out ≡ read_shown name s a vs out
-  long-page h =
-      sym (by-taken false (not-both (leb (length name) longest_name) (leb (length s) longest_page) (lt-leb (length s) longest_page h)))
-
-  pub page-taken : length name ≤ longest_name → length s ≤ longest_page
-      → shown_in (page_text name s a vs) out ≡ read_shown name s a vs out
-  page-taken h k = sym (by-taken true (and (le-leb (length name) longest_name h) (le-leb (length s) longest_page k)))
-
 -- a page that was read, and what is shown of it
 pub page-shown : (name s out : List ℕ) (o : Outcome) {f : Filled} → told o ≡ reading s
     → f ≡ read_shown name s (number o.answer) (values o.answer) out

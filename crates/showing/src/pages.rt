@@ -82,10 +82,7 @@ fn show_read(name: &[u8], page: &[u8], read: Answer, out: &mut [u8]) -> Answer
     ensures { answered result out.new
         ≡ read_shown name.now page.now (number read) (values read) out.old }
 {
-    if LONGEST_NAME < name.len() {
-        return Answer::NotAllowed;
-    }
-    if LONGEST_PAGE < page.len() {
+    if LONGEST_NAME < name.len() || LONGEST_PAGE < page.len() {
         return Answer::NotAllowed;
     }
     let shown = page_bytes(name, page, read);

@@ -20,13 +20,7 @@ const REQUEST_ROOM: usize = 321;
 fn shown(b: u8) -> u8
     ensures { result ≡ shown_byte b }
 {
-    if b < 32 {
-        return b'?';
-    }
-    if 126 < b {
-        return b'?';
-    }
-    b
+    if 32 <= b && b <= 126 { b } else { b'?' }
 }
 
 // A request's bytes: 72 at most, and `..` where there are more.
