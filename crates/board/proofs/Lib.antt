@@ -6,3 +6,4 @@ pub mod Refused
 pub mod ReadingBack
 pub mod Desks
 pub mod Running
+pub mod SixValues

@@ -3,3 +3,4 @@ pub mod Fills
 pub mod Pieces
 pub mod Lossless
 pub mod OneForm
+pub mod NamedRecords
