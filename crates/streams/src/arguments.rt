@@ -1,5 +1,5 @@
 // The program's arguments.
-ghost use Rattle.std.specs.Prelude.{◌≡◌, ◌≢◌, ◌≤◌, length, slice_index, EachIndex};
+ghost use Rattle.std.specs.Prelude.{◌≡◌, ◌≢◌, ◌≤◌, length, slice_index, EachIndex, IfSome};
 ghost use Rattle.streams.specs.Fronts.{IsShown};
 
 use std::env::{Env, FillError};
@@ -7,7 +7,8 @@ use std::env::{Env, FillError};
 /// The bytes of the longest argument that is taken: a path that is longer names no file.
 pub const LONGEST_ARGUMENT: usize = 4095;
 
-/// How many arguments there are, the program's own name among them, which the system counts too.
+/// How many arguments there are, the program's own name among them, which the system counts too. No contract can say how many the system
+/// gives.
 pub fn count_arguments(rt: &impl Env) -> usize {
     (0..usize::MAX)
         .find(|&i| matches!(rt.arg(i, &mut []), Err(FillError::NotPresent)))
@@ -26,7 +27,9 @@ impl Argument {
     ghost use Rattle.streams.specs.Given.{given};
 
     /// Argument i; none where it is longer than those that are taken, or is not there.
-    pub fn take(rt: &impl Env, i: usize) -> Option<Argument> {
+    pub fn take(rt: &impl Env, i: usize) -> Option<Argument>
+        ensures { IfSome result (λ a. length (given a) ≤ 4095) }
+    {
         let mut bytes = [0; LONGEST_ARGUMENT];
         let count = rt.arg(i, &mut bytes).ok()?;
         Some(Argument { bytes, count })

@@ -196,6 +196,12 @@ fn the_number_of_an_error_is_left_out(rt: HostRuntime) {
 }
 
 #[test]
+fn an_error_is_said(rt: HostRuntime) {
+    let _ = eprint!(rt; "test");
+    say_why(&rt, &io::Error::from_raw_os_error(2));
+}
+
+#[test]
 fn a_name_is_shown_on_one_line(rt: HostRuntime) {
     let name = b"a\n\x7f\x1f~ \xe9";
     for (b, &s) in name.iter().zip(b"a???~ \xe9") {
