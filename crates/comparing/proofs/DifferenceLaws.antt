@@ -1,25 +1,25 @@
--- What is said of a difference: its pieces, and how long it is. And bytes that are put from a place on, or only counted, piece by piece.
+-- What is said of a difference: its pieces, and how long it is. And what is put piece by piece.
 -- Assumes nothing.
 use Prim.Native.Nat.{ℕ, ◌+◌, ◌≤◌, ◌<◌}
-use native.Mathlib.Nat.{add-zero}
 use native.Mathlib.Omega.{arith}
-use mathlib.Core.Path.{◌≡◌, refl, sym, ap, ap₂, subst, ◌∙◌}
+use mathlib.Core.Path.{◌≡◌, sym, ap, ap₂, subst, ◌∙◌}
 use mathlib.Core.Bool.{Bool, true, false, cond}
 use mathlib.Core.List.{List, [], ◌∷◌, ◌++◌, append-nil, append_assoc}
 use mathlib.Core.Option.{none}
 use lib.ListN.{length, take, drop, length-append}
-use lib.Seq.{sets, sets-eq, drop-drop, length-slice, length-sets}
+use lib.Seq.{sets, sets-eq, drop-drop, length-slice}
 use lib.Dec.{eqb, ltb}
 use borrow.Rule.Slice.PartMut.{put_mid}
 use borrow.Author.Tests.{eq-eqb, ne_eqb, lt-ltb, le-ltb}
 use Rattle.limits.specs.Limits.{page_room}
 use Rattle.lists.specs.Lists.{join}
 use Rattle.text.specs.Text.{text, decimal}
-use Rattle.text.proofs.Laws.{sets-append, decimal-most}
+use Rattle.text.proofs.Laws.{decimal-most}
 use Rattle.console.specs.Sheet.{line_end}
 use Rattle.console.proofs.LineEnds.{line-end}
 use Rattle.comparing.specs.Verdicts.{side, sides}
-use Rattle.comparing.specs.Inner.{line_from, said_of, parted_at, Puts, piece_room}
+use Rattle.comparing.specs.Inner.{line_from, said_of, parted_at, piece_room}
+use Rattle.comparing.specs.Sinks.{SinkLaws}
 
 said-length : (what : List ℕ) (n : ℕ) (x y : List ℕ)
     → length (what ++ sides n x y) ≡ length what + length (decimal n) + length x + length y + 34
@@ -29,7 +29,7 @@ said-length what n x y = simp length-append (omega arith)
 pub said-byte : (what : List ℕ) (n : ℕ) (x y : List ℕ) → 1 ≤ length (what ++ sides n x y)
 said-byte what n x y = omega (arith, said-length what n x y)
 
-said-room : (what : List ℕ) (n : ℕ) (x y : List ℕ) → length what ≤ 13 → length x ≤ page_room → length y ≤ page_room
+pub said-room : (what : List ℕ) (n : ℕ) (x y : List ℕ) → length what ≤ 13 → length x ≤ page_room → length y ≤ page_room
     → length (what ++ sides n x y) ≤ piece_room
 said-room what n x y a b c = omega (arith, said-length what n x y, decimal-most n)
 
@@ -127,70 +127,46 @@ module _ (s : List ℕ) (a : ℕ) (w : List ℕ) (b n : ℕ) where
 -- what the check wants of what is said
 pub ruleset said_put = (append_assoc, length-append)
 
--- bytes that are put, or only counted: copied to their place, none, two one after the other
-pub puts-copied : {w : Bool} (l x : List ℕ) (at n : ℕ) {part : List ℕ} → w ≡ true → n ≡ length x → at + length x ≤ length l → part ≡ x
-    → Puts w l at x (put_mid at n l part) (at + length x)
-puts-copied l x at n {part} e k h p = subst (λ (b : Bool). Puts b l at x (put_mid at n l part) (at + length x)) (sym e) (record {
-  place = refl;
-  buffer = ap₂ (λ (i : ℕ) (y : List ℕ). put_mid at i l y) k p ∙ ap (λ (r : List ℕ). take at l ++ (x ++ r)) (drop-drop (length x) at l)
-      ∙ sym (append_assoc (take at l) x (drop (at + length x) l)) ∙ sym (sets-eq x l at h);
-})
+-- what was put behind nothing stands alone
+pub alone : {s y before x z : List ℕ} → s ≡ y → y ≡ before ++ x → before ≡ [] → x ≡ z → s ≡ z
+alone {s} {y} {before} {x} p q e r = p ∙ q ∙ ap (λ (b : List ℕ). b ++ x) e ∙ r
 
-puts_none : (w : Bool) (l : List ℕ) (at : ℕ) → Puts w l at [] l at
-puts_none true l at = record { place = sym (add-zero at); buffer = refl }
-puts_none false l at = record { place = sym (add-zero at); buffer = refl }
+-- a piece that is copied to its place
+pub copied : (l x : List ℕ) (at n : ℕ) {part : List ℕ} → n ≡ length x → at + length x ≤ length l → part ≡ x
+    → put_mid at n l part ≡ sets l at x
+copied l x at n {part} k h p =
+    ap₂ (λ (i : ℕ) (y : List ℕ). put_mid at i l y) k p ∙ ap (λ (r : List ℕ). take at l ++ (x ++ r)) (drop-drop (length x) at l)
+    ∙ sym (append_assoc (take at l) x (drop (at + length x) l)) ∙ sym (sets-eq x l at h)
 
-puts_then : (w : Bool) {l₀ l₁ l₂ : List ℕ} {at₀ at₁ at₂ : ℕ} (x y : List ℕ) → Puts w l₀ at₀ x l₁ at₁ → Puts w l₁ at₁ y l₂ at₂
-    → Puts w l₀ at₀ (x ++ y) l₂ at₂
-puts_then true {l₀} x y p q = record {
-  place = omega (arith, p.place, q.place, length-append x y);
-  buffer = q.buffer ∙ ap₂ (λ (l : List ℕ) (i : ℕ). sets l i y) p.buffer p.place ∙ sym (sets-append x y l₀ _);
-}
-puts_then false x y p q =
-    record { place = omega (arith, p.place, q.place, length-append x y); buffer = q.buffer ∙ p.buffer }
+-- what comes of s₀ once `all` is put into it comes of s once these pieces are put: they are due
+pub record Due {S : Type 0} (after : S → List ℕ → S) (s₀ : S) (all : List ℕ) (s : S) (ps : List (List ℕ)) : Type 0 where
+  pub whole : after s (join ps) ≡ after s₀ all
 
-pub puts-as : {w : Bool} {l x y l' : List ℕ} {at n : ℕ} → x ≡ y → Puts w l at x l' n → Puts w l at y l' n
-puts-as {w} {l} {x} {y} {l'} {at} {n} e p = subst (λ (z : List ℕ). Puts w l at z l' n) e p
+module _ {S : Type 0} {after : S → List ℕ → S} {place end : S → ℕ} (laws : SinkLaws after place end) {s₀ s : S} {all : List ℕ} where
+  pub due-step : {x : List ℕ} {s' : S} {ps : List (List ℕ)} → Due after s₀ all s (x ∷ ps) → s' ≡ after s x → Due after s₀ all s' ps
+  due-step {x} {s'} {ps} d e = record { whole = ap (λ (t : S). after t (join ps)) e ∙ laws.joined s x (join ps) ∙ d.whole }
 
-pub puts-same : (w : Bool) {l x l' : List ℕ} {at n : ℕ} → Puts w l at x l' n → length l' ≡ length l
-puts-same true {l} {x} {l'} {at} {n} p = ap length p.buffer ∙ length-sets l at x
-puts-same false p = ap length p.buffer
+  pub due-as : {x y : List ℕ} {ps : List (List ℕ)} → x ≡ y → Due after s₀ all s (x ∷ ps) → Due after s₀ all s (y ∷ ps)
+  due-as {x} {y} {ps} e d = subst (λ (z : List ℕ). Due after s₀ all s (z ∷ ps)) e d
 
--- `all` is put from at₀ on, or counted; the buffer is l by now, and these pieces of it are left, from `at` on
-pub record Due (w : Bool) (l₀ : List ℕ) (at₀ : ℕ) (all : List ℕ) (l : List ℕ) (at : ℕ) (ps : List (List ℕ)) : Type 0 where
-  pub done : List ℕ
-  pub puts : Puts w l₀ at₀ done l at
-  pub whole : done ++ join ps ≡ all
+  pub due-empty : {ps : List (List ℕ)} → Due after s₀ all s ([] ∷ ps) → Due after s₀ all s ps
+  due-empty d = record { whole = d.whole }
 
-pub due-start : {w : Bool} {l all : List ℕ} {at : ℕ} {ps : List (List ℕ)} → all ≡ join ps → Due w l at all l at ps
-due-start {w} {l} {all} {at} {ps} e = record { done = []; puts = puts_none w l at; whole = sym e }
+  pub due-end : Due after s₀ all s [] → s ≡ after s₀ all
+  due-end d = sym (laws.none s) ∙ d.whole
 
-module _ {w : Bool} {l₀ all l : List ℕ} {at₀ at : ℕ} where
-  pub due-step : {x l' : List ℕ} {at' : ℕ} {ps : List (List ℕ)} → Due w l₀ at₀ all l at (x ∷ ps) → Puts w l at x l' at'
-      → Due w l₀ at₀ all l' at' ps
-  due-step {x} {l'} {at'} {ps} d p = record {
-    done = d.done ++ x;
-    puts = puts_then w d.done x d.puts p;
-    whole = append_assoc d.done x (join ps) ∙ d.whole;
-  }
-
-  pub due-as : {x y : List ℕ} {ps : List (List ℕ)} → x ≡ y → Due w l₀ at₀ all l at (x ∷ ps) → Due w l₀ at₀ all l at (y ∷ ps)
-  due-as {x} {y} {ps} e d = subst (λ (z : List ℕ). Due w l₀ at₀ all l at (z ∷ ps)) e d
-
-  pub due-empty : {ps : List (List ℕ)} → Due w l₀ at₀ all l at ([] ∷ ps) → Due w l₀ at₀ all l at ps
-  due-empty d = record { done = d.done; puts = d.puts; whole = d.whole }
-
-  pub due-end : Due w l₀ at₀ all l at [] → Puts w l₀ at₀ all l at
-  due-end d = puts-as (sym (append-nil d.done) ∙ d.whole) d.puts
-
-  pub due-same : {ps : List (List ℕ)} → Due w l₀ at₀ all l at ps → length l ≡ length l₀
-  due-same d = puts-same w d.puts
-
-  -- the piece that stands first ends within the whole, and there is room for it where it is put
-  pub due-within : {x : List ℕ} {ps : List (List ℕ)} → Due w l₀ at₀ all l at (x ∷ ps) → at + length x ≤ at₀ + length all
-  due-within {x} {ps} d =
-      omega (arith, d.puts.place, ap length d.whole, length-append d.done (x ++ join ps), length-append x (join ps))
-
-  pub due-room : {x : List ℕ} {ps : List (List ℕ)} → Due w l₀ at₀ all l at (x ∷ ps) → (w ≡ true → at₀ + length all ≤ length l₀)
-      → w ≡ true → at + length x ≤ length l
-  due-room d room e = omega (arith, due-within d, due-same d, room e)
+  -- there is room for the piece that stands first
+  pub due-room : {x : List ℕ} {ps : List (List ℕ)} → Due after s₀ all s (x ∷ ps) → place s₀ + length all ≤ end s₀
+      → place s + length x ≤ end s
+  due-room {x} {ps} d room =
+      omega (
+        arith,
+        room,
+        laws.moved s₀ all,
+        laws.kept s₀ all,
+        laws.moved s (x ++ join ps),
+        laws.kept s (x ++ join ps),
+        ap place d.whole,
+        ap end d.whole,
+        length-append x (join ps),
+      )

@@ -34,9 +34,10 @@ use Rattle.transcripts.proofs.ListLaws.{cut_all, cut-long}
 use Rattle.transcripts.proofs.Determined.{list-determined}
 use Rattle.following.specs.Differences.{of_sheet, unmatched, only_written, written_line}
 use Rattle.comparing.specs.Verdicts.{side, sides, difference_text, difference_texts}
-use Rattle.comparing.specs.Inner.{line_from, said_of, pieces, Puts, piece_room}
+use Rattle.comparing.specs.Inner.{line_from, said_of, pieces, piece_room}
+use Rattle.comparing.specs.Sinks.{SinkLaws}
 use Rattle.comparing.proofs.DifferenceLaws.{said-lacking, said-both, said-written, said-nothing, listed-room}
-use Rattle.comparing.proofs.DifferenceLaws.{Due, due-start, due-step, due-end}
+use Rattle.comparing.proofs.DifferenceLaws.{Due, due-step, due-end}
 
 -- a line begins within its text and has the bytes of the line there; so does one that there may be, and each listed line with its
 -- counterpart
@@ -212,69 +213,70 @@ module _ (o c list : List ℕ) (h : length o ≤ page_room) (r : length list ≡
   all_listed a list' e = list-determined a (Done (length (listed_lines o c))) list' (front (figures_listed o c) list) (e ∙ fits)
 
 -- the loop: of some lines the figures are left, and what is said of them is due
-pub record Ahead (g w : Bool) (o c l₀ : List ℕ) (at : ℕ) (l : List ℕ) (next : ℕ) (figures : List ℕ) : Type 0 where
+pub record Ahead {S : Type 0} (after : S → List ℕ → S) (g : Bool) (o c : List ℕ) (s₀ s : S) (figures : List ℕ) : Type 0 where
   pub ds : List Listed
   pub lie : AllLie o c ds
   pub left : figures ≡ join (map (figures_of c) ds)
-  pub due : Due w l₀ at (pieces g o c) l next (map (piece_text g) ds)
+  pub due : Due after s₀ (pieces g o c) s (map (piece_text g) ds)
 
-pub ahead-start : {g w : Bool} {o c l : List ℕ} {at : ℕ} (list before : List ℕ) (n : ℕ)
+pub ahead-start : {S : Type 0} (after : S → List ℕ → S) (s : S) {g : Bool} {o c : List ℕ} (list before : List ℕ) (n : ℕ)
     → list ≡ front (figures_listed o c) before → n ≡ length (listed_lines o c)
-    → Ahead g w o c l at l at (take (3 * n) list)
-ahead-start {g} {w} {o} {c} list before n e k = record {
+    → Ahead after g o c s s (take (3 * n) list)
+ahead-start after s {g} {o} {c} list before n e k = record {
   ds = listed_lines o c;
   lie = listed-lie o c;
   left = ap (take (3 * n)) e
       ∙ take_at (figures_listed o c) (drop (length (figures_listed o c)) before) (3 * n) (omega (arith, k, figures-long o c));
-  due = due-start (pieces_are g o c);
+  due = record { whole = ap (after s) (sym (pieces_are g o c)) };
 }
 
 -- the next of them: its figures, what is said of it by them, and the others
-pub record Turn (g w : Bool) (o c l₀ : List ℕ) (at : ℕ) (l : List ℕ) (next : ℕ) (figures : List ℕ) : Type 0 where
+pub record Turn {S : Type 0} (after : S → List ℕ → S) (g : Bool) (o c : List ℕ) (s₀ s : S) (figures : List ℕ) : Type 0 where
   pub begins : get_or figures 1 0 ≤ length o
   pub other : get_or figures 2 0 ≤ length c
   pub piece : List ℕ
   pub said : said_of g o c (get_or figures 0 0) (get_or figures 1 0) (get_or figures 2 0) ≡ piece
   pub more : List (List ℕ)
-  pub due : Due w l₀ at (pieces g o c) l next (piece ∷ more)
-  pub after : {l' rest : List ℕ} {next' : ℕ} → rest ≡ drop 3 figures → Puts w l next piece l' next' → Ahead g w o c l₀ at l' next' rest
+  pub due : Due after s₀ (pieces g o c) s (piece ∷ more)
+  pub next : {s' : S} {rest : List ℕ} → rest ≡ drop 3 figures → s' ≡ after s piece → Ahead after g o c s₀ s' rest
 
-module _ {g w : Bool} {o c l₀ l : List ℕ} {at next : ℕ} {figures : List ℕ} where
-  pub ahead-next : Ahead g w o c l₀ at l next figures → 3 ≤ length figures → Turn g w o c l₀ at l next figures
-  ahead-next a h = go a.ds a.lie a.left a.due
-    where
-      go : (ds : List Listed) → AllLie o c ds → figures ≡ join (map (figures_of c) ds)
-          → Due w l₀ at (pieces g o c) l next (map (piece_text g) ds) → Turn g w o c l₀ at l next figures
-      go [] lie f due = absurd (omega (arith, h, ap length f))
-      go (d ∷ ds) lie f due = record {
-        begins = omega (arith, first, lie.0.begins);
-        other = omega (arith, second, there d.counterpart lie.1);
-        piece = piece_text g d;
-        said = ap (λ (k : ℕ). said_of g o c k (get_or figures 1 0) (get_or figures 2 0)) zeroth
-            ∙ ap₂ (said_of g o c d.number) first second ∙ figures-say g o c d lie.0 lie.1;
-        more = map (piece_text g) ds;
-        due = due;
-        after = λ e p. record { ds = ds; lie = lie.2; left = e ∙ ap (drop 3) f; due = due-step due p };
-      }
-        where
-          zeroth : get_or figures 0 0 ≡ d.number
-          zeroth = ap (λ (xs : List ℕ). get_or xs 0 0) f
+module _ {S : Type 0} {after : S → List ℕ → S} {place end : S → ℕ} (laws : SinkLaws after place end) where
+  module _ {g : Bool} {o c : List ℕ} {s₀ s : S} {figures : List ℕ} where
+    pub ahead-next : Ahead after g o c s₀ s figures → 3 ≤ length figures → Turn after g o c s₀ s figures
+    ahead-next a h = go a.ds a.lie a.left a.due
+      where
+        go : (ds : List Listed) → AllLie o c ds → figures ≡ join (map (figures_of c) ds)
+            → Due after s₀ (pieces g o c) s (map (piece_text g) ds) → Turn after g o c s₀ s figures
+        go [] lie f due = absurd (omega (arith, h, ap length f))
+        go (d ∷ ds) lie f due = record {
+          begins = omega (arith, first, lie.0.begins);
+          other = omega (arith, second, there d.counterpart lie.1);
+          piece = piece_text g d;
+          said = ap (λ (k : ℕ). said_of g o c k (get_or figures 1 0) (get_or figures 2 0)) zeroth
+              ∙ ap₂ (said_of g o c d.number) first second ∙ figures-say g o c d lie.0 lie.1;
+          more = map (piece_text g) ds;
+          due = due;
+          next = λ e p. record { ds = ds; lie = lie.2; left = e ∙ ap (drop 3) f; due = due-step laws due p };
+        }
+          where
+            zeroth : get_or figures 0 0 ≡ d.number
+            zeroth = ap (λ (xs : List ℕ). get_or xs 0 0) f
 
-          first : get_or figures 1 0 ≡ d.line.begins
-          first = ap (λ (xs : List ℕ). get_or xs 1 0) f
+            first : get_or figures 1 0 ≡ d.line.begins
+            first = ap (λ (xs : List ℕ). get_or xs 1 0) f
 
-          second : get_or figures 2 0 ≡ begin_of c d.counterpart
-          second = ap (λ (xs : List ℕ). get_or xs 2 0) f
+            second : get_or figures 2 0 ≡ begin_of c d.counterpart
+            second = ap (λ (xs : List ℕ). get_or xs 2 0) f
 
-          there : (y : Option Line) → MayLie c y → begin_of c y ≤ length c
-          there none m = omega arith
-          there (some y) m = omega (arith, m.begins)
+            there : (y : Option Line) → MayLie c y → begin_of c y ≤ length c
+            there none m = omega arith
+            there (some y) m = omega (arith, m.begins)
 
-  -- none is left
-  pub ahead-end : Ahead g w o c l₀ at l next figures → length figures < 3 → Puts w l₀ at (pieces g o c) l next
-  ahead-end a h = go a.ds a.left a.due
-    where
-      go : (ds : List Listed) → figures ≡ join (map (figures_of c) ds) → Due w l₀ at (pieces g o c) l next (map (piece_text g) ds)
-          → Puts w l₀ at (pieces g o c) l next
-      go [] f d = due-end d
-      go (x ∷ xs) f d = absurd (omega (arith, h, ap length f))
+    -- none is left
+    pub ahead-end : Ahead after g o c s₀ s figures → length figures < 3 → s ≡ after s₀ (pieces g o c)
+    ahead-end a h = go a.ds a.left a.due
+      where
+        go : (ds : List Listed) → figures ≡ join (map (figures_of c) ds) → Due after s₀ (pieces g o c) s (map (piece_text g) ds)
+            → s ≡ after s₀ (pieces g o c)
+        go [] f d = due-end laws d
+        go (x ∷ xs) f d = absurd (omega (arith, h, ap length f))

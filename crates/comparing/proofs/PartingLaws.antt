@@ -10,21 +10,25 @@ use mathlib.Core.List.{List, [], ◌∷◌, ◌++◌, map, map-append, append-ni
 use mathlib.Core.Option.{none, some}
 use lib.ListN.{length, take, drop, length-append}
 use lib.Seq.{slice}
+use lib.Dec.{eqb}
 use lib.Pointwise.{pointwise}
 use Rattle.std.proofs.Common.{nat_eq}
 use Rattle.lists.specs.Lists.{alike, join}
-use Rattle.text.specs.Text.{text}
-use Rattle.text.specs.Lines.{lines_of}
+use Rattle.limits.specs.Limits.{page_room}
+use Rattle.text.specs.Text.{text, parts, on_first}
+use Rattle.text.specs.Lines.{lines_of, drop_empty}
 use Rattle.text.specs.Inner.{PartEnd}
 use Rattle.text.proofs.Fields.{same_bytes}
 use Rattle.text.proofs.Lines.{lines_none, lines_next}
 use Rattle.console.specs.Sheet.{line_end}
 use Rattle.console.proofs.LineEnds.{line-end, end-within, line_taken}
+use Rattle.showing.specs.Showing.{longest_name}
 use Rattle.transcripts.specs.Listing.{listed_lines}
 use Rattle.following.specs.Differences.{Difference, line, written_line, of_sheet, only_written, listed, parting, or_else, differences}
 use Rattle.comparing.specs.Verdicts.{side, sides, difference_text, difference_texts}
-use Rattle.comparing.specs.Inner.{line_from, pieces, parted_at, parting_text, parts_text}
-use Rattle.comparing.proofs.DifferenceLaws.{said-byte, parted-both, parted-first, parted-second, parted-none}
+use Rattle.comparing.specs.Inner.{line_from, pieces, parted_at, parting_text, parts_text, piece_room, far_place}
+use Rattle.comparing.proofs.ListedLaws.{pieces-far}
+use Rattle.comparing.proofs.DifferenceLaws.{said-byte, said-room, parted-both, parted-first, parted-second, parted-none}
 
 -- the two are alike up to here: line n begins at a and at b
 pub record Together (s w : List ℕ) (a b n : ℕ) : Type 0 where
@@ -109,6 +113,51 @@ module _ (s w : List ℕ) (a b n : ℕ) where
           sym (parted-none s a w b n l m)
           ∙ ap difference_texts (sym (ap₂ (parting n) (lines_none s a l) (lines_none w b m)))
 
+-- lines that are no longer than this; those of a text are no longer than it
+abbrev Short : ℕ → List (List ℕ) → Type 0
+Short n [] = Unit {0}
+Short n (l ∷ ls) = (length l ≤ n) × Short n ls
+
+short-more : (n m : ℕ) (ls : List (List ℕ)) → n ≤ m → Short n ls → Short m ls
+short-more n m [] h s = tt
+short-more n m (l ∷ ls) h s = (omega (arith, h, s.0), short-more n m ls h s.1)
+
+parts-short : (s : List ℕ) → Short (length s) (parts 10 s)
+unfolding parts
+parts-short [] = (omega arith, tt)
+parts-short (x ∷ xs) = which (eqb x 10) (parts 10 xs) (parts-short xs)
+  where
+    which : (b : Bool) (ls : List (List ℕ)) → Short (length xs) ls → Short (length (x ∷ xs)) (cond b ([] ∷ ls) (on_first x ls))
+    which true ls h = (omega arith, short-more (length xs) (length (x ∷ xs)) ls (omega arith) h)
+    which false [] h = (omega arith, tt)
+    which false (l ∷ ls) h = (omega (arith, h.0), short-more (length xs) (length (x ∷ xs)) ls (omega arith) h.1)
+
+ended-short : (n : ℕ) (ls : List (List ℕ)) → Short n ls → Short n (drop_empty ls)
+ended-short n [] h = tt
+ended-short n ([] ∷ []) h = tt
+ended-short n ((x ∷ xs) ∷ []) h = h
+ended-short n (l ∷ m ∷ ls) h = (h.0, ended-short n (m ∷ ls) h.1)
+
+lines-short : (s : List ℕ) → length s ≤ page_room → Short page_room (lines_of s)
+unfolding lines_of
+lines-short s h = short-more (length s) page_room (lines_of s) h (ended-short (length s) (parts 10 s) (parts-short s))
+
+-- what is said of where two texts part is no longer than what is said of one line
+lines-room : (n : ℕ) (xs ys : List (List ℕ)) → Short page_room xs → Short page_room ys
+    → length (difference_texts (parting n xs ys)) ≤ piece_room
+unfolding parting
+lines-room n [] [] h k = omega arith
+lines-room n [] (y ∷ ys) h k =
+    omega (arith, length-append (text "line " ++ sides n (side none) y) [], said-room (text "line ") n (side none) y (omega arith) (omega arith) k.0)
+lines-room n (x ∷ xs) [] h k =
+    omega (arith, length-append (text "line " ++ sides n x (side none)) [], said-room (text "line ") n x (side none) (omega arith) h.0 (omega arith))
+lines-room n (x ∷ xs) (y ∷ ys) h k = which (alike x y) (lines-room (suc n) xs ys h.1 k.1)
+  where
+    which : (b : Bool) → length (difference_texts (parting (suc n) xs ys)) ≤ piece_room
+        → length (difference_texts (cond b (parting (suc n) xs ys) (line n (some x) (some y) ∷ []))) ≤ piece_room
+    which true r = r
+    which false r = omega (arith, length-append (text "line " ++ sides n x y) [], said-room (text "line ") n x y (omega arith) h.0 k.0)
+
 -- of a page that does not follow: what is said last, where neither list has a line, is where the two part
 abbrev lastly : List Difference → List Difference → List ℕ
 lastly [] other = difference_texts other
@@ -164,3 +213,24 @@ module _ (s w : List ℕ) where
       go : (ds : List Difference) → 1 ≤ length (difference_texts ds) → lastly ds (parting 1 (lines_of s) (lines_of w)) ≡ []
       go [] l = absurd (omega arith)
       go (d ∷ ds) l = refl
+
+  -- how long it all is
+  pub parts-far : (name : List ℕ) → length name ≤ longest_name → length s ≤ page_room → length w ≤ page_room
+      → length (parts_text name s w) ≤ far_place
+  parts-far name l h k =
+      omega (
+        arith,
+        l,
+        ap length (parts_are name),
+        length-append name ((text ": does not follow" ++ (10 ∷ [])) ++ (pieces true s w ++ (pieces false w s ++ (behind_lists ++ [])))),
+        length-append (pieces true s w) (pieces false w s ++ (behind_lists ++ [])),
+        length-append (pieces false w s) (behind_lists ++ []),
+        length-append behind_lists [],
+        pieces-far true s w h k,
+        pieces-far false w s k h,
+        last (listed s w),
+      )
+    where
+      last : (ds : List Difference) → length (lastly ds (parting 1 (lines_of s) (lines_of w))) ≤ piece_room
+      last [] = lines-room 1 (lines_of s) (lines_of w) (lines-short s h) (lines-short w k)
+      last (d ∷ ds) = omega arith

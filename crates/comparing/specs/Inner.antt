@@ -1,9 +1,8 @@
 -- What inner functions ask and promise each other; no public call mentions it.
 -- Assumes nothing.
-use Rattle.std.specs.Prelude.{ℕ, ◌+◌, ◌*◌, ◌≡◌, Bool, true, false, cond, List, [], ◌++◌, map, length, ltb, eqb}
+use Rattle.std.specs.Prelude.{ℕ, ◌+◌, ◌*◌, Bool, true, false, cond, List, [], ◌++◌, map, length, ltb, eqb}
 use Rattle.std.proofs.Math.Option.{none}
 use Rattle.std.proofs.Math.Seq.{slice}
-use Rattle.std.proofs.lemmas.List.Edits.{sets}
 use Rattle.limits.specs.Limits.{page_room}
 use Rattle.text.specs.Text.{text}
 use Rattle.text.specs.Lines.{lines_of}
@@ -35,11 +34,6 @@ parted_at s a w b n =
 
 abbrev pub parting_text : List ℕ → List ℕ → List ℕ
 parting_text s w = difference_texts (parting 1 (lines_of s) (lines_of w))
-
--- bytes that are put from a place on, or only counted
-pub record Puts (writing : Bool) (before : List ℕ) (at : ℕ) (bytes : List ℕ) (after : List ℕ) (next : ℕ) : Type 0 where
-  pub place : next ≡ at + length bytes
-  pub buffer : after ≡ cond writing (sets before at bytes) before
 
 -- the room for one piece, and a place that all pieces together do not reach
 abbrev pub piece_room : ℕ

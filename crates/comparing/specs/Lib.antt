@@ -1,2 +1,3 @@
 pub mod Verdicts
 pub mod Inner
+pub mod Sinks

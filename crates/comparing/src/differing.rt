@@ -1,11 +1,10 @@
-// How the sheet and the written page part. What is said of it is counted first and put then, by the same functions, so that a buffer that
-// is too short is not touched.
-ghost use Rattle.std.specs.Prelude.{◌+◌, ◌≤◌, ◌≡◌, true, ◌++◌, length};
+// How the sheet and the written page part, put piece by piece into a count or into a lent buffer.
+ghost use Rattle.std.specs.Prelude.{◌+◌, ◌≤◌, ◌≡◌, ◌++◌, length};
 ghost use Rattle.limits.specs.Limits.{page_room};
-ghost use Rattle.showing.specs.Showing.{longest_name};
 ghost use Rattle.comparing.specs.Verdicts.{sides};
-ghost use Rattle.comparing.specs.Inner.{line_from, said_of, pieces, Puts, parted_at, parting_text, parts_text, far_place, piece_room};
+ghost use Rattle.comparing.specs.Inner.{line_from, said_of, pieces, parted_at, parting_text, parts_text, piece_room};
 
+use super::sink::Sink;
 use arrayvec::ArrayVec;
 use limits::PAGE_ROOM;
 use rules::Answer;
@@ -72,41 +71,18 @@ fn put_listed(
     }
 }
 
-// Puts a piece at `at`, or only counts it.
-fn put_piece(out: &mut [u8], at: usize, piece: &[u8], writing: bool) -> usize
-    requires at_le_far_place { at ≤ far_place }
-    requires piece_len_bound { length piece.now ≤ piece_room }
-    requires piece_in_bounds { writing ≡ true → at + length piece.now ≤ length out.old }
-    ensures { Puts writing out.old at piece.now out.new result }
-{
-    let end = at + piece.len();
-    if writing {
-        out[at..end].copy_from_slice(piece);
-    }
-    end
-}
-
-// Puts what is said of each line of the original that the desk lists against the copy, or only counts it.
-fn put_all_listed(
-    given: bool,
-    original: &[u8],
-    copy: &[u8],
-    out: &mut [u8],
-    at: usize,
-    writing: bool,
-) -> usize
+// Puts what is said of each line of the original that the desk lists against the copy.
+fn put_all_listed<S: Sink>(given: bool, original: &[u8], copy: &[u8], sink: &mut S)
     requires original_len_bound { length original.now ≤ page_room }
     requires copy_len_bound { length copy.now ≤ page_room }
-    requires copy_bound { at + length (pieces given original.now copy.now) ≤ far_place }
-    requires copy_in_bounds { writing ≡ true → at + length (pieces given original.now copy.now) ≤ length out.old }
-    ensures { Puts writing out.old at (pieces given original.now copy.now) out.new result }
+    requires room { S.place sink.old + length (pieces given original.now copy.now) ≤ S.end sink.old }
+    ensures { sink.new ≡ S.after sink.old (pieces given original.now copy.now) }
 {
     let mut list = [0u64; LISTED];
     let Answer::Done(many) = transcripts::list_figures(original, copy, &mut list) else {
-        return at;
+        return;
     };
     let mut piece = ArrayVec::new();
-    let mut next = at;
     let mut figures = &list[..3 * many as usize];
     while let [number, begins, other, rest @ ..] = figures {
         piece.clear();
@@ -119,10 +95,9 @@ fn put_all_listed(
             *begins as usize,
             *other as usize,
         );
-        next = put_piece(out, next, piece.as_slice(), writing);
+        sink.put(piece.as_slice());
         figures = rest;
     }
-    next
 }
 
 // What is said of line n of two texts, which begins at a in the sheet and at b in the written page, where it is there.
@@ -142,13 +117,12 @@ fn put_parted(out: &mut Piece, sheet: &[u8], a: usize, written: &[u8], b: usize,
     }
 }
 
-// Puts the first line at which the two part, or only counts it.
-fn put_parting(sheet: &[u8], written: &[u8], out: &mut [u8], at: usize, writing: bool) -> usize
+// Puts the first line at which the two part.
+fn put_parting<S: Sink>(sheet: &[u8], written: &[u8], sink: &mut S)
     requires sheet_len_bound { length sheet.now ≤ page_room }
     requires written_len_bound { length written.now ≤ page_room }
-    requires at_le_far_place { at ≤ far_place }
-    requires written_in_bounds { writing ≡ true → at + length (parting_text sheet.now written.now) ≤ length out.old }
-    ensures { Puts writing out.old at (parting_text sheet.now written.now) out.new result }
+    requires room { S.place sink.old + length (parting_text sheet.now written.now) ≤ S.end sink.old }
+    ensures { sink.new ≡ S.after sink.old (parting_text sheet.now written.now) }
 {
     let mut a: usize = 0;
     let mut b: usize = 0;
@@ -165,30 +139,22 @@ fn put_parting(sheet: &[u8], written: &[u8], out: &mut [u8], at: usize, writing:
     }
     let mut piece = ArrayVec::new();
     put_parted(&mut piece, sheet, a, written, b, n);
-    put_piece(out, at, piece.as_slice(), writing)
+    sink.put(piece.as_slice());
 }
 
-// Puts that the sheet of this name does not follow, and how the two part, or only counts it.
-pub(crate) fn put_parts(
-    name: &[u8],
-    sheet: &[u8],
-    written: &[u8],
-    out: &mut [u8],
-    writing: bool,
-) -> usize
-    requires name_len_bound { length name.now ≤ longest_name }
+// Puts that the sheet of this name does not follow, and how the two part.
+pub(crate) fn put_parts<S: Sink>(name: &[u8], sheet: &[u8], written: &[u8], sink: &mut S)
     requires sheet_len_bound { length sheet.now ≤ page_room }
     requires written_len_bound { length written.now ≤ page_room }
-    requires written_in_bounds { writing ≡ true → length (parts_text name.now sheet.now written.now) ≤ length out.old }
-    ensures { Puts writing out.old 0 (parts_text name.now sheet.now written.now)
-        out.new result }
+    requires room { S.place sink.old + length (parts_text name.now sheet.now written.now) ≤ S.end sink.old }
+    ensures { sink.new ≡ S.after sink.old (parts_text name.now sheet.now written.now) }
 {
-    let a = put_piece(out, 0, name, writing);
-    let b = put_piece(out, a, b": does not follow\n", writing);
-    let c = put_all_listed(true, sheet, written, out, b, writing);
-    let d = put_all_listed(false, written, sheet, out, c, writing);
-    if d == b {
-        return put_parting(sheet, written, out, d, writing);
+    sink.put(name);
+    sink.put(b": does not follow\n");
+    let begun = sink.at();
+    put_all_listed(true, sheet, written, sink);
+    put_all_listed(false, written, sheet, sink);
+    if sink.at() == begun {
+        put_parting(sheet, written, sink);
     }
-    d
 }

@@ -2,6 +2,7 @@
 #![tactic(auto)]
 
 mod differing;
+mod sink;
 mod verdicts;
 
 pub use verdicts::show_verdict;

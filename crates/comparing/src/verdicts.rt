@@ -12,6 +12,7 @@ ghost use Rattle.comparing.specs.Verdicts.{verdict_text, verdict_shown};
 ghost use Rattle.comparing.specs.Inner.{follows_text, parts_text};
 
 use super::differing;
+use super::sink::{Count, Lent};
 use arrayvec::ArrayVec;
 use rules::Answer;
 use showing::{LONGEST_NAME, LONGEST_PAGE};
@@ -40,11 +41,14 @@ fn show_parts(name: &[u8], sheet: &[u8], written: &[u8], out: &mut [u8]) -> Answ
     ensures { answered result out.new
         ≡ shown_in (parts_text name.now sheet.now written.now) out.old }
 {
-    let n = differing::put_parts(name, sheet, written, out, false);
+    let mut count = Count { at: 0 };
+    differing::put_parts(name, sheet, written, &mut count);
+    let n = count.at;
     if out.len() < n {
         return Answer::TooShort(n as u64);
     }
-    differing::put_parts(name, sheet, written, out, true);
+    let mut lent = Lent { out, at: 0 };
+    differing::put_parts(name, sheet, written, &mut lent);
     Answer::Done(n as u64)
 }
 

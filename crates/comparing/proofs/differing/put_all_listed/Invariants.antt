@@ -4,7 +4,7 @@ use Rattle.comparing.proofs.ListedLaws.{Ahead}
 use Rattle.comparing.proofs.differing.put_all_listed.Given as goal
 
 abbrev pub invariant-loop-figures : goal.invariant-loop-figures
-invariant-loop-figures l = Ahead l.given l.writing l.original l.copy l.fn.out l.at l.out l.next l.figures
+invariant-loop-figures g l = Ahead g.S.Sink.after l.given l.original l.copy l.fn.sink l.sink l.figures
 
 abbrev pub decreases-loop-figures : goal.decreases-loop-figures
-decreases-loop-figures l = length l.figures
+decreases-loop-figures g l = length l.figures

@@ -1,22 +1,22 @@
 -- `differing::put_parting` meets its contract: what is said behind the loop is said of where the two part. Assumes nothing.
 use borrow.Author.Tests.{not-true, not-false}
-use Prim.Native.Nat.{ℕ, ◌<◌}
+use Prim.Native.Nat.{◌<◌}
 use native.Mathlib.Omega.{arith}
 use mathlib.Core.Path.{◌≡◌, ap, ◌∙◌}
 use mathlib.Core.Bool.{false}
-use mathlib.Core.List.{List, ◌++◌}
 use lib.ListN.{length}
 use Rattle.lists.specs.Lists.{alike}
-use Rattle.comparing.specs.Inner.{line_from, parted_at, parting_text}
-use Rattle.comparing.proofs.DifferenceLaws.{parted-room, puts-as}
+use Rattle.comparing.specs.Inner.{line_from, parting_text}
+use Rattle.comparing.proofs.DifferenceLaws.{parted-room, alone}
 use Rattle.comparing.proofs.PartingLaws.{together-on, held-apart, lines-there, together-end}
+use Rattle.comparing.proofs.differing.put_parting.Given.{Over}
 use Rattle.comparing.proofs.differing.put_parting.Goals as goal
 use Rattle.comparing.proofs.differing.put_parting.Goals.{After-as_slice}
 use Rattle.comparing.proofs.differing.put_parting.Goals.{else-loop-a-test, then-loop-a-test+else-b-written, then-loop-a-test+then-b-written+then-ne}
 
-apart : (c : After-as_slice) → c.loop-a.a < length c.args.sheet.now → c.loop-a.b < length c.args.written.now
+apart : (g : Over) (c : After-as_slice g) → c.loop-a.a < length c.args.sheet.now → c.loop-a.b < length c.args.written.now
     → alike (line_from c.args.sheet.now c.loop-a.a) (line_from c.args.written.now c.loop-a.b) ≡ false
-apart c h k =
+apart g c h k =
     let a = c.args in
     let l = c.loop-a in
     elim c.loop-a-test.branch [
@@ -30,16 +30,14 @@ apart c h k =
           ∙ v.if-ne.true)
     ]
 
-said : (c : After-as_slice) → c.as_slice.result.now ≡ parting_text c.args.sheet.now c.args.written.now
-said c =
-    let s = c.args.sheet.now in
-    let w = c.args.written.now in
+said : (g : Over) (c : After-as_slice g) → c.as_slice.result.now ≡ parting_text c.args.sheet.now c.args.written.now
+said g c =
     let l = c.loop-a in
-    c.as_slice.ensures.value ∙ c.put_parted.ensures ∙ ap (λ (x : List ℕ). x ++ parted_at s l.a w l.b l.n) c.new-piece.ensures
-    ∙ together-end s w l.a l.b l.n l.invariant (apart c)
+    alone c.as_slice.ensures.value c.put_parted.ensures c.new-piece.ensures
+    (together-end c.args.sheet.now c.args.written.now l.a l.b l.n l.invariant (apart g c))
 
 pub loop-a-preserved : goal.loop-a-preserved
-loop-a-preserved c =
+loop-a-preserved g c =
     let s = c.args.sheet.now in
     let w = c.args.written.now in
     let l = c.loop-a in
@@ -49,7 +47,7 @@ loop-a-preserved c =
     (not-false _ (held-apart s w l.a l.b e.result t.result c.ne.result e.ensures.low t.ensures.low c.ne.ensures ∙ c.if-ne.false))
 
 pub put_parted-requires : goal.put_parted-requires
-put_parted-requires c =
+put_parted-requires g c =
     let s = c.args.sheet.now in
     let w = c.args.written.now in
     let l = c.loop-a in
@@ -59,9 +57,8 @@ put_parted-requires c =
       parted-room s l.a w l.b l.n c.requires.sheet_len_bound c.requires.written_len_bound,
     )
 
-pub put_piece-requires-clause-piece_in_bounds : goal.put_piece-requires-clause-piece_in_bounds
-put_piece-requires-clause-piece_in_bounds c = λ e.
-    omega (arith, ap length (said (goal.at.put_piece-requires-clause-piece_in_bounds c).After-as_slice), c.requires.written_in_bounds e)
+pub put-requires : goal.put-requires
+put-requires g c = omega (arith, ap length (said g (goal.at.put-requires g c).After-as_slice), c.requires.room)
 
 pub returns : goal.returns
-returns c = puts-as (said (goal.at.returns c).After-as_slice) c.put_piece.ensures
+returns g c = c.put.ensures ∙ ap (g.S.Sink.after c.args.sink.now) (said g (goal.at.returns g c).After-as_slice)
