@@ -63,6 +63,7 @@ fn is_letter_or_digit(c: u8) -> bool
     is_letter(c) || c.is_ascii_digit()
 }
 
+// Letters and digits, and then blanks to the end.
 fn is_rest(s: &[u8]) -> bool
     ensures { result ≡ list_all (λ c. c == 32) (drop (prefix_len (λ c. letter c || digit c) s.now) s.now) }
 {
@@ -93,6 +94,14 @@ pub fn read_name(s: &[u8]) -> Option<[u8; 5]>
     Some(name)
 }
 
+// Whether two names have the same bytes.
+pub fn same_name(a: [u8; 5], b: [u8; 5]) -> bool
+    ensures { result ≡ alike a b }
+{
+    a == b
+}
+
+// The place of the first record in use that has the name; none where no record has it.
 fn place_named(programs: &[Program], name: [u8; 5]) -> Option<usize>
     ensures place { result ≡ position (λ r. r.used && alike r.name name) programs.now }
     ensures within { IfSome result (λ i. i < length programs.now) }
@@ -107,6 +116,7 @@ pub fn find_program(programs: [Program; MOST_PROGRAMS], name: [u8; 5]) -> Option
     place_named(&programs, name).map(|i| i as u8 + 1)
 }
 
+// The place of the first record that no program has; none where all are used.
 fn place_unused(programs: &[Program]) -> Option<usize>
     ensures place { result ≡ position (λ r. not r.used) programs.now }
     ensures within { IfSome result (λ i. i < length programs.now) }
@@ -156,7 +166,7 @@ impl Program {
     fn is_named(self, name: [u8; 5]) -> bool
         ensures { result ≡ (self.used && alike self.name name) }
     {
-        self.used && self.name == name
+        self.used && same_name(self.name, name)
     }
 
     // The mark goes with the state that it stood in.
@@ -258,6 +268,7 @@ impl Numbers {
         self.resources[r - 1]
     }
 
+    // The place of the first number that p owns, among the `count` there are; none where it owns none.
     fn place_owned(self, p: u8) -> Option<usize>
         requires { Fit self }
         ensures place { result ≡ position (λ x. eqb x.owner p) (resources self) }
