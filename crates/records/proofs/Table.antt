@@ -123,6 +123,12 @@ changed-next f i xs ys y e g =
     ∙ changed-suc f i xs
     ∙ ap (λ (j : ℕ). changed f j xs) (let s : suc i ≡ i + 1 = omega arith in s)
 
+-- those of the numbers changed
+pub changed-all : (t : Numbers) (f : Resource → Resource) (i : ℕ) → Fit t → i ≡ t.count
+    → changed f i t.resources ≡ map f (resources t) ++ behind t.count
+changed-all t f i F e =
+    ap (λ (j : ℕ). changed f j t.resources) e ∙ ap (λ (ys : List Resource). map f (resources t) ++ ys) (fit-behind t F)
+
 -- all changed, the blanks too, which stay blanks
 without-free : (p : ℕ) → without p free ≡ free
 without-free p = go (eqb 0 p)
@@ -135,9 +141,9 @@ without-behind : (p n : ℕ) → map (without p) (replicate n free) ≡ replicat
 without-behind p zero = refl
 without-behind p (suc n) = ap₂ (λ (x : Resource) (xs : List Resource). x ∷ xs) (without-free p) (without-behind p n)
 
-pub changed-all : (t : Numbers) (p i : ℕ) → Fit t → length t.resources ≤ i
+pub changed-whole : (t : Numbers) (p i : ℕ) → Fit t → length t.resources ≤ i
     → changed (without p) i t.resources ≡ map (without p) (resources t) ++ behind t.count
-changed-all t p i F e =
+changed-whole t p i F e =
     ap (λ (ys : List Resource). map (without p) (take i t.resources) ++ ys) (drop_of_length-le t.resources {i = i} e)
     ∙ append-nil (map (without p) (take i t.resources))
     ∙ ap (map (without p)) (take_all i t.resources e ∙ fit-list t F)

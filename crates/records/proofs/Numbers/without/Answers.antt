@@ -2,7 +2,7 @@
 use Rattle.std.proofs.Common.{◌∙◌, ap, arith, List, refl}
 use Rattle.records.specs.declared.Resource.{Resource}
 use Rattle.records.specs.Numbers.{without}
-use Rattle.records.proofs.Table.{changed-next, changed-all}
+use Rattle.records.proofs.Table.{changed-next, changed-whole}
 use Rattle.records.proofs.Numbers.without.Goals as goal
 
 pub loop-x-init : goal.loop-x-init
@@ -14,4 +14,4 @@ loop-x-preserved c = changed-next (without c.args.p) _ c.args.self.resources _ _
 pub returns : goal.returns
 returns c =
     ap (λ (xs : List Resource). record { count = c.args.self.count; resources = xs })
-    (c.loop-x.invariant ∙ changed-all c.args.self c.args.p _ c.requires (omega arith))
+    (c.loop-x.invariant ∙ changed-whole c.args.self c.args.p _ c.requires (omega arith))
