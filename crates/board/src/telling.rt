@@ -41,9 +41,9 @@ pub(crate) fn put_figures(buf: &mut [u8], number: u64, values: [u64; 6])
     ensures { buf.new ≡ front (join (map (in_bytes 8) (number ∷ values))) buf.old }
 {
     let mut out: ArrayVec<u8, FIGURES_LENGTH> = ArrayVec::new();
-    packing::put_long(&mut out, number);
+    packing::push_long(&mut out, number);
     for v in &values {
-        packing::put_long(&mut out, *v);
+        packing::push_long(&mut out, *v);
     }
     buf[..FIGURES_LENGTH].copy_from_slice(out.as_slice());
 }

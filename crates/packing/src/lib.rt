@@ -4,6 +4,7 @@
 ghost use Rattle.std.specs.Prelude.{◌≡◌, ◌+◌, ◌*◌, ◌≤◌, ◌<◌, ◌++◌, map, length, take, drop};
 ghost use Rattle.limits.specs.Limits.{most_programs, most_tracks, most_numbers};
 ghost use Rattle.lists.specs.Lists.{hit, from, join};
+ghost use Rattle.text.specs.Inner.{Wrote};
 ghost use Rattle.tracks.specs.Tracks.{table_at};
 ghost use Rattle.packing.specs.Packed.{in_bytes, figure_at, kind_of, count_of, why_of, pack_program, program_at, pack_resource, resource_at};
 ghost use Rattle.packing.specs.Packed.{packed, unpacked, is_packed, holders_place, resources_place, links_place, programs_place, packed_length};
@@ -130,9 +131,17 @@ fn put_pair<const N: usize>(out: &mut ArrayVec<u8, N>, n: u16)
     put_bytes(out, &n.to_le_bytes());
 }
 
-// Puts a number in eight bytes, the lowest first.
+// Puts a number in eight bytes, the lowest first, at a place of a lent buffer, and hands back the place behind them.
+pub fn put_long(buf: &mut [u8], at: usize, n: u64) -> usize
+    requires { at + 8 ≤ length buf.old }
+    ensures { Wrote buf.old at (in_bytes 8 n) buf.new result }
+{
+    text::put_bytes(buf, at, &n.to_le_bytes())
+}
+
+// The same behind what a vector holds.
 #[tactic(auto, using(crate::proofs::Figures::in_eight))]
-pub fn put_long<const N: usize>(out: &mut ArrayVec<u8, N>, n: u64)
+pub fn push_long<const N: usize>(out: &mut ArrayVec<u8, N>, n: u64)
     requires { length out.old.items + 8 ≤ N }
     ensures { out.new.items ≡ out.old.items ++ in_bytes 8 n }
 {
@@ -174,8 +183,8 @@ fn put_program<const N: usize>(out: &mut ArrayVec<u8, N>, r: &Program)
     out.push(r.state);
     out.push(kind_of(r.why));
     put_pair(out, count_of(r.why));
-    put_long(out, r.due);
-    put_long(out, r.interval);
+    push_long(out, r.due);
+    push_long(out, r.interval);
     out.push(u8::from(r.suspend));
 }
 
@@ -207,7 +216,7 @@ pub fn pack(tables: &Tables) -> ArrayVec<u8, PACKED_LENGTH>
 {
     let Tables { ledger, links } = tables;
     let mut out = ArrayVec::new();
-    put_long(&mut out, ledger.clock.ticks);
+    push_long(&mut out, ledger.clock.ticks);
     put_pair(&mut out, ledger.clock.year);
     put_pair(&mut out, ledger.tracks.count);
     put_pair(&mut out, ledger.tracks.system);
@@ -217,6 +226,14 @@ pub fn pack(tables: &Tables) -> ArrayVec<u8, PACKED_LENGTH>
     put_bytes(&mut out, links);
     put_programs(&mut out, &ledger.programs);
     out
+}
+
+// Puts the tables in 1,271 bytes at the front of a lent buffer, the rest of which stays, and hands back the place behind them.
+pub fn put_tables(buf: &mut [u8], tables: Tables) -> usize
+    requires { packed_length ≤ length buf.old }
+    ensures { Wrote buf.old 0 (packed tables) buf.new result }
+{
+    text::put_bytes(buf, 0, pack(&tables).as_slice())
 }
 
 // Whether bytes are tables in packed form: read and packed anew they are the same bytes.

@@ -4,13 +4,14 @@ use Prim.Native.Nat.{ℕ, zero, suc, ◌+◌, ◌*◌, ◌/◌, ◌%◌, ◌<◌
 use native.Mathlib.Nat.{add-zero, zero-add, add-suc, suc-add}
 use native.Mathlib.Numerals.{add-one}
 use native.Mathlib.Omega.{arith}
-use mathlib.Core.Path.{◌≡◌, refl, sym, ap, ◌∙◌}
+use mathlib.Core.Path.{◌≡◌, refl, sym, ap, ap₂, ◌∙◌}
 use mathlib.Core.Bool.{Bool, true, false}
 use mathlib.Core.List.{List, [], ◌∷◌, ◌++◌, append_assoc}
 use lib.Dec.{ltb}
 use lib.ListN.{length, get_or, take, drop, set, length-append, length-set}
-use lib.Seq.{sets, sets-eq, take_at, length-sets, drop-cons}
+use lib.Seq.{sets, sets-eq, take_at, length-sets, drop-cons, drop-drop}
 use borrow.Author.Tests.{lt-ltb, le-ltb}
+use borrow.Rule.Slice.PartMut.{put_mid}
 use Rattle.lists.specs.Lists.{join}
 use Rattle.text.specs.Text.{digits, decimal, entry}
 use Rattle.text.specs.Inner.{Wrote, three_digits}
@@ -19,6 +20,13 @@ pub sets-append : (x y l : List ℕ) (i : ℕ) → sets l i (x ++ y) ≡ sets (s
 sets-append [] y l i = ap (λ (k : ℕ). sets l k y) (sym (add-zero i))
 sets-append (a ∷ x) y l i = sets-append x y (set l i a) (suc i)
     ∙ ap (λ (k : ℕ). sets (sets (set l i a) (suc i) x) k y) (suc-add i (length x) ∙ sym (add-suc i (length x)))
+
+-- bytes that are copied to their place are stored from it on
+pub stored : (l x : List ℕ) (at n : ℕ) {part : List ℕ} → n ≡ length x → at + length x ≤ length l → part ≡ x
+    → put_mid at n l part ≡ sets l at x
+stored l x at n {part} k h p =
+    ap₂ (λ (i : ℕ) (y : List ℕ). put_mid at i l y) k p ∙ ap (λ (r : List ℕ). take at l ++ (x ++ r)) (drop-drop (length x) at l)
+    ∙ sym (append_assoc (take at l) x (drop (at + length x) l)) ∙ sym (sets-eq x l at h)
 
 -- `all` is to be stored from at₀ on in l₀; the list is l by now, and `rest` is left, from `at` on
 pub record Left (l₀ : List ℕ) (at₀ : ℕ) (all : List ℕ) (l : List ℕ) (at : ℕ) (rest : List ℕ) : Type 0 where

@@ -10,6 +10,15 @@ ghost use Rattle.lists.specs.Lists.{alike};
 ghost use Rattle.text.specs.Text.{decimal, number_of, entry};
 ghost use Rattle.text.specs.Inner.{Wrote, PartEnd, Behind, read, three_digits, DigitsFrom};
 
+// Puts s at a place of a lent buffer, the rest of which stays, and hands back the place behind it.
+pub fn put_bytes(buf: &mut [u8], at: usize, s: &[u8]) -> usize
+    requires { at + length s.now ≤ length buf.old }
+    ensures { Wrote buf.old at s.now buf.new result }
+{
+    buf[at..at + s.len()].copy_from_slice(s);
+    at + s.len()
+}
+
 // The place of the first byte d.
 fn first_of(s: &[u8], d: u8) -> Option<usize>
     ensures { result ≡ position (λ b. b == d) s.now }

@@ -14,8 +14,8 @@ returns-clause-len c =
     omega (
       arith,
       ap length c.new-out.ensures,
-      grown c.new-out.result.items (in_bytes 8 t.ledger.clock.ticks) c.put_long.ensures,
-      grown c.put_long.new.out.items (in_bytes 2 t.ledger.clock.year) c.put_pair.ensures,
+      grown c.new-out.result.items (in_bytes 8 t.ledger.clock.ticks) c.push_long.ensures,
+      grown c.push_long.new.out.items (in_bytes 2 t.ledger.clock.year) c.put_pair.ensures,
       grown c.put_pair.new.out.items (in_bytes 2 t.ledger.tracks.count) c.put_pair-2.ensures,
       grown c.put_pair-2.new.out.items (in_bytes 2 t.ledger.tracks.system) c.put_pair-3.ensures,
       c.push.ensures.len,
