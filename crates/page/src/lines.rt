@@ -47,7 +47,7 @@ pub(crate) fn put_heading<const N: usize>(
     put_figure(out, &keys::PROGRAMS, programs as u64);
 }
 
-// Lines of a record, by their key: a name, a reason, a number that may be absent.
+// The line of a name.
 #[tactic(auto, unfolding(text::specs::Text::entry))]
 fn put_name_line<const N: usize>(out: &mut ArrayVec<u8, N>, key: &[u8], name: [u8; 5])
     requires { length out.old.items + length (entry key.now (bare name)) ≤ N }
@@ -58,6 +58,7 @@ fn put_name_line<const N: usize>(out: &mut ArrayVec<u8, N>, key: &[u8], name: [u
     out.push(b'\n');
 }
 
+// The line of a reason.
 #[tactic(auto, unfolding(text::specs::Text::entry))]
 fn put_why_line<const N: usize>(out: &mut ArrayVec<u8, N>, key: &[u8], why: Why)
     requires { length out.old.items + length (entry key.now (reason why)) ≤ N }
@@ -68,6 +69,7 @@ fn put_why_line<const N: usize>(out: &mut ArrayVec<u8, N>, key: &[u8], why: Why)
     out.push(b'\n');
 }
 
+// The line of a number that may be absent.
 #[tactic(auto, unfolding(text::specs::Text::entry))]
 fn put_or_dash_line<const N: usize>(out: &mut ArrayVec<u8, N>, key: &[u8], n: Option<u64>)
     requires { length out.old.items + length (entry key.now (or_none n)) ≤ N }

@@ -22,7 +22,7 @@ pub(crate) fn put_name<const N: usize>(out: &mut ArrayVec<u8, N>, name: [u8; 5])
     }
 }
 
-// A word and a number; a number and a byte.
+// A word and a number.
 pub(crate) fn put_coded<const N: usize>(out: &mut ArrayVec<u8, N>, word: &[u8], n: u64)
     requires { length out.old.items + length (word.now ++ decimal n) ≤ N }
     ensures { out.new.items ≡ out.old.items ++ (word.now ++ decimal n) }
@@ -31,6 +31,7 @@ pub(crate) fn put_coded<const N: usize>(out: &mut ArrayVec<u8, N>, word: &[u8], 
     put_number(out, n);
 }
 
+// A number and a byte.
 pub(crate) fn put_marked<const N: usize>(out: &mut ArrayVec<u8, N>, n: u64, mark: u8)
     requires { length out.old.items + length (decimal n ++ (mark ∷ [])) ≤ N }
     ensures { out.new.items ≡ out.old.items ++ (decimal n ++ (mark ∷ [])) }
@@ -39,6 +40,7 @@ pub(crate) fn put_marked<const N: usize>(out: &mut ArrayVec<u8, N>, n: u64, mark
     out.push(mark);
 }
 
+// Why a program waits: a word, and for most a number.
 pub(crate) fn put_reason<const N: usize>(out: &mut ArrayVec<u8, N>, why: Why)
     requires { length out.old.items + length (reason why) ≤ N }
     ensures { out.new.items ≡ out.old.items ++ reason why }
