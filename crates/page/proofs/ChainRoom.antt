@@ -20,7 +20,7 @@ use Rattle.page.specs.Page.{Line, bytes_of, bytes, chain_key, chained, chain_lin
 use Rattle.page.proofs.Weights.{weigh, weigh-fewer, weigh-append}
 
 -- a program's number and a comma
-abbrev mark : ℕ → ℕ
+abbrev pub mark : ℕ → ℕ
 mark p = suc (length (decimal p))
 
 between-length : (c : List ℕ) → length (between 44 (map decimal c)) ≤ weigh mark c
@@ -42,18 +42,18 @@ unfolding all decimal digits
 marks-weigh = refl
 
 -- states are 1 to 6
-abbrev States : List ℕ → Type 0
+abbrev pub States : List ℕ → Type 0
 States ss = every (up_to 1 6) ss ≡ true
 
 module _ (m : List (List ℕ)) where
   -- the chains of some states, one after the other, and their lines
-  abbrev chains_of : List ℕ → List ℕ
+  abbrev pub chains_of : List ℕ → List ℕ
   chains_of ss = join (map (λ s. get_or m s []) ss)
 
-  abbrev lines_of : List ℕ → List Line
+  abbrev pub lines_of : List ℕ → List Line
   lines_of ss = map (λ s. chain_line s (get_or m s [])) ss
 
-  lines-length : (ss : List ℕ) → States ss → length (bytes (lines_of ss)) ≤ 8 * length ss + weigh mark (chains_of ss)
+  pub lines-length : (ss : List ℕ) → States ss → length (bytes (lines_of ss)) ≤ 8 * length ss + weigh mark (chains_of ss)
   unfolding bytes
   lines-length [] e = omega arith
   lines-length (s ∷ ss) e =

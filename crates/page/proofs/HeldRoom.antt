@@ -26,7 +26,7 @@ use Rattle.page.proofs.Weights.{weigh, weigh-from}
 
 -- LINES
 -- of a run that has one
-held-length : (g : Run) → g.holder ≢ nobody → g.holder ≢ system
+pub held-length : (g : Run) → g.holder ≢ nobody → g.holder ≢ system
     → length (bytes (held_line g)) ≡ 8 + length (decimal g.first) + length (decimal g.last) + length (party g.holder)
 held-length g n m = rw (held-some g n m) (simp length-append (omega arith))
 
@@ -74,10 +74,10 @@ gain-apart h k n = go (eqb h globally) (eqb k globally) refl refl
     go false false a b = omega arith
 
 -- RUNS
-abbrev lines_of : List Run → List ℕ
+abbrev pub lines_of : List Run → List ℕ
 lines_of gs = join (pieces held_line gs)
 
-lines-length : (g : Run) (gs : List Run) → length (lines_of (g ∷ gs)) ≡ length (bytes (held_line g)) + length (lines_of gs)
+pub lines-length : (g : Run) (gs : List Run) → length (lines_of (g ∷ gs)) ≡ length (bytes (held_line g)) + length (lines_of gs)
 lines-length g gs = length-append (bytes (held_line g)) (lines_of gs)
 
 -- the first run begins at i or behind it; what it wants

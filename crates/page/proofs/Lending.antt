@@ -17,10 +17,11 @@ use Rattle.tables.proofs.Plain.{sound-plain}
 use Rattle.page.specs.Page.{page}
 use Rattle.rules.specs.Engine.{beside, front, not_sound, paged_in, written_in}
 use Rattle.page.specs.Paging.{Written, written, paged}
-use Rattle.page.specs.Inner.{CanPage}
+use Rattle.page.specs.Inner.{Fits}
+use Rattle.limits.specs.Limits.{page_room}
 use Rattle.page.proofs.Room.{page-room}
 
-pub can-page : (t : Tables) → Arrays t → sound t ≡ true → CanPage t
+pub can-page : (t : Tables) → Arrays t → sound t ≡ true → Fits t page_room
 can-page t A e =
     let S = sound-clauses t e in
     record { tracks = S.limits.most; numbers = S.limits.few; room = page-room (plain t) (sound-plain t A S) }

@@ -5,6 +5,7 @@ pub mod ChainRoom
 pub mod HeldRoom
 pub mod NumberRoom
 pub mod Room
+pub mod Widest
 pub mod Writing
 pub mod Spans
 pub mod Lending

@@ -14,7 +14,7 @@ use Rattle.records.specs.declared.Resource.{Resource}
 use Rattle.records.specs.Numbers.{globally, number_at}
 use Rattle.rules.specs.Book.{Book}
 use Rattle.rules.specs.Sound.{Limits}
-use Rattle.page.specs.Page.{Line, bytes, number_line, number_lines}
+use Rattle.page.specs.Page.{Line, bytes, party, or_dash, number_line, number_lines}
 use Rattle.page.proofs.Writing.{pieces-join, number-none, number-some}
 use Rattle.page.proofs.Widths.{gain-most, party-length, or_dash-length}
 use Rattle.page.proofs.Weights.{weigh, weigh-from, lines-weigh}
@@ -22,17 +22,25 @@ use Rattle.page.proofs.Weights.{weigh, weigh-from, lines-weigh}
 abbrev number : ℕ → ℕ
 number r = 18 + length (decimal r)
 
-number-most : (r : ℕ) (x : Resource) → x.owner ≤ globally → x.lock ≤ 32 → length (bytes (number_line r x)) ≤ number r
-number-most r x h k = go (ℕ_discrete x.owner 0)
+-- a line, by its owner and its lock
+pub number-length : (r : ℕ) (x : Resource)
+    → length (bytes (number_line r x)) ≤ 10 + length (decimal r) + length (party x.owner) + length (or_dash (ltb 0 x.lock) x.lock)
+number-length r x = go (ℕ_discrete x.owner 0)
   where
-    go : Dec (x.owner ≡ 0) → length (bytes (number_line r x)) ≤ number r
+    go : Dec (x.owner ≡ 0)
+        → length (bytes (number_line r x)) ≤ 10 + length (decimal r) + length (party x.owner) + length (or_dash (ltb 0 x.lock) x.lock)
     go (yes e) = omega (arith, ap length (number-none r x e))
-    go (no n) = rw (number-some r x n) (simp length-append (omega (
+    go (no n) = rw (number-some r x n) (simp length-append (omega arith))
+
+number-most : (r : ℕ) (x : Resource) → x.owner ≤ globally → x.lock ≤ 32 → length (bytes (number_line r x)) ≤ number r
+number-most r x h k =
+    omega (
       arith,
+      number-length r x,
       party-length x.owner (omega arith),
       gain-most x.owner,
       or_dash-length (ltb 0 x.lock) 1 x.lock (omega arith),
-    )))
+    )
 
 -- nine numbers of one digit, seven of two
 numbers-weigh : (n : ℕ) → n ≤ 16 → weigh number (from 1 n) ≤ 311

@@ -26,7 +26,7 @@ use Rattle.rules.specs.Sound.{suits, Names, Whys, Limits, Dues}
 use Rattle.rules.proofs.shared.Places.{all_in}
 use Rattle.page.specs.Page.{bytes, or_dash, reason, mark_line, used_in, recorded, record_lines}
 use Rattle.page.proofs.Writing.{pieces-join}
-use Rattle.page.proofs.Widths.{figure-length, or_dash-length}
+use Rattle.page.proofs.Widths.{or_dash-length}
 use Rattle.page.proofs.Weights.{weigh, weigh-fewer, lines-weigh, keep-length}
 
 -- VALUES
@@ -65,12 +65,30 @@ due-most b L D p P = go (ℕ_discrete (at b p).due 0)
     go (yes e) = omega arith
     go (no n) = omega (arith, D.near p P n, L.time)
 
-mark-length : (b : Bool) → length (bytes (mark_line b)) ≤ 10
+pub mark-length : (b : Bool) → length (bytes (mark_line b)) ≤ 10
 unfolding bytes entry
 mark-length true = omega arith
 mark-length false = omega arith
 
 -- RECORDS
+-- seven lines, and the mark's
+pub recorded-length : (p : ℕ) (r : Program) → length (bytes (recorded p r))
+    ≡ 47 + length (decimal p) + length (bare r.name) + length (decimal r.priority) + length (decimal r.state) + length (reason r.why)
+    + length (or_dash (ltb 0 r.due) r.due) + length (or_dash (ltb 0 r.due) r.interval) + length (bytes (mark_line r.suspend))
+unfolding bytes
+recorded-length p r =
+    let timer : Bool = ltb 0 r.due in
+    simp length-append (omega (
+      arith,
+      entry_length (text "id") (decimal p),
+      entry_length (text "name") (bare r.name),
+      entry_length (text "priority") (decimal r.priority),
+      entry_length (text "state") (decimal r.state),
+      entry_length (text "why") (reason r.why),
+      entry_length (text "due") (or_dash timer r.due),
+      entry_length (text "interval") (or_dash timer r.interval),
+    ))
+
 -- a used one is one of all and is used; no more than there are
 used-in : (ps : List Program) (p : ℕ) → 1 ≤ count p (used_in ps) → Known p × ((record_at ps p).used ≡ true)
 unfolding used_in
@@ -89,25 +107,21 @@ records-weigh = refl
 
 module _ (b : Book) (N : Names b) (W : Whys b) (L : Limits b) (D : Dues b) where
   recorded-most : (p : ℕ) → Known p → (at b p).used ≡ true → length (bytes (recorded p (at b p))) ≤ weight p
-  unfolding bytes
   recorded-most p P u =
       let r = at b p in
       let w = why-most b L p r.state r.why (W.fitting p P) in
       let timer : Bool = ltb 0 r.due in
-      simp length-append (omega (
+      omega (
         arith,
-        entry_length (text "id") (decimal p),
-        entry_length (text "name") (bare r.name),
+        recorded-length p r,
+        w.1,
         name-length r.name (N.lawful p P u),
-        figure-length "priority" 4 r.priority (omega (arith, L.priority p P)),
-        figure-length "state" 0 r.state w.0,
-        entry_length (text "why") (reason r.why),
-        entry_length (text "due") (or_dash timer r.due),
+        decimal-length 4 r.priority (omega (arith, L.priority p P)),
+        decimal-length 0 r.state w.0,
         or_dash-length timer 12 r.due (omega (arith, due-most b L D p P)),
-        entry_length (text "interval") (or_dash timer r.interval),
         or_dash-length timer 9 r.interval (omega (arith, D.steps p P)),
         mark-length r.suspend,
-      ))
+      )
 
   pub record-room : length (bytes (record_lines b.programs)) ≤ 3287
   unfolding record_lines

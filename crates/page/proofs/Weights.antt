@@ -1,8 +1,9 @@
 -- Lists of numbers, weighed number by number: a list that has each number at most as often as another weighs no more, and the lines of a
 -- list's numbers are together no longer than its weight, if each line is no longer than its number's.
 -- Assumes nothing.
-use Prim.Native.Nat.{ℕ, zero, suc, ◌+◌, ◌≤◌}
+use Prim.Native.Nat.{ℕ, zero, suc, ◌+◌, ◌*◌, ◌≤◌}
 use native.Mathlib.Omega.{arith}
+use native.Mathlib.Nat.{suc-mul}
 use mathlib.Core.Path.{◌≡◌, refl, sym}
 use mathlib.Core.Bool.{Bool, true, false, cond}
 use mathlib.Core.List.{List, [], ◌∷◌, ◌++◌, map}
@@ -56,6 +57,11 @@ module _ (w : ℕ → ℕ) where
         h x (omega (arith, same_refl x)),
         lines-weigh line xs (λ y k. h y (omega arith)),
       )
+
+-- where each number weighs the same
+pub weigh-even : (m : ℕ) (c : List ℕ) → weigh (λ x. m) c ≡ length c * m
+weigh-even m [] = omega arith
+weigh-even m (x ∷ xs) = omega (arith, suc-mul (length xs) m, weigh-even m xs)
 
 -- those that pass a test
 pub keep-length : (f : ℕ → Bool) (c : List ℕ) → length (keep f c) ≤ length c

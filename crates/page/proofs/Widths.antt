@@ -11,7 +11,7 @@ use mathlib.Core.List.{[], ◌∷◌}
 use lib.ListN.{length, length-append}
 use lib.Dec.{eqb}
 use Rattle.text.specs.Text.{text, digits, decimal, entry}
-use Rattle.text.proofs.Laws.{entry_length, ten, digits-small, digits_step, decimal-length}
+use Rattle.text.proofs.Laws.{entry_length, ten, digits-small, digits_step, decimal-length, decimal-most}
 use Rattle.records.specs.Numbers.{globally}
 use Rattle.page.specs.Page.{party, or_dash}
 
@@ -42,6 +42,10 @@ decimal-rise m n h = digits-rise 20 m n h
 pub figure-length : (key : String) (f n : ℕ) → n < ten (suc f) → length (entry (text key) (decimal n)) ≤ length (text key) + f + 3
 figure-length key f n h = omega (arith, entry_length (text key) (decimal n), decimal-length f n h)
 
+-- and with any number
+pub figure-most : (key : String) (n : ℕ) → length (entry (text key) (decimal n)) ≤ length (text key) + 22
+figure-most key n = omega (arith, entry_length (text key) (decimal n), decimal-most n)
+
 -- half of what `global` has over the two bytes of a program's number
 abbrev pub gain : ℕ → ℕ
 gain h = cond (eqb h globally) 2 0
@@ -60,7 +64,18 @@ party-length h b = go (eqb h globally)
     go true = omega arith
     go false = omega (arith, decimal-length 1 h b)
 
+pub party-most : (h : ℕ) → length (party h) ≤ 20
+party-most h = go (eqb h globally)
+  where
+    go : (t : Bool) → length (cond t (text "global") (decimal h)) ≤ 20
+    go true = omega arith
+    go false = decimal-most h
+
 -- a dash is no longer than a number
 pub or_dash-length : (t : Bool) (f n : ℕ) → n < ten (suc f) → length (or_dash t n) ≤ suc f
 or_dash-length true f n h = decimal-length f n h
 or_dash-length false f n h = omega arith
+
+pub or_dash-most : (t : Bool) (n : ℕ) → length (or_dash t n) ≤ 20
+or_dash-most true n = decimal-most n
+or_dash-most false n = omega arith

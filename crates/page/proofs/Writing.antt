@@ -1,15 +1,17 @@
 -- Laws of the values and lines that are written: lines piece by piece, a value known by an equation, a name without
 -- its blanks, numbers joined by commas.
 -- Assumes nothing.
-use Prim.Native.Nat.{ℕ, suc, ◌+◌, ◌<◌}
+use Prim.Native.Nat.{ℕ, suc, ◌+◌, ◌≤◌, ◌<◌}
+use native.Mathlib.Nat.{zero-add}
 use native.Mathlib.Numerals.{add-one}
+use native.Mathlib.Omega.{arith}
 use mathlib.Core.Path.{◌≡◌, refl, sym, ap, ap₂, ◌∙◌}
 use mathlib.Core.Logic.{◌≢◌}
 use mathlib.Core.Bool.{Bool, true, false, cond, not, ◌||◌}
 use mathlib.Core.List.{List, [], ◌∷◌, ◌++◌, map, append_assoc, append-nil}
 use lib.Dec.{eqb, ltb}
 use lib.ListN.{length, get_or, take, drop, set, drop_of_length-le, length-append}
-use lib.Seq.{drop-cons}
+use lib.Seq.{sets-eq, drop-cons}
 use borrow.Author.Tests.{eq-eqb, ne_eqb}
 use Rattle.limits.specs.Limits.{usual_year}
 use Rattle.lists.specs.Lists.{join}
@@ -34,6 +36,13 @@ use Rattle.page.specs.Page.{held_line, number_line, parts, lines, page}
 -- what is written at a place, under another name
 pub wrote_as : {l x y l' : List ℕ} {at n : ℕ} → x ≡ y → Wrote l at y l' n → Wrote l at x l' n
 wrote_as e w = rw e w
+
+-- a copy to the front
+pub wrote_front : (l x l' : List ℕ) (n : ℕ) → l' ≡ x → n ≡ length x → length x ≤ length l → Wrote l 0 x (l' ++ drop n l) n
+wrote_front l x l' n same e room = rw (same, e) (record {
+  buffer = sym (sets-eq x l 0 (omega arith) ∙ ap (λ (k : ℕ). x ++ drop k l) (zero-add (length x)));
+  place = sym (zero-add (length x));
+})
 
 pub left_as : {l₀ all l x y : List ℕ} {at₀ at : ℕ} → x ≡ y → Left l₀ at₀ all l at x → Left l₀ at₀ all l at y
 left_as e h = rw e at h

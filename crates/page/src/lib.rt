@@ -7,25 +7,27 @@ mod sections;
 mod values;
 
 ghost use Rattle.std.specs.Prelude.{◌≡◌, []};
+ghost use Rattle.limits.specs.Limits.{page_room};
+ghost use Rattle.text.specs.Inner.{Wrote};
 ghost use Rattle.tables.specs.Tables.{plain};
 ghost use Rattle.tables.specs.Calls.{told};
 ghost use Rattle.page.specs.Page.{page};
 ghost use Rattle.rules.specs.Engine.{beside};
 ghost use Rattle.page.specs.Paging.{paged};
-ghost use Rattle.page.specs.Inner.{CanPage};
+ghost use Rattle.page.specs.Inner.{Fits, CanPage};
 
 use arrayvec::ArrayVec;
 use limits::PAGE_ROOM;
 use rules::Answer;
 use tables::{Outcome, Tables};
 
-// What is put of a page, with room for any.
-type Out = ArrayVec<u8, PAGE_ROOM>;
+// Room for the page of any tables that have no more tracks and numbers than there can be, sound or not.
+const WIDEST: usize = 32768;
 
-// Puts the page of tables into a vector that is empty: there is room for it where they are sound.
-fn put_page(out: &mut Out, tables: &Tables)
+// Puts the lines of a page into a vector that is empty and has room for them.
+fn put_lines<const N: usize>(out: &mut ArrayVec<u8, N>, tables: &Tables)
     requires empty { out.old.items ≡ [] }
-    requires fits { CanPage tables.now }
+    requires fits { Fits tables.now N }
     ensures { out.new.items ≡ page (plain tables.now) }
 {
     let book = &tables.ledger;
@@ -47,12 +49,24 @@ fn put_page(out: &mut Out, tables: &Tables)
 
 // The page of tables.
 pub fn page_of(tables: Tables) -> ArrayVec<u8, PAGE_ROOM>
-    requires { CanPage tables }
+    requires { Fits tables page_room }
     ensures { result.items ≡ page (plain tables) }
 {
     let mut out = ArrayVec::new();
-    put_page(&mut out, &tables);
+    put_lines(&mut out, &tables);
     out
+}
+
+// Puts the page at the front of a buffer that has room for it, and hands back its length. The tables need not be sound.
+pub fn put_page(buf: &mut [u8], tables: Tables) -> usize
+    requires { CanPage tables buf.old }
+    ensures { Wrote buf.old 0 (page (plain tables)) buf.new result }
+{
+    let mut whole = ArrayVec::<u8, WIDEST>::new();
+    put_lines(&mut whole, &tables);
+    let length = whole.len();
+    buf[..length].copy_from_slice(whole.as_slice());
+    length
 }
 
 // PAGE: the page at the front of the lent buffer, the rest of it untouched; where it is too short, nothing is written.
@@ -66,8 +80,8 @@ pub fn write_page(tables: Tables, buf: &mut [u8]) -> Outcome
             tables,
         };
     }
-    let mut page = ArrayVec::new();
-    put_page(&mut page, &tables);
+    let mut page = ArrayVec::<u8, PAGE_ROOM>::new();
+    put_lines(&mut page, &tables);
     let n = page.len();
     if buf.len() < n {
         return Outcome {

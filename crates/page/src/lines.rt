@@ -1,12 +1,12 @@
 // The lines of a page, each of them for one thing.
 ghost use Rattle.std.specs.Prelude.{◌≡◌, ◌+◌, ◌≤◌, ◌++◌, length};
-ghost use Rattle.limits.specs.Limits.{page_room};
 ghost use Rattle.records.specs.Names.{bare};
 ghost use Rattle.text.specs.Text.{entry};
 ghost use Rattle.page.specs.Page.{bytes_of, bytes, reason, mark_line, year_line, head_lines, recorded, chain_line, held_line, number_line};
 ghost use Rattle.page.specs.Inner.{or_none};
 
-use super::{Out, keys, values};
+use super::{keys, values};
+use arrayvec::ArrayVec;
 use limits::USUAL_YEAR;
 use records::{Program, Resource, Why};
 use text::writing::{put_entry, put_figure, put_key};
@@ -14,8 +14,8 @@ use tracks::{Run, Tracks};
 
 // The start year; none where it is the usual one.
 #[tactic(auto, using(crate::proofs::Writing::year_put))]
-fn put_year_line(out: &mut Out, year: u16)
-    requires { length out.old.items + length (bytes (year_line year)) ≤ page_room }
+fn put_year_line<const N: usize>(out: &mut ArrayVec<u8, N>, year: u16)
+    requires { length out.old.items + length (bytes (year_line year)) ≤ N }
     ensures { out.new.items ≡ out.old.items ++ bytes (year_line year) }
 {
     if year == USUAL_YEAR {
@@ -26,8 +26,8 @@ fn put_year_line(out: &mut Out, year: u16)
 
 // The head of a page, of tables of these sizes and this start year with so many programs.
 #[tactic(auto, using(crate::proofs::Writing::lines_put))]
-pub(crate) fn put_heading(
-    out: &mut Out,
+pub(crate) fn put_heading<const N: usize>(
+    out: &mut ArrayVec<u8, N>,
     clock: u64,
     tracks: u16,
     system: u16,
@@ -35,7 +35,7 @@ pub(crate) fn put_heading(
     year: u16,
     programs: usize,
 )
-    requires { length out.old.items + length (bytes (head_lines clock tracks system numbers year programs)) ≤ page_room }
+    requires { length out.old.items + length (bytes (head_lines clock tracks system numbers year programs)) ≤ N }
     ensures { out.new.items ≡ out.old.items ++ bytes (head_lines clock tracks system numbers year programs) }
 {
     put_entry(out, &keys::PAGE, &keys::RTE2);
@@ -47,10 +47,10 @@ pub(crate) fn put_heading(
     put_figure(out, &keys::PROGRAMS, programs as u64);
 }
 
-// Lines of a record, by their key: a name, a reason, a number that may be absent.
+// The line of a name.
 #[tactic(auto, unfolding(text::specs::Text::entry))]
-fn put_name_line(out: &mut Out, key: &[u8], name: [u8; 5])
-    requires { length out.old.items + length (entry key.now (bare name)) ≤ page_room }
+fn put_name_line<const N: usize>(out: &mut ArrayVec<u8, N>, key: &[u8], name: [u8; 5])
+    requires { length out.old.items + length (entry key.now (bare name)) ≤ N }
     ensures { out.new.items ≡ out.old.items ++ entry key.now (bare name) }
 {
     put_key(out, key);
@@ -58,9 +58,10 @@ fn put_name_line(out: &mut Out, key: &[u8], name: [u8; 5])
     out.push(b'\n');
 }
 
+// The line of a reason.
 #[tactic(auto, unfolding(text::specs::Text::entry))]
-fn put_why_line(out: &mut Out, key: &[u8], why: Why)
-    requires { length out.old.items + length (entry key.now (reason why)) ≤ page_room }
+fn put_why_line<const N: usize>(out: &mut ArrayVec<u8, N>, key: &[u8], why: Why)
+    requires { length out.old.items + length (entry key.now (reason why)) ≤ N }
     ensures { out.new.items ≡ out.old.items ++ entry key.now (reason why) }
 {
     put_key(out, key);
@@ -68,9 +69,10 @@ fn put_why_line(out: &mut Out, key: &[u8], why: Why)
     out.push(b'\n');
 }
 
+// The line of a number that may be absent.
 #[tactic(auto, unfolding(text::specs::Text::entry))]
-fn put_or_dash_line(out: &mut Out, key: &[u8], n: Option<u64>)
-    requires { length out.old.items + length (entry key.now (or_none n)) ≤ page_room }
+fn put_or_dash_line<const N: usize>(out: &mut ArrayVec<u8, N>, key: &[u8], n: Option<u64>)
+    requires { length out.old.items + length (entry key.now (or_none n)) ≤ N }
     ensures { out.new.items ≡ out.old.items ++ entry key.now (or_none n) }
 {
     put_key(out, key);
@@ -80,8 +82,8 @@ fn put_or_dash_line(out: &mut Out, key: &[u8], n: Option<u64>)
 
 // The line of a mark, where there is one.
 #[tactic(auto, using(crate::proofs::Writing::mark_put))]
-fn put_mark_line(out: &mut Out, there: bool)
-    requires { length out.old.items + length (bytes (mark_line there)) ≤ page_room }
+fn put_mark_line<const N: usize>(out: &mut ArrayVec<u8, N>, there: bool)
+    requires { length out.old.items + length (bytes (mark_line there)) ≤ N }
     ensures { out.new.items ≡ out.old.items ++ bytes (mark_line there) }
 {
     if there {
@@ -91,8 +93,8 @@ fn put_mark_line(out: &mut Out, there: bool)
 
 // The lines of program p.
 #[tactic(auto, using(crate::proofs::Writing::lines_put))]
-pub(crate) fn put_record(out: &mut Out, p: u8, program: &Program)
-    requires { length out.old.items + length (bytes (recorded p program.now)) ≤ page_room }
+pub(crate) fn put_record<const N: usize>(out: &mut ArrayVec<u8, N>, p: u8, program: &Program)
+    requires { length out.old.items + length (bytes (recorded p program.now)) ≤ N }
     ensures { out.new.items ≡ out.old.items ++ bytes (recorded p program.now) }
 {
     let timer = 0 < program.due;
@@ -108,8 +110,8 @@ pub(crate) fn put_record(out: &mut Out, p: u8, program: &Program)
 
 // The chain of a state.
 #[tactic(auto, unfolding(text::specs::Text::entry))]
-pub(crate) fn put_chain(out: &mut Out, state: u8, ids: &[u8])
-    requires { length out.old.items + length (bytes_of (chain_line state ids.now)) ≤ page_room }
+pub(crate) fn put_chain<const N: usize>(out: &mut ArrayVec<u8, N>, state: u8, ids: &[u8])
+    requires { length out.old.items + length (bytes_of (chain_line state ids.now)) ≤ N }
     ensures { out.new.items ≡ out.old.items ++ bytes_of (chain_line state ids.now) }
 {
     values::put_coded(out, &keys::CHAIN, state as u64);
@@ -120,8 +122,8 @@ pub(crate) fn put_chain(out: &mut Out, state: u8, ids: &[u8])
 
 // A run of tracks of one holder; none for free tracks and the system's.
 #[tactic(auto, using(crate::proofs::Writing::held_put))]
-pub(crate) fn put_run(out: &mut Out, run: Run)
-    requires { length out.old.items + length (bytes (held_line run)) ≤ page_room }
+pub(crate) fn put_run<const N: usize>(out: &mut ArrayVec<u8, N>, run: Run)
+    requires { length out.old.items + length (bytes (held_line run)) ≤ N }
     ensures { out.new.items ≡ out.old.items ++ bytes (held_line run) }
 {
     if run.holder == Tracks::FREE || run.holder == Tracks::SYSTEM {
@@ -136,8 +138,8 @@ pub(crate) fn put_run(out: &mut Out, run: Run)
 
 // A resource number; none where it is free.
 #[tactic(auto, using(crate::proofs::Writing::number_put))]
-pub(crate) fn put_resource(out: &mut Out, number: usize, x: &Resource)
-    requires { length out.old.items + length (bytes (number_line number x.now)) ≤ page_room }
+pub(crate) fn put_resource<const N: usize>(out: &mut ArrayVec<u8, N>, number: usize, x: &Resource)
+    requires { length out.old.items + length (bytes (number_line number x.now)) ≤ N }
     ensures { out.new.items ≡ out.old.items ++ bytes (number_line number x.now) }
 {
     if x.owner == 0 {

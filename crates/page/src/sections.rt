@@ -1,11 +1,12 @@
 // The parts of a page that have as many lines as there are things to show.
 ghost use Rattle.std.specs.Prelude.{◌≡◌, ◌+◌, ◌≤◌, ◌++◌, length, take};
-ghost use Rattle.limits.specs.Limits.{most_tracks, most_numbers, page_room};
+ghost use Rattle.limits.specs.Limits.{most_tracks, most_numbers};
 ghost use Rattle.chains.specs.Links.{read};
 ghost use Rattle.tracks.specs.Tracks.{holders};
 ghost use Rattle.page.specs.Page.{bytes, used_in, record_lines, chain_lines, held_lines, number_lines};
 
-use super::{Out, keys, lines};
+use super::{keys, lines};
+use arrayvec::ArrayVec;
 use chains::SLOTS;
 use limits::MOST_PROGRAMS;
 use records::{Numbers, Program};
@@ -19,8 +20,11 @@ pub(crate) fn count_used(programs: &[Program; MOST_PROGRAMS]) -> usize
 }
 
 // The used records, upward.
-pub(crate) fn put_records(out: &mut Out, programs: &[Program; MOST_PROGRAMS])
-    requires { length out.old.items + length (bytes (record_lines programs.now)) ≤ page_room }
+pub(crate) fn put_records<const N: usize>(
+    out: &mut ArrayVec<u8, N>,
+    programs: &[Program; MOST_PROGRAMS],
+)
+    requires { length out.old.items + length (bytes (record_lines programs.now)) ≤ N }
     ensures { out.new.items ≡ out.old.items ++ bytes (record_lines programs.now) }
 {
     for (i, r) in programs.iter().enumerate() {
@@ -31,8 +35,8 @@ pub(crate) fn put_records(out: &mut Out, programs: &[Program; MOST_PROGRAMS])
 }
 
 // The chains of the states that are shown.
-pub(crate) fn put_chains(out: &mut Out, links: [u8; SLOTS])
-    requires { length out.old.items + length (bytes (chain_lines (read links))) ≤ page_room }
+pub(crate) fn put_chains<const N: usize>(out: &mut ArrayVec<u8, N>, links: [u8; SLOTS])
+    requires { length out.old.items + length (bytes (chain_lines (read links))) ≤ N }
     ensures { out.new.items ≡ out.old.items ++ bytes (chain_lines (read links)) }
 {
     for state in keys::CHAINED {
@@ -42,9 +46,9 @@ pub(crate) fn put_chains(out: &mut Out, links: [u8; SLOTS])
 }
 
 // The longest runs of one holder, upward.
-pub(crate) fn put_runs(out: &mut Out, tracks: Tracks)
+pub(crate) fn put_runs<const N: usize>(out: &mut ArrayVec<u8, N>, tracks: Tracks)
     requires count_le_most_tracks { tracks.count ≤ most_tracks }
-    requires tracks_in_bounds { length out.old.items + length (bytes (held_lines (holders tracks))) ≤ page_room }
+    requires tracks_in_bounds { length out.old.items + length (bytes (held_lines (holders tracks))) ≤ N }
     ensures { out.new.items ≡ out.old.items ++ bytes (held_lines (holders tracks)) }
 {
     let count = tracks.count as usize;
@@ -58,10 +62,10 @@ pub(crate) fn put_runs(out: &mut Out, tracks: Tracks)
 }
 
 // The allocated numbers, upward.
-pub(crate) fn put_resources(out: &mut Out, numbers: &Numbers)
+pub(crate) fn put_resources<const N: usize>(out: &mut ArrayVec<u8, N>, numbers: &Numbers)
     requires count_le_most_numbers { numbers.now.count ≤ most_numbers }
     requires resources_in_bounds { length out.old.items
-        + length (bytes (number_lines numbers.now.count (take numbers.now.count numbers.now.resources))) ≤ page_room }
+        + length (bytes (number_lines numbers.now.count (take numbers.now.count numbers.now.resources))) ≤ N }
     ensures { out.new.items
         ≡ out.old.items ++ bytes (number_lines numbers.now.count (take numbers.now.count numbers.now.resources)) }
 {

@@ -1,18 +1,18 @@
 // The values that lines of a page have: a name, a reason, a figure that may be absent, a holder, numbers joined by commas.
 ghost use Rattle.std.specs.Prelude.{◌≡◌, ◌+◌, ◌≤◌, [], ◌∷◌, ◌++◌, map, length};
-ghost use Rattle.limits.specs.Limits.{page_room};
 ghost use Rattle.records.specs.Names.{bare};
 ghost use Rattle.text.specs.Text.{decimal, between};
 ghost use Rattle.page.specs.Page.{party, reason};
 ghost use Rattle.page.specs.Inner.{or_none};
 
-use super::{Out, keys};
+use super::keys;
+use arrayvec::ArrayVec;
 use records::{Numbers, Why};
 use text::writing::{put_bytes, put_number};
 
 // A name without its blanks.
-pub(crate) fn put_name(out: &mut Out, name: [u8; 5])
-    requires { length out.old.items + length (bare name) ≤ page_room }
+pub(crate) fn put_name<const N: usize>(out: &mut ArrayVec<u8, N>, name: [u8; 5])
+    requires { length out.old.items + length (bare name) ≤ N }
     ensures { out.new.items ≡ out.old.items ++ bare name }
 {
     for c in &name {
@@ -22,25 +22,27 @@ pub(crate) fn put_name(out: &mut Out, name: [u8; 5])
     }
 }
 
-// A word and a number; a number and a byte.
-pub(crate) fn put_coded(out: &mut Out, word: &[u8], n: u64)
-    requires { length out.old.items + length (word.now ++ decimal n) ≤ page_room }
+// A word and a number.
+pub(crate) fn put_coded<const N: usize>(out: &mut ArrayVec<u8, N>, word: &[u8], n: u64)
+    requires { length out.old.items + length (word.now ++ decimal n) ≤ N }
     ensures { out.new.items ≡ out.old.items ++ (word.now ++ decimal n) }
 {
     put_bytes(out, word);
     put_number(out, n);
 }
 
-pub(crate) fn put_marked(out: &mut Out, n: u64, mark: u8)
-    requires { length out.old.items + length (decimal n ++ (mark ∷ [])) ≤ page_room }
+// A number and a byte.
+pub(crate) fn put_marked<const N: usize>(out: &mut ArrayVec<u8, N>, n: u64, mark: u8)
+    requires { length out.old.items + length (decimal n ++ (mark ∷ [])) ≤ N }
     ensures { out.new.items ≡ out.old.items ++ (decimal n ++ (mark ∷ [])) }
 {
     put_number(out, n);
     out.push(mark);
 }
 
-pub(crate) fn put_reason(out: &mut Out, why: Why)
-    requires { length out.old.items + length (reason why) ≤ page_room }
+// Why a program waits: a word, and for most a number.
+pub(crate) fn put_reason<const N: usize>(out: &mut ArrayVec<u8, N>, why: Why)
+    requires { length out.old.items + length (reason why) ≤ N }
     ensures { out.new.items ≡ out.old.items ++ reason why }
 {
     match why {
@@ -53,8 +55,8 @@ pub(crate) fn put_reason(out: &mut Out, why: Why)
 }
 
 // A number, or a dash where there is none.
-pub(crate) fn put_or_dash(out: &mut Out, n: Option<u64>)
-    requires { length out.old.items + length (or_none n) ≤ page_room }
+pub(crate) fn put_or_dash<const N: usize>(out: &mut ArrayVec<u8, N>, n: Option<u64>)
+    requires { length out.old.items + length (or_none n) ≤ N }
     ensures { out.new.items ≡ out.old.items ++ or_none n }
 {
     match n {
@@ -64,8 +66,8 @@ pub(crate) fn put_or_dash(out: &mut Out, n: Option<u64>)
 }
 
 // A holder or an owner.
-pub(crate) fn put_party(out: &mut Out, h: u8)
-    requires { length out.old.items + length (party h) ≤ page_room }
+pub(crate) fn put_party<const N: usize>(out: &mut ArrayVec<u8, N>, h: u8)
+    requires { length out.old.items + length (party h) ≤ N }
     ensures { out.new.items ≡ out.old.items ++ party h }
 {
     if h == Numbers::GLOBAL {
@@ -76,8 +78,8 @@ pub(crate) fn put_party(out: &mut Out, h: u8)
 }
 
 // Numbers, joined by commas.
-pub(crate) fn put_joined(out: &mut Out, ids: &[u8])
-    requires { length out.old.items + length (between 44 (map decimal ids.now)) ≤ page_room }
+pub(crate) fn put_joined<const N: usize>(out: &mut ArrayVec<u8, N>, ids: &[u8])
+    requires { length out.old.items + length (between 44 (map decimal ids.now)) ≤ N }
     ensures { out.new.items ≡ out.old.items ++ between 44 (map decimal ids.now) }
 {
     if let Some((first, others)) = ids.split_first() {

@@ -1,29 +1,23 @@
--- `put_page` meets its contract: each part has room, and the parts are the page. Assumes nothing.
+-- `put_page` meets its contract: the vector has room for the page of any tables, and what is copied is the page.
+-- Assumes nothing.
 use native.Mathlib.Omega.{arith}
-use mathlib.Core.Path.{ap, refl}
-use lib.ListN.{length, length-append}
-use Rattle.tables.specs.Tables.{plain}
-use Rattle.page.proofs.Writing.{page_put}
+use mathlib.Core.Path.{ap, ◌∙◌}
+use lib.ListN.{length}
+use Rattle.page.proofs.Writing.{wrote_front}
+use Rattle.page.proofs.Widest.{Short, short, widest}
 use Rattle.page.proofs.put_page.Goals as goal
 
-pub put_heading-requires : goal.put_heading-requires
-put_heading-requires c = rw (c.requires.empty, c.count_used.ensures) (omega (arith, simp (page_put, length-append) at c.requires.fits.room))
-
-pub put_records-requires : goal.put_records-requires
-put_records-requires c = omega (arith, simp (page_put, length-append) at c.requires.fits.room, ap length (rw (c.requires.empty, c.count_used.ensures) at c.put_heading.ensures))
-
-pub put_chains-requires : goal.put_chains-requires
-put_chains-requires c = omega (arith, simp (page_put, length-append) at c.requires.fits.room, ap length (rw (c.requires.empty, c.count_used.ensures) at c.put_heading.ensures), simp length-append at (ap length c.put_records.ensures))
-
-pub put_runs-requires-clause-tracks_in_bounds : goal.put_runs-requires-clause-tracks_in_bounds
-put_runs-requires-clause-tracks_in_bounds c = omega (arith, simp (page_put, length-append) at c.requires.fits.room, ap length (rw (c.requires.empty, c.count_used.ensures) at c.put_heading.ensures), simp length-append at (ap length c.put_records.ensures), simp length-append at (ap length c.put_chains.ensures))
-
-pub put_resources-requires-clause-resources_in_bounds : goal.put_resources-requires-clause-resources_in_bounds
-put_resources-requires-clause-resources_in_bounds c = omega (arith, simp (page_put, length-append) at c.requires.fits.room, ap length (rw (c.requires.empty, c.count_used.ensures) at c.put_heading.ensures), simp length-append at (ap length c.put_records.ensures), simp length-append at (ap length c.put_chains.ensures), simp length-append at (ap length c.put_runs.ensures))
-
-pub put_entry-requires : goal.put_entry-requires
-put_entry-requires c = (omega arith, omega (arith, simp (page_put, length-append) at c.requires.fits.room, ap length (rw (c.requires.empty, c.count_used.ensures) at c.put_heading.ensures), simp length-append at (ap length c.put_records.ensures), simp length-append at (ap length c.put_chains.ensures), simp length-append at (ap length c.put_runs.ensures), simp length-append at (ap length c.put_resources.ensures)))
+pub put_lines-requires : goal.put_lines-requires
+put_lines-requires c =
+    let t = c.args.tables in
+    let names : Short t.ledger.programs = search short in
+    let room = widest t names c.requires.tracks c.requires.numbers in
+    (omega arith, (c.new-whole.ensures, record { tracks = c.requires.tracks; numbers = c.requires.numbers; room = omega (arith, room) }))
 
 pub returns : goal.returns
 returns c =
-    rw (page_put (plain c.args.tables.now), c.put_entry.ensures, c.put_resources.ensures, c.put_runs.ensures, c.put_chains.ensures, c.put_records.ensures, c.put_heading.ensures, c.requires.empty, c.count_used.ensures) refl
+    let page = c.put_lines.ensures in
+    wrote_front c.args.buf.now _ c.copy_from_slice.new.self c.len-length.result
+    (c.copy_from_slice.ensures.after ∙ c.as_slice.ensures.value ∙ page)
+    (c.len-length.ensures.value ∙ ap length page)
+    c.requires.room

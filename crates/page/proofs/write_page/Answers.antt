@@ -1,5 +1,6 @@
 -- `write_page` meets its contract: the page has room, since the tables are sound, and what is copied is the page.
 -- Assumes nothing.
+use native.Mathlib.Omega.{arith}
 use borrow.Author.Rules.{rules}
 use borrow.Author.Tests.{not-true, not-false}
 use mathlib.Core.Path.{ap, sym, ◌∙◌}
@@ -10,21 +11,26 @@ use Rattle.page.proofs.write_page.Goals as goal
 pub returns-then-not-o : goal.returns-then-not-o
 returns-then-not-o c = handed-unsound c.args.tables c.args.buf.now (sym c.opened-o.ensures.0 ∙ not-true _ c.if-not-o.true)
 
-pub put_page-requires-clause-fits : goal.put_page-requires-clause-fits
-put_page-requires-clause-fits c =
+pub put_lines-requires : goal.put_lines-requires
+put_lines-requires c = (
+  omega arith,
+  (
+    c.new-page.ensures,
     can-page c.args.tables (record { programs = search rules; links = search rules; holders = search rules; resources = search rules })
-    (sym c.opened-o.ensures.0 ∙ not-false _ c.if-not-o.false)
+        (sym c.opened-o.ensures.0 ∙ not-false _ c.if-not-o.false),
+  ),
+)
 
 pub returns-then-buf-n : goal.returns-then-buf-n
 returns-then-buf-n c =
     handed-short c.args.tables c.args.buf.now c.len-n.result (sym c.opened-o.ensures.0 ∙ not-false _ c.if-not-o.false)
-    (c.len-n.ensures.value ∙ ap length c.put_page.ensures)
+    (c.len-n.ensures.value ∙ ap length c.put_lines.ensures)
     c.if-buf-n.true
 
 pub returns : goal.returns
 returns c =
     handed-done c.args.tables c.args.buf.now c.len-n.result c.copy_from_slice.new.self
     (sym c.opened-o.ensures.0 ∙ not-false _ c.if-not-o.false)
-    (c.len-n.ensures.value ∙ ap length c.put_page.ensures)
+    (c.len-n.ensures.value ∙ ap length c.put_lines.ensures)
     c.if-buf-n.false
-    (c.copy_from_slice.ensures.after ∙ c.as_slice.ensures.value ∙ c.put_page.ensures)
+    (c.copy_from_slice.ensures.after ∙ c.as_slice.ensures.value ∙ c.put_lines.ensures)

@@ -7,7 +7,7 @@ use Rattle.page.proofs.Writing.{head_put}
 use Rattle.page.proofs.lines.put_heading.Goals as goal
 
 pub put_figure-requires-5 : goal.put_figure-requires-5
-put_figure-requires-5 c =
+put_figure-requires-5 g c =
     let whole = simp (head_put, length-append) at c.requires in (
       omega arith,
       omega (
@@ -23,6 +23,6 @@ put_figure-requires-5 c =
     )
 
 pub returns : goal.returns
-returns c =
+returns g c =
     rw (head_put c.args.clock c.args.tracks c.args.system c.args.numbers c.args.year c.args.programs)
     (simp (c.put_figure-5.ensures, c.put_figure-4.ensures, c.put_figure-3.ensures, c.put_figure-2.ensures, c.put_year_line.ensures, c.put_figure.ensures, c.put_entry.ensures, append_assoc))

@@ -10,4 +10,4 @@ use Rattle.page.proofs.Spans.{chains_from}
 use Rattle.page.proofs.sections.put_chains.Given as goal
 
 abbrev pub invariant-loop-state : goal.invariant-loop-state
-invariant-loop-state l = l.out.items ++ join (chains_from l.links l.state-index) ≡ l.initial.out.items ++ bytes (chain_lines (read l.links))
+invariant-loop-state g l = l.out.items ++ join (chains_from l.links l.state-index) ≡ l.initial.out.items ++ bytes (chain_lines (read l.links))

@@ -10,16 +10,16 @@ use Rattle.page.proofs.sections.put_records.Goals as goal
 use Rattle.page.proofs.sections.put_records.Goals.{then-r, else-r}
 
 pub loop-i-init : goal.loop-i-init
-loop-i-init c = ap (λ (x : List ℕ). c.args.out.now.items ++ x) (sym (records-all c.args.programs.now))
+loop-i-init g c = ap (λ (x : List ℕ). c.args.out.now.items ++ x) (sym (records-all c.args.programs.now))
 
 pub put_record-requires : goal.put_record-requires
-put_record-requires c =
+put_record-requires g c =
     let i = c.loop-i.i in
     let here = records-here c.args.programs.now (i + 1) i (omega arith) (omega arith) c.if-r.true in
     omega (arith, c.requires, simp length-append at (ap length (rw here at c.loop-i.invariant)))
 
 pub loop-i-preserved : goal.loop-i-preserved
-loop-i-preserved c =
+loop-i-preserved g c =
     let i = c.loop-i.i in
     let ps = c.args.programs.now in
     elim c.if-r.branch [
@@ -30,5 +30,5 @@ loop-i-preserved c =
     ]
 
 pub returns : goal.returns
-returns c =
+returns g c =
     simp (records-past c.args.programs.now (c.loop-i.i + 1) (omega arith), append-nil) at c.loop-i.invariant

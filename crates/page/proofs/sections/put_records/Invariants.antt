@@ -10,4 +10,4 @@ use Rattle.page.proofs.Spans.{records_from}
 use Rattle.page.proofs.sections.put_records.Given as goal
 
 abbrev pub invariant-loop-i : goal.invariant-loop-i
-invariant-loop-i l = l.out.items ++ join (records_from l.programs (l.i + 1)) ≡ l.initial.out.items ++ bytes (record_lines l.programs)
+invariant-loop-i g l = l.out.items ++ join (records_from l.programs (l.i + 1)) ≡ l.initial.out.items ++ bytes (record_lines l.programs)

@@ -10,12 +10,12 @@ use Rattle.page.proofs.Spans.{numbers-all, numbers-here}
 use Rattle.page.proofs.sections.put_resources.Goals as goal
 
 pub loop-i-init : goal.loop-i-init
-loop-i-init c =
+loop-i-init g c =
     let x = c.args.numbers.now in
     ap (λ (l : List ℕ). c.args.out.now.items ++ l) (sym (numbers-all x.count x.resources))
 
 pub put_resource-requires : goal.put_resource-requires
-put_resource-requires c =
+put_resource-requires g c =
     let x = c.args.numbers.now in
     rw (get_or-take x.count x.resources c.loop-i.i free (omega arith))
     (omega (
@@ -25,7 +25,7 @@ put_resource-requires c =
     ))
 
 pub loop-i-preserved : goal.loop-i-preserved
-loop-i-preserved c =
+loop-i-preserved g c =
     let x = c.args.numbers.now in
     rw (c.put_resource.ensures, get_or-take x.count x.resources c.loop-i.i free (omega arith), append_assoc)
     (rw (numbers-here x.count x.resources c.loop-i.i (omega arith)) at c.loop-i.invariant)

@@ -10,6 +10,6 @@ use Rattle.page.proofs.Spans.{numbers_from}
 use Rattle.page.proofs.sections.put_resources.Given as goal
 
 abbrev pub invariant-loop-i : goal.invariant-loop-i
-invariant-loop-i l =
+invariant-loop-i g l =
     let n = l.numbers.count in
     l.out.items ++ join (numbers_from n l.numbers.resources l.i) ≡ l.initial.out.items ++ bytes (number_lines n (take n l.numbers.resources))

@@ -8,11 +8,11 @@ use Rattle.page.proofs.Spans.{held_all, held-here}
 use Rattle.page.proofs.sections.put_runs.Goals as goal
 
 pub loop-first-init : goal.loop-first-init
-loop-first-init c =
+loop-first-init g c =
     (omega arith, ap (λ (l : List ℕ). c.args.out.now.items ++ l) (sym (held_all (take c.args.tracks.count c.places-places.result))))
 
 pub put_run-requires : goal.put_run-requires
-put_run-requires c =
+put_run-requires g c =
     let hs = take c.args.tracks.count c.places-places.result in
     let here = held-here hs c.loop-first.first c.run_in-run.result c.run_in-run.ensures in
     omega (

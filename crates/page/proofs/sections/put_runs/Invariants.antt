@@ -11,9 +11,9 @@ use Rattle.page.proofs.Spans.{held_from}
 use Rattle.page.proofs.sections.put_runs.Given as goal
 
 abbrev pub invariant-loop-first : goal.invariant-loop-first
-invariant-loop-first l =
+invariant-loop-first g l =
     (l.first ≤ l.count)
     × (l.out.items ++ join (held_from (take l.count l.places) l.first) ≡ l.initial.out.items ++ bytes (held_lines (take l.count l.places)))
 
 abbrev pub decreases-loop-first : goal.decreases-loop-first
-decreases-loop-first l = l.count - l.first
+decreases-loop-first g l = l.count - l.first

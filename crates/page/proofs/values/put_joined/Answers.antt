@@ -7,7 +7,7 @@ use Rattle.page.proofs.Writing.{others-here, joined_cons}
 use Rattle.page.proofs.values.put_joined.Goals as goal
 
 pub put_coded-requires : goal.put_coded-requires
-put_coded-requires c =
+put_coded-requires g c =
     let xs = c.in-Some.others.now in
     let here = others-here xs c.loop-id.id-index (omega arith) in
     let whole = simp (c.in-Some.ensures.cases.0, joined_cons c.in-Some.first.now xs, length-append) at c.requires in
@@ -19,7 +19,7 @@ put_coded-requires c =
     )
 
 pub returns-after-loop-id : goal.returns-after-loop-id
-returns-after-loop-id c =
+returns-after-loop-id g c =
     let xs = c.in-Some.others.now in
     let none = drop_of_length-le xs {i = c.loop-id.id-index} (omega arith) in
     rw (c.in-Some.ensures.cases.0, joined_cons c.in-Some.first.now xs)

@@ -7,4 +7,4 @@ use Rattle.page.specs.Inner.{others}
 use Rattle.page.proofs.values.put_joined.Given as goal
 
 abbrev pub invariant-loop-id : goal.invariant-loop-id
-invariant-loop-id l = l.out.items ++ others (drop l.id-index l.others) ≡ l.initial.out.items ++ others l.others
+invariant-loop-id g l = l.out.items ++ others (drop l.id-index l.others) ≡ l.initial.out.items ++ others l.others

@@ -6,6 +6,6 @@ use Rattle.page.proofs.Writing.{bare-put}
 use Rattle.page.proofs.values.put_name.Goals as goal
 
 pub push-requires : goal.push-requires
-push-requires c =
+push-requires g c =
     let here = bare-put c.args.name c.loop-c.c-index (omega arith) c.if-c-ne32.true in
     (omega arith, omega (arith, simp (here, length-append) at (ap length c.loop-c.invariant)))

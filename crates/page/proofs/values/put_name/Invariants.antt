@@ -7,4 +7,4 @@ use Rattle.records.specs.Names.{bare}
 use Rattle.page.proofs.values.put_name.Given as goal
 
 abbrev pub invariant-loop-c : goal.invariant-loop-c
-invariant-loop-c l = l.out.items ++ bare (drop l.c-index l.fn.name) ≡ l.initial.out.items ++ bare l.fn.name
+invariant-loop-c g l = l.out.items ++ bare (drop l.c-index l.fn.name) ≡ l.initial.out.items ++ bare l.fn.name
