@@ -6,8 +6,8 @@ mod lines;
 mod sections;
 mod values;
 
-ghost use Rattle.std.specs.Prelude.{◌≡◌, []};
-ghost use Rattle.limits.specs.Limits.{page_room};
+ghost use Rattle.std.specs.Prelude.{◌≡◌, ◌+◌, ◌≤◌, ◌++◌, length};
+ghost use Rattle.limits.specs.Limits.{most_tracks, most_numbers, page_room};
 ghost use Rattle.text.specs.Inner.{Wrote};
 ghost use Rattle.tables.specs.Tables.{plain};
 ghost use Rattle.tables.specs.Calls.{told};
@@ -24,11 +24,12 @@ use tables::{Outcome, Tables};
 // Room for the page of any tables that have no more tracks and numbers than there can be, sound or not.
 const WIDEST: usize = 32768;
 
-// Puts the lines of a page into a vector that is empty and has room for them.
+// Puts the lines of a page.
 fn put_lines<const N: usize>(out: &mut ArrayVec<u8, N>, tables: &Tables)
-    requires empty { out.old.items ≡ [] }
-    requires fits { Fits tables.now N }
-    ensures { out.new.items ≡ page (plain tables.now) }
+    requires tracks { tables.now.ledger.tracks.count ≤ most_tracks }
+    requires numbers { tables.now.ledger.numbers.count ≤ most_numbers }
+    requires room { length out.old.items + length (page (plain tables.now)) ≤ N }
+    ensures { out.new.items ≡ out.old.items ++ page (plain tables.now) }
 {
     let book = &tables.ledger;
     lines::put_heading(

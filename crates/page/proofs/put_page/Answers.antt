@@ -12,11 +12,11 @@ put_lines-requires c =
     let t = c.args.tables in
     let names : Short t.ledger.programs = search short in
     let room = widest t names c.requires.tracks c.requires.numbers in
-    (omega arith, (c.new-whole.ensures, record { tracks = c.requires.tracks; numbers = c.requires.numbers; room = omega (arith, room) }))
+    (omega arith, (c.requires.tracks, (c.requires.numbers, omega (arith, room, ap length c.new-whole.ensures))))
 
 pub returns : goal.returns
 returns c =
-    let page = c.put_lines.ensures in
+    let page = rw c.new-whole.ensures at c.put_lines.ensures in
     wrote_front c.args.buf.now _ c.copy_from_slice.new.self c.len-length.result
     (c.copy_from_slice.ensures.after ∙ c.as_slice.ensures.value ∙ page)
     (c.len-length.ensures.value ∙ ap length page)

@@ -12,25 +12,23 @@ pub returns-then-not-o : goal.returns-then-not-o
 returns-then-not-o c = handed-unsound c.args.tables c.args.buf.now (sym c.opened-o.ensures.0 ∙ not-true _ c.if-not-o.true)
 
 pub put_lines-requires : goal.put_lines-requires
-put_lines-requires c = (
-  omega arith,
-  (
-    c.new-page.ensures,
+put_lines-requires c =
+    let fits =
     can-page c.args.tables (record { programs = search rules; links = search rules; holders = search rules; resources = search rules })
-        (sym c.opened-o.ensures.0 ∙ not-false _ c.if-not-o.false),
-  ),
-)
+    (sym c.opened-o.ensures.0 ∙ not-false _ c.if-not-o.false)
+    in
+    (omega arith, (fits.tracks, (fits.numbers, omega (arith, fits.room, ap length c.new-page.ensures))))
 
 pub returns-then-buf-n : goal.returns-then-buf-n
 returns-then-buf-n c =
     handed-short c.args.tables c.args.buf.now c.len-n.result (sym c.opened-o.ensures.0 ∙ not-false _ c.if-not-o.false)
-    (c.len-n.ensures.value ∙ ap length c.put_lines.ensures)
+    (c.len-n.ensures.value ∙ ap length (rw c.new-page.ensures at c.put_lines.ensures))
     c.if-buf-n.true
 
 pub returns : goal.returns
 returns c =
     handed-done c.args.tables c.args.buf.now c.len-n.result c.copy_from_slice.new.self
     (sym c.opened-o.ensures.0 ∙ not-false _ c.if-not-o.false)
-    (c.len-n.ensures.value ∙ ap length c.put_lines.ensures)
+    (c.len-n.ensures.value ∙ ap length (rw c.new-page.ensures at c.put_lines.ensures))
     c.if-buf-n.false
-    (c.copy_from_slice.ensures.after ∙ c.as_slice.ensures.value ∙ c.put_lines.ensures)
+    (c.copy_from_slice.ensures.after ∙ c.as_slice.ensures.value ∙ (rw c.new-page.ensures at c.put_lines.ensures))
