@@ -28,6 +28,10 @@ pub enum ReadError {
 }
 
 impl From<io::Error> for ReadError {
+    ghost use Rattle.streams.specs.declared.waiting.ReadError.TheVariants.{Failed};
+
+    ghost from_gives = { λ error e. e ≡ Failed error };
+
     fn from(error: io::Error) -> ReadError {
         ReadError::Failed(error)
     }
