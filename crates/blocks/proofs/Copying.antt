@@ -3,18 +3,19 @@
 use Prim.Native.Nat.{ℕ, ◌+◌, ◌-◌, ◌≤◌, ◌<◌, min}
 use native.Mathlib.Nat.{zero-add}
 use native.Mathlib.Omega.{arith}
-use native.Mathlib.Decide.{dec_le}
-use mathlib.Core.Path.{◌≡◌, sym, ap, ◌∙◌}
+use native.Mathlib.Decide.{dec_le, dec_lt}
+use mathlib.Core.Path.{◌≡◌, sym, ap, ◌∙◌, refl, ap₂}
 use mathlib.Core.Bool.{Bool, true, false, ◌&&◌}
-use mathlib.Core.List.{List, ◌++◌}
-use lib.ListN.{length, take, drop, length-take, length-drop}
-use lib.Seq.{slice, take-take, take_all, length-take-le}
+use mathlib.Core.List.{List, [], ◌++◌, ◌∷◌}
+use lib.ListN.{length, take, drop, length-take, length-drop, get_or, set, length-set, take-append-drop}
+use lib.Seq.{slice, take-take, take_all, length-take-le, take-suc, take-suc-set, drop-set-lt, drop-drop, get_or-drop, get_or-take, length-slice}
 use lib.Dec.{leb}
 use borrow.Author.Tests.{le-leb, lt-leb}
 use Rattle.std.specs.List.{copy_within}
 use Rattle.text.proofs.Fields.{drop-take}
 use Rattle.rules.specs.Engine.{front}
 use Rattle.blocks.specs.Blocks.{most, Carried, carried}
+use native.Mathlib.Numerals.{add-one}
 
 -- places of the block, and others
 pub carried-part : (s : List ℕ) (from to : ℕ) → from ≤ to → to ≤ length s
@@ -74,3 +75,63 @@ module _ (s : List ℕ) (from to n : ℕ) (a : from ≤ to) (e : to ≤ length s
       w ∙ ap (λ (k : ℕ). take k (drop from s) ++ drop (0 + k) s) i ∙ ap (λ (xs : List ℕ). xs ++ drop (0 + n) s) kept
       ∙ ap (λ (k : ℕ). take most (slice from to s) ++ drop k s) (zero-add n ∙ held) in
       (λ j. record { held = held j; block = block j }) ∙ sym (carried-part s from to a e)
+
+-- Laws of bytes that are copied one by one, for whoever proves about such a copy: where i are copied, from place i on the block is as
+-- it was, so the next is read as it was.
+-- i of the bytes between two places stand at the front
+pub record Copied (before : List ℕ) (from to i : ℕ) (after : List ℕ) : Type 0 where
+  pub front : take i after ≡ take i (slice from to before)
+  pub behind : drop i after ≡ drop i before
+  pub same : length after ≡ length before
+
+pub copied_none : {l : List ℕ} {from to : ℕ} → Copied l from to 0 l
+copied_none = record { front = refl; behind = refl; same = refl }
+
+module _ {l₀ l : List ℕ} {from to i : ℕ} (h : Copied l₀ from to i l) where
+  -- the byte to be copied is as it was
+  copied_byte : from + i < to → get_or l (from + i) 0 ≡ get_or (slice from to l₀) i 0
+  copied_byte b =
+      let e : from + i ≡ i + from = omega arith in
+      ap (λ (k : ℕ). get_or l k 0) e
+      ∙ sym (get_or-drop i l from 0)
+      ∙ ap (λ (xs : List ℕ). get_or xs from 0) h.behind
+      ∙ get_or-drop i l₀ from 0
+      ∙ ap (λ (k : ℕ). get_or l₀ k 0) (sym e)
+      ∙ sym (get_or-take to l₀ (from + i) 0 b)
+      ∙ sym (get_or-drop from (take to l₀) i 0)
+
+  -- a turn of the loop
+  pub copied-turn : from + i < to → to ≤ length l₀ → Copied l₀ from to (i + 1) (set l i (get_or l (from + i) 0))
+  copied-turn b e =
+      let v : ℕ = get_or l (from + i) 0 in
+      record {
+        front = rw (add-one i)
+            (take-suc-set l i v (omega (arith, h.same))
+            ∙ ap₂ (λ (xs : List ℕ) (x : ℕ). xs ++ (x ∷ [])) h.front (copied_byte b)
+            ∙ sym (take-suc (slice from to l₀) i 0 (omega (arith, length-slice from to l₀ e))));
+        behind = drop-set-lt (i + 1) l i v (omega arith) ∙ sym (drop-drop 1 i l) ∙ ap (drop 1) h.behind ∙ drop-drop 1 i l₀;
+        same = length-set l i v ∙ h.same;
+      }
+
+  -- `most` of them, or all where there are fewer
+  copied-most : to ≤ length l₀ → i ≤ most → (i < most → i ≡ to - from) → take i l ≡ take most (slice from to l₀)
+  copied-most e many few = h.front ∙ go (dec_lt i most)
+    where
+      go : Dec (i < most) → take i (slice from to l₀) ≡ take most (slice from to l₀)
+      go (yes s) =
+          let n = length-slice from to l₀ e in
+          take_all i (slice from to l₀) (omega (arith, few s)) ∙ sym (take_all most (slice from to l₀) (omega (arith, few s)))
+      go (no s) = let n : i ≡ most = omega arith in ap (λ (k : ℕ). take k (slice from to l₀)) n
+
+  -- so the block is what is carried
+  pub copied-whole : from ≤ to → to ≤ length l₀ → i ≤ most → i ≤ to - from → (i < most → i ≡ to - from)
+      → record { held = i; block = l } ≡ carried l₀ from to
+  copied-whole a e many all few =
+      let kept : take i l ≡ take most (slice from to l₀) = copied-most e many few in
+      let n : length (take i l) ≡ i = length-take-le i l (omega (arith, h.same)) in
+      let held : i ≡ length (take most (slice from to l₀)) = sym n ∙ ap length kept in
+      let block : l ≡ front (take most (slice from to l₀)) l₀ =
+      sym (take-append-drop i l) ∙ ap₂ (λ (xs : List ℕ) (ys : List ℕ). xs ++ ys) kept h.behind
+      ∙ ap (λ (k : ℕ). take most (slice from to l₀) ++ drop k l₀) held
+      in
+      (λ i. record { held = held i; block = block i }) ∙ sym (carried-part l₀ from to a e)

@@ -7,3 +7,4 @@ pub mod ReadingBack
 pub mod Desks
 pub mod Running
 pub mod SixValues
+pub mod Written

@@ -14,12 +14,13 @@ use borrow.Author.Tests.{eq-eqb, ne_eqb, lt-ltb, le-ltb}
 use Rattle.limits.specs.Limits.{page_room}
 use Rattle.lists.specs.Lists.{join}
 use Rattle.text.specs.Text.{text, decimal}
-use Rattle.text.proofs.Laws.{decimal-most}
+use Rattle.text.proofs.Laws.{decimal-most, wrote-length}
 use Rattle.console.specs.Sheet.{line_end}
 use Rattle.console.proofs.LineEnds.{line-end}
 use Rattle.comparing.specs.Verdicts.{side, sides}
 use Rattle.comparing.specs.Inner.{line_from, said_of, parted_at, piece_room}
 use Rattle.comparing.specs.Sinks.{SinkLaws}
+use Rattle.text.specs.Inner.{Wrote}
 
 said-length : (what : List ℕ) (n : ℕ) (x y : List ℕ)
     → length (what ++ sides n x y) ≡ length what + length (decimal n) + length x + length y + 34
@@ -170,3 +171,16 @@ module _ {S : Type 0} {after : S → List ℕ → S} {place end : S → ℕ} (la
         ap end d.whole,
         length-append x (join ps),
       )
+
+-- Laws of what is said of a difference, for whoever proves about it: its pieces.
+abbrev pub said_pieces : List ℕ → ℕ → List ℕ → List ℕ → List (List ℕ)
+said_pieces what n x y =
+    what ∷ decimal n ∷ text ": " ∷ x ∷ text " on the sheet, " ∷ y ∷ text " by the requests" ∷ (10 ∷ []) ∷ []
+
+pub said-pieces : (what : List ℕ) (n : ℕ) (x y : List ℕ) → what ++ sides n x y ≡ join (said_pieces what n x y)
+said-pieces what n x y = simp append_assoc
+
+-- what was put at the front of a buffer, as the code takes it
+
+pub front-within : {l x l' : List ℕ} {n : ℕ} → Wrote l 0 x l' n → length x ≤ length l → n ≤ length l'
+front-within h room = omega (arith, h.place, wrote-length h)

@@ -234,3 +234,8 @@ module _ (s w : List ℕ) where
       last : (ds : List Difference) → length (lastly ds (parting 1 (lines_of s) (lines_of w))) ≤ piece_room
       last [] = lines-room 1 (lines_of s) (lines_of w) (lines-short s h) (lines-short w k)
       last (d ∷ ds) = omega arith
+
+-- Two lines held against each other, for whoever proves about them.
+pub held-alike : (s w : List ℕ) (a b e f : ℕ) (r : Bool) → b ≤ f → r ≡ alike (slice a e s) (take (f - b) (drop b w))
+    → alike (slice a e s) (slice b f w) ≡ r
+held-alike s w a b e f r h k = ap (alike (slice a e s)) (sym (line_taken w b f h)) ∙ sym k

@@ -10,8 +10,8 @@ use lib.ListN.{length, get_or, drop, length-append}
 use lib.Seq.{drop-cons}
 use lib.Dec.{eqb}
 use borrow.Author.Tests.{eqb-true, ne_eqb}
-use Rattle.text.specs.Text.{decimal, between}
-use Rattle.text.proofs.Laws.{decimal-most}
+use Rattle.text.specs.Text.{decimal, between, text}
+use Rattle.text.proofs.Laws.{decimal-most, wrote_then}
 use Rattle.clock.specs.declared.Time.{Time}
 use Rattle.clock.specs.Clock.{parts_of}
 use Rattle.rules.specs.declared.Answer.{Answer}
@@ -21,6 +21,7 @@ use Rattle.rules.specs.Answers.{number, values}
 use Rattle.rules.proofs.shared.OneAnswer.{one_answer}
 use Rattle.console.specs.Sheet.{printed_bytes}
 use Rattle.console.specs.Inner.{single, dotted, values_line, answer_bytes}
+use Rattle.text.specs.Inner.{Wrote}
 
 dot-length : (x y : List ℕ) → length (x ++ (46 ∷ y)) ≡ length x + length y + 1
 dot-length x y = omega (arith, length-append x (46 ∷ y))
@@ -125,3 +126,17 @@ bytes-none a h = go (eqb (number a) 0) refl (values a) refl
     go true e [] v = refl
     go true e (x ∷ []) v = absurd (h x (one_answer a (Done x) (eqb-true (number a) 0 e) v))
     go true e (x ∷ y ∷ vs) v = sym (ap (λ (t : Bool). cond t x 0) (ne_eqb (length (x ∷ y ∷ vs)) 1 (λ n. omega arith)))
+
+-- An answer that is put from a place on, piece by piece; for whoever proves about lent buffers.
+pub answer-wrote : {l₀ l₁ l₂ l₃ l₄ l₅ : List ℕ} {at₀ at₁ at₂ at₃ at₄ at₅ n : ℕ} (a : Answer) → n ≡ number a
+    → Wrote l₀ at₀ (text "answer=") l₁ at₁
+    → Wrote l₁ at₁ (decimal n) l₂ at₂ → Wrote l₂ at₂ (text ",value=") l₃ at₃ → Wrote l₃ at₃ (values_line a) l₄ at₄
+    → Wrote l₄ at₄ (10 ∷ []) l₅ at₅
+    → Wrote l₀ at₀ (answer_bytes a) l₅ at₅
+unfolding answer_bytes
+answer-wrote a is p n q v e =
+    let begun : List ℕ = text "answer=" ++ decimal (number a) in
+    wrote_then (begun ++ text ",value=" ++ values_line a) (10 ∷ [])
+    (wrote_then (begun ++ text ",value=") (values_line a)
+    (wrote_then begun (text ",value=") (wrote_then (text "answer=") (decimal (number a)) p (rw is at n)) q) v)
+    e

@@ -20,7 +20,7 @@ use Rattle.records.specs.Names.{name_of}
 use Rattle.std.specs.Prelude as option
 use Rattle.std.specs.Prelude.{Some, None}
 use Rattle.console.specs.Line.{Line, bad, Form, number, name}
-use Rattle.console.specs.Inner.{fields_from, NameRead, Counted, none_left, or_end, counted, on_numbers, NumbersRead}
+use Rattle.console.specs.Inner.{fields_from, NameRead, Counted, none_left, or_end, counted, on_numbers, NumbersRead, on_name}
 
 fields-are : (s : List ℕ) (at : ℕ) → at ≤ length s → fields_from s at ≡ parts 44 (drop at s)
 unfolding fields_from
@@ -127,3 +127,8 @@ module _ {s : List ℕ} {at e : ℕ} (p : PartEnd 44 s at e) where
 
   pub name-is : {nm : List ℕ} → name_of (slice at e s) ≡ some nm → NameRead s at (Some (nm, e + 1))
   name-is h = record { says = λ k. ap (name k) (fields-cut p) ∙ ap (on_name_of k (fields_from s (e + 1))) h }
+
+-- What is read of a name is all that a form does with it; for whoever proves about forms.
+pub name-told : {s : List ℕ} {at : ℕ} {r q : option.Option (List ℕ × ℕ)} → NameRead s at r → r ≡ q → (k : List ℕ → Form)
+    → name k (fields_from s at) ≡ on_name k s q
+name-told {s} h e k = h.says k ∙ ap (on_name k s) e

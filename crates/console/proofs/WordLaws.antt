@@ -191,10 +191,13 @@ pub seeking_start : (last : ℕ) (f : List ℕ) → Seeking last f 0
 seeking_start last f = record { same = omega arith; within = omega arith }
 
 module _ {last : ℕ} {f : List ℕ} {i : ℕ} (h : Seeking last f i) where
-  pub seeking_end : no_word ≤ i → no_word ≤ seek last f rows keys
+  pub seeking-end : no_word ≤ i → no_word ≡ seek last f rows keys
   unfolding rows
-  seeking_end l =
+  seeking-end l =
       omega (arith, h.same, h.within, ap (λ (rs : List Word). seek last f rs (drop i keys)) (drop_of_length-le rows {i = i} l))
+
+  pub seeking_end : no_word ≤ i → no_word ≤ seek last f rows keys
+  seeking_end l = omega (arith, seeking-end l)
 
   module _ (l : i < no_word) where
     abbrev rest : ℕ

@@ -8,7 +8,7 @@ use mathlib.Core.Bool.{Bool, true, false, not, cond, ◌&&◌}
 use mathlib.Core.List.{List, [], ◌∷◌}
 use lib.Dec.{leb, eqb}
 use lib.ListN.{length}
-use borrow.Author.Tests.{not-true, le-leb, lt-leb, lt-ltb, le-ltb, eq-eqb, ne_eqb}
+use borrow.Author.Tests.{not-true, le-leb, lt-leb, lt-ltb, le-ltb, eq-eqb, ne_eqb, not-false}
 use Rattle.lists.specs.Lists.{first, from}
 use Rattle.lists.proofs.Tests.{up_to-is}
 use Rattle.lists.proofs.Laws.{first-in, from_in}
@@ -127,3 +127,7 @@ module _ (v : View) (c r : ℕ) (x : Resource) where
 -- two tests one after the other
 pub not-both : (p q b : Bool) → b ≡ p → not b ≡ true → false ≡ (p && q)
 not-both p q b B e = ap (λ (z : Bool). z && q) (sym (sym B ∙ not-true b e))
+
+-- The second of two tests answers where the first holds; for whoever proves about such tests.
+pub so-other : (p q b r : Bool) → b ≡ p → not b ≡ false → r ≡ q → r ≡ (p && q)
+so-other p q b r B e R = R ∙ ap (λ (z : Bool). z && q) (sym (sym B ∙ not-false b e))

@@ -14,9 +14,10 @@ use borrow.Author.Count.{below_more}
 use Rattle.records.specs.declared.Program.{Program}
 use Rattle.records.specs.Records.{missing}
 use Rattle.rules.specs.Test.{son_of}
-use Rattle.ledger.specs.Inner.{fits, name_code, name_key, son_key, used_key, Keyed, Fresh, Ended, Distinct, Sons}
+use Rattle.ledger.specs.Inner.{fits, name_code, name_key, son_key, used_key, Keyed, Fresh, Ended, Distinct, Sons, Apart, Roster, Enrolled}
 use Rattle.ledger.specs.Inner.{Awaited, slot_of, Marked}
 use Rattle.ledger.proofs.Turns.{fits-parts, unused-zeros, son-most}
+use Rattle.lists.proofs.Tests.{clash}
 
 -- nothing is noted at first
 pub unset : {A : Type 0} (a : A) (n i : ℕ) → get_or (replicate n a) i a ≡ a
@@ -233,3 +234,72 @@ module _ {ks states met : List ℕ} {i : ℕ} (M : Meeting ks states met i) wher
         back : (q : ℕ) → ((k : ℕ) → k < i + 1 → get_or ks k 0 ≢ q + 1) → Dec (q ≡ p) → get_or (set met p 1) q 0 ≡ 0
         back q f (yes w) = absurd (f i (omega arith) (omega arith))
         back q f (no w) = get_or-set_other met p q 1 0 w ∙ M.back q (λ k l. f k (omega arith))
+
+-- Laws of the passes over the records, for whoever proves about them: what refuses them, and what is noted where nothing does.
+-- keys that are distinct are those of records apart, and back
+apart_of : (f : Program → ℕ) (ps : List Program) (ks : List ℕ) → Keyed f ps ks → Distinct ks → Apart f ps
+apart_of f ps ks K D i h n j m o e = D i h (λ z. n (sym (K.each i h) ∙ z)) j m o (K.each j m ∙ e ∙ sym (K.each i h))
+
+distinct_of : (f : Program → ℕ) (ps : List Program) (ks : List ℕ) → Keyed f ps ks → Apart f ps → Distinct ks
+distinct_of f ps ks K A i h n j m o e = A i h (λ z. n (K.each i h ∙ z)) j m o (sym (K.each j m) ∙ e ∙ K.each i h)
+
+module _ {c T R : ℕ} {ps : List Program} {names sons states priorities used : List ℕ} {high i : ℕ}
+    (N : Noted c T R ps names sons states priorities used high i) where
+  -- a record that is not sound by itself
+  pub noted-refused : i < 32 → fits c T R (i + 1) (get_or ps i missing) ≡ false → Roster c T R ps → ⊥
+  noted-refused h e S = clash (S.fitting i h) e
+
+  module _ (h : 32 ≤ i) where
+    pub names-ended : Ended names high
+    names-ended = record { most = omega (arith, N.low, N.most); rest = N.names.rest }
+
+    pub names-refused : (Distinct names → ⊥) → Roster c T R ps → ⊥
+    names-refused f S = f (distinct_of name_key ps names (keyed N h name_key names N.names) S.names)
+
+    -- the state that is noted for a son
+    son-state : (k : ℕ) → k < 32 → get_or sons k 0 ≡ son_key (get_or ps k missing)
+        → get_or states (get_or sons k 0 - 1) 0 ≡ (get_or ps (son_key (get_or ps k missing) - 1) missing).state
+    son-state k l e =
+        ap (λ (x : ℕ). get_or states (x - 1) 0) e
+        ∙ N.states.each (son_key (get_or ps k missing) - 1) (omega (arith, (sons-ended N h).known k))
+
+    pub sons-refused : (Awaited sons states → ⊥) → Roster c T R ps → ⊥
+    sons-refused f S = f (record {
+      live = λ k l n z.
+          S.live k l (λ y. n (N.sons.each k (omega arith) ∙ y)) (sym (son-state k l (N.sons.each k (omega arith))) ∙ z);
+      once = distinct_of son_key ps sons (keyed N h son_key sons N.sons) S.sons;
+    })
+
+    pub noted-end : Distinct names → Awaited sons states
+        → Enrolled c T R ps (record { used = used; states = states; priorities = priorities })
+    noted-end D A = record {
+      sound = record {
+        fitting = λ k l. N.fitting k (omega arith);
+        names = apart_of name_key ps names (keyed N h name_key names N.names) D;
+        live = λ k l n z.
+            A.live k l (λ y. n (sym (N.sons.each k (omega arith)) ∙ y)) (son-state k l (N.sons.each k (omega arith)) ∙ z);
+        sons = apart_of son_key ps sons (keyed N h son_key sons N.sons) A.once;
+      };
+      marked = keyed N h used_key used N.used;
+      columns = record {
+        states = keyed N h (λ (r : Program). r.state) states N.states;
+        priorities = keyed N h (λ (r : Program). r.priority) priorities N.priorities;
+      };
+    }
+
+-- keys with marks: none is told of yet; and sons with marks, all told of
+
+pub seen_start : (ks : List ℕ) → Seen ks (replicate 251 0) 0
+seen_start ks = record { long = refl; marks = λ k h. absurd (omega arith); new = λ k h. absurd (omega arith) }
+
+pub meeting-end : {ks states met : List ℕ} {i high : ℕ} → Meeting ks states met i → Ended ks high → high ≤ i → Awaited ks states
+meeting-end {ks} {states} {met} {i} {high} M E h =
+    record { live = λ k l n. live k n (dec_le (suc k) i); once = λ a l n b m o e. once a n b o e (dec_le (suc b) i) }
+  where
+    live : (k : ℕ) → get_or ks k 0 ≢ 0 → Dec (k < i) → get_or states (get_or ks k 0 - 1) 0 ≢ 0
+    live k n (yes w) = M.live k w n
+    live k n (no w) = absurd (n (E.rest k (omega (arith, w))))
+
+    once : (a : ℕ) → get_or ks a 0 ≢ 0 → (b : ℕ) → a < b → get_or ks b 0 ≡ get_or ks a 0 → Dec (b < i) → ⊥
+    once a n b o e (yes w) = M.new b w (λ z. n (sym e ∙ z)) a o (sym e)
+    once a n b o e (no w) = n (sym e ∙ E.rest b (omega (arith, w)))

@@ -106,3 +106,7 @@ module _ {f : ℕ → Bool} {ys ids : List ℕ} {len i : ℕ} (S : Sifted f ys i
     rest = S.rest;
     most = omega arith;
   }
+
+-- Two tests that agree keep the same; for whoever proves about `keep`.
+pub keep-alike : (f g : ℕ → Bool) (c : List ℕ) → ((q : ℕ) → f q ≡ g q) → keep f c ≡ keep g c
+keep-alike f g c h = ap (λ (t : ℕ → Bool). keep t c) (λ i q. h q i)

@@ -6,8 +6,8 @@ use native.Mathlib.Decide.{ℕ_discrete, dec_le}
 use mathlib.Core.Path.{◌≡◌, refl, sym, ap, ◌∙◌}
 use mathlib.Core.Bool.{Bool, true, false, cond}
 use mathlib.Core.List.{List}
-use lib.ListN.{length, get_or, set, replicate, get_or-replicate}
-use lib.Seq.{get_or-set_other}
+use lib.ListN.{length, get_or, set, replicate, get_or-replicate, length-set}
+use lib.Seq.{get_or-set_other, get_or-set_same}
 use lib.Dec.{eqb}
 use Rattle.records.specs.declared.Program.{Program}
 use Rattle.records.specs.declared.Resource.{Resource}
@@ -19,6 +19,7 @@ use Rattle.rules.specs.Book.{at}
 use Rattle.ledger.specs.declared.Ledger.{Ledger}
 use Rattle.ledger.specs.Ledger.{book_of}
 use Rattle.ledger.specs.Inner.{used_key, Keyed, strange, Strangers, User, Numbered}
+use borrow.Author.Count.{below_more}
 
 -- the marks, with the first i programs told of
 pub record Marking (used marks : List ℕ) (i : ℕ) : Type 0 where
@@ -89,3 +90,19 @@ module _ {May Can : ℕ → Type 0} (f : (h : ℕ) → May h → Can h) where
         record { owner = f _ s.owner; locker = f _ s.locker; program = s.program; clear = s.clear };
     rest = N.rest;
   }
+
+-- Laws of the marks, a program at a time, for whoever proves about them.
+pub marking-more : {used marks : List ℕ} {i : ℕ} → Marking used marks i → i < 32 → (v : ℕ) → v ≡ strange (get_or used i 0)
+    → Marking used (set marks (i + 1) v) (i + 1)
+marking-more {used} {marks} {i} M l v e = record {
+  most = omega arith;
+  long = length-set marks (i + 1) v ∙ M.long;
+  nobody = get_or-set_other marks (i + 1) 0 v 0 (λ z. omega arith) ∙ M.nobody;
+  global = get_or-set_other marks (i + 1) 33 v 0 (λ z. omega arith) ∙ M.global;
+  program = below_more _ _ (λ k h. get_or-set_other marks (i + 1) (k + 1) v 0 (λ z. omega arith) ∙ M.program k h)
+      (get_or-set_same marks (i + 1) v 0 (omega (arith, M.long)) ∙ e);
+  other = λ h a b. get_or-set_other marks (i + 1) h v 0 (λ z. omega arith) ∙ M.other h a b;
+}
+
+pub marking-end : {used marks : List ℕ} {i : ℕ} → Marking used marks i → 32 ≤ i → Strangers used marks
+marking-end M h = record { nobody = M.nobody; global = M.global; program = λ k l. M.program k (omega arith); other = M.other }

@@ -4,3 +4,6 @@ pub mod Pieces
 pub mod Lossless
 pub mod OneForm
 pub mod NamedRecords
+pub mod ByTwos
+pub mod Filling
+pub mod Written

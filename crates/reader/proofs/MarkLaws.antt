@@ -73,3 +73,8 @@ pub mark-clean : (b : Bool) → Clean (mark_line b)
 unfolding same
 mark-clean true = clean-more refl clean-none
 mark-clean false = clean-none
+
+-- What a mark adds is 1 at most; for whoever proves about marks.
+pub hit-most : (b : Bool) → hit b ≤ 1
+hit-most true = omega arith
+hit-most false = omega arith

@@ -1,12 +1,14 @@
 -- Laws of the line at a place: its key and its value.
 -- Assumes nothing.
-use Prim.Native.Nat.{ℕ, ◌+◌}
+use Prim.Native.Nat.{ℕ, ◌+◌, ◌≤◌}
 use native.Mathlib.Omega.{arith}
-use mathlib.Core.Path.{◌≡◌, sym, subst}
-use mathlib.Core.List.{List}
+use mathlib.Core.Path.{◌≡◌, sym, subst, ap}
+use mathlib.Core.List.{List, []}
 use mathlib.Core.Option.{Option, none, some, none-ne-some}
 use lib.Seq.{slice}
 use Rattle.shapes.specs.Inner.{LineIs, NoLine, unended, keyless, shapeless, ValueIs}
+use lib.ListN.{length, drop_of_length-le}
+use Rattle.text.specs.Text.{parts}
 
 -- a key that is another one
 pub value_as : {s key key' : List ℕ} {at from to : ℕ} → key ≡ key' → ValueIs s at key from to → ValueIs s at key' from to
@@ -28,3 +30,8 @@ module _ {A : Type 0} (shape : List ℕ → Option A) {s key : List ℕ} {at : �
   line-unkeyed (unended l e) = unended l e
   line-unkeyed (keyless l next e k) = keyless l next e k
   line-unkeyed (shapeless v next e k) = absurd (none-ne-some v (sym k))
+
+-- Behind the last byte there is no line; for whoever proves about lines.
+pub past_end : {A : Type 0} (shape : List ℕ → Option A) (s key : List ℕ) (at : ℕ) → length s ≤ at → NoLine shape s at key
+unfolding parts
+past_end shape s key at h = unended [] (ap (parts 10) (drop_of_length-le s h))

@@ -24,13 +24,13 @@ use Rattle.text.proofs.Read.{number_of-plain}
 use Rattle.text.proofs.Exact.{Plain, plain, number_of-exact}
 use Rattle.records.specs.Numbers.{globally}
 use Rattle.page.specs.Page.{dash, global_word}
-use Rattle.shapes.specs.Shapes.{word, figure, figure_or_dash, party_of}
-use Rattle.shapes.specs.Inner.{coded_by}
+use Rattle.shapes.specs.Shapes.{word, figure, figure_or_dash, party_of, next}
+use Rattle.shapes.specs.Inner.{coded_by, word_is}
 use Rattle.shapes.proofs.Pieces.{decimal-only}
 use Rattle.std.specs.Prelude as option
 use Rattle.std.specs.Prelude.{Some, None}
 use Rattle.shapes.specs.Inner.{SaidIs, NotSaid, FigureTo}
-use Rattle.shapes.proofs.Marks.{Free, word-free, either-free}
+use Rattle.shapes.proofs.Marks.{Free, word-free, either-free, named, unnamed, either_first, either_second, neither}
 use Rattle.shapes.proofs.Marks.{same-front, found-behind, not_behind}
 
 -- NUMBERS
@@ -197,3 +197,21 @@ module _ (w : List ℕ) where
       pub coded-figure : (r : option.Option (ℕ × ℕ)) → FigureTo figure d s i r → FigureTo (coded_by w) d s from r
       coded-figure (Some r) x = coded-said x
       coded-figure None x = coded-unsaid x
+
+-- Laws of a number or a word, for whoever proves about them.
+module _ {d : ℕ} {s : List ℕ} {from : ℕ} where
+  pub dash-said : {next : ℕ} → SaidIs (word_is (text dash)) d s from true next → SaidIs figure_or_dash d s from 0 next
+  dash-said x = either_first (word dash 0) figure (named 0 x)
+
+  pub dash-or-figure : NotSaid (word_is (text dash)) d s from
+      → (r : option.Option (ℕ × ℕ)) → FigureTo figure d s from r → FigureTo figure_or_dash d s from r
+  dash-or-figure n (Some r) x = either_second (word dash 0) figure (unnamed 0 n) x
+  dash-or-figure n None x = neither (word dash 0) figure (unnamed 0 n) x
+
+  pub global-said : {next : ℕ} → SaidIs (word_is (text global_word)) d s from true next → SaidIs party_of d s from globally next
+  global-said x = either_first (word global_word globally) figure (named globally x)
+
+  pub global-or-figure : NotSaid (word_is (text global_word)) d s from
+      → (r : option.Option (ℕ × ℕ)) → FigureTo figure d s from r → FigureTo party_of d s from r
+  global-or-figure n (Some r) x = either_second (word global_word globally) figure (unnamed globally n) x
+  global-or-figure n None x = neither (word global_word globally) figure (unnamed globally n) x

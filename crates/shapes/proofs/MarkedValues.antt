@@ -14,13 +14,14 @@ use Rattle.tracks.specs.declared.held.Run.{Run}
 use Rattle.page.specs.Page.{dash, tracks_word, son_word, lock_word, any_number}
 use Rattle.shapes.specs.Shapes.{Parts, next, over, into, or_else, word, figure, figure_or_dash, party_of, coded, reason_of}
 use Rattle.shapes.specs.Shapes.{Span, span_of, run_in, Numbered, numbered}
-use Rattle.shapes.specs.Inner.{byte, coded_by, narrow_why, narrow_run, narrow_numbered}
+use Rattle.shapes.specs.Inner.{byte, coded_by, narrow_why, narrow_run, narrow_numbered, two_bytes, word_is}
 use Rattle.shapes.specs.Inner.{reason_in, held_in, number_in, run_of, numbered_of}
 use Rattle.shapes.specs.Inner.{SaidIs, NotSaid}
-use Rattle.shapes.proofs.Marks.{Free, word-free, either-free}
+use Rattle.shapes.proofs.Marks.{Free, word-free, either-free, named, unnamed, either_first, either_second, neither}
 use Rattle.shapes.proofs.Marks.{into-free, into-said, into-unsaid}
 use Rattle.shapes.proofs.Marks.{first-free, first-unsaid, then-said, then-unsaid, last-free, last-said, last-unsaid}
 use Rattle.shapes.proofs.MarkedFigures.{figure-free, party-free, dashed-free, coded-free}
+use mathlib.Core.Bool.{true}
 
 -- A RUN
 abbrev spanned : ℕ → Parts Span
@@ -149,3 +150,48 @@ reason-free =
     (either-free (λ v. into Son (coded son_word v)) or_lock (for-free Son (text son_word) refl)
     (either-free (λ v. into Lock (coded lock_word v)) or_number (for-free Lock (text lock_word) refl)
     (word-free Number (text any_number) 10 refl)))))
+
+-- Laws of the reason that a program waits for, word by word, for whoever proves about it.
+module _ {s : List ℕ} {from : ℕ} where
+  pub why-nothing : {next : ℕ} → SaidIs (word_is (text dash)) 10 s from true next → SaidIs reason_in 10 s from Nothing next
+  why-nothing x = into-said narrow_why reason_of (either_first (word dash Nothing) or_tracks (named Nothing x))
+
+  module _ (d : NotSaid (word_is (text dash)) 10 s from) where
+    not-nothing : {w : Why} {next : ℕ} → SaidIs or_tracks 10 s from w next → SaidIs reason_in 10 s from (narrow_why w) next
+    not-nothing x = into-said narrow_why reason_of (either_second (word dash Nothing) or_tracks (unnamed Nothing d) x)
+
+    pub why-tracks : {n m next : ℕ} → SaidIs (coded tracks_word) 10 s from n next → m ≡ two_bytes n
+        → SaidIs reason_in 10 s from (Tracks m) next
+    why-tracks {next = next} x e =
+        subst (λ (k : ℕ). SaidIs reason_in 10 s from (Tracks k) next) (sym e)
+        (not-nothing (either_first (λ v. into Tracks (coded tracks_word v)) or_son (into-said Tracks (coded tracks_word) x)))
+
+    module _ (t : NotSaid (coded tracks_word) 10 s from) where
+      not-tracks : {w : Why} {next : ℕ} → SaidIs or_son 10 s from w next → SaidIs reason_in 10 s from (narrow_why w) next
+      not-tracks x = not-nothing (either_second (λ v. into Tracks (coded tracks_word v)) or_son (into-unsaid Tracks (coded tracks_word) t) x)
+
+      pub why-son : {n m next : ℕ} → SaidIs (coded son_word) 10 s from n next → m ≡ byte n → SaidIs reason_in 10 s from (Son m) next
+      why-son {next = next} x e =
+          subst (λ (k : ℕ). SaidIs reason_in 10 s from (Son k) next) (sym e)
+          (not-tracks (either_first (λ v. into Son (coded son_word v)) or_lock (into-said Son (coded son_word) x)))
+
+      module _ (u : NotSaid (coded son_word) 10 s from) where
+        not-son : {w : Why} {next : ℕ} → SaidIs or_lock 10 s from w next → SaidIs reason_in 10 s from (narrow_why w) next
+        not-son x = not-tracks (either_second (λ v. into Son (coded son_word v)) or_lock (into-unsaid Son (coded son_word) u) x)
+
+        pub why-lock : {n m next : ℕ} → SaidIs (coded lock_word) 10 s from n next → m ≡ byte n → SaidIs reason_in 10 s from (Lock m) next
+        why-lock {next = next} x e =
+            subst (λ (k : ℕ). SaidIs reason_in 10 s from (Lock k) next) (sym e)
+            (not-son (either_first (λ v. into Lock (coded lock_word v)) or_number (into-said Lock (coded lock_word) x)))
+
+        module _ (l : NotSaid (coded lock_word) 10 s from) where
+          pub why-number : {next : ℕ} → SaidIs (word_is (text any_number)) 10 s from true next → SaidIs reason_in 10 s from Number next
+          why-number x =
+              not-son (either_second (λ v. into Lock (coded lock_word v)) or_number (into-unsaid Lock (coded lock_word) l) (named Number x))
+
+          pub why-none : NotSaid (word_is (text any_number)) 10 s from → NotSaid reason_in 10 s from
+          why-none n =
+              into-unsaid narrow_why reason_of (neither (word dash Nothing) or_tracks (unnamed Nothing d)
+              (neither (λ v. into Tracks (coded tracks_word v)) or_son (into-unsaid Tracks (coded tracks_word) t)
+              (neither (λ v. into Son (coded son_word v)) or_lock (into-unsaid Son (coded son_word) u)
+              (neither (λ v. into Lock (coded lock_word v)) or_number (into-unsaid Lock (coded lock_word) l) (unnamed Number n)))))

@@ -7,15 +7,16 @@ use mathlib.Core.List.{List, [], ◌∷◌, map}
 use mathlib.Core.Option.{Option, none, some, none-ne-some}
 use lib.Dec.{eqb}
 use lib.ListN.{length, get_or, drop, set, drop_of_length-le}
-use lib.Seq.{drop-cons}
+use lib.Seq.{drop-cons, set_out}
 use Rattle.std.proofs.Common.{add-one}
-use borrow.Author.Tests.{eq-eqb, ne_eqb}
+use borrow.Author.Tests.{eq-eqb, ne_eqb, lt-ltb, le-ltb}
 use Rattle.std.specs.Prelude.{Some, None}
 use Rattle.std.specs.List.{slice_split, onto_first}
 use Rattle.text.specs.Text.{on_first, parts}
 use Rattle.chains.specs.Links.{lay_chain}
 use Rattle.shapes.specs.Shapes.{into, figure, each, listed}
-use Rattle.shapes.specs.Inner.{byte, ChainRead}
+use Rattle.shapes.specs.Inner.{byte, ChainRead, two_bytes}
+use native.Mathlib.Omega.{arith}
 
 -- THE PARTS OF A TEXT
 -- what `split` gives is the parts between the bytes d
@@ -82,3 +83,21 @@ module _ {v links l : List ℕ} {state slot i : ℕ} (g : Chaining v links state
         again none = refl
         again (some c) =
             ap₂ (λ (t : List ℕ) (j : ℕ). some (lay_chain t j (map byte c))) (sym (w ∙ ap (set l slot) e)) (ap (λ (x : ℕ). 7 + x) (sym e))
+
+-- Laws of numbers in bytes, for whoever proves about them.
+pub byte_small : (n : ℕ) → n < 256 → n ≡ byte n
+byte_small n h = sym (ap (λ (t : Bool). cond t n 255) (lt-ltb n 256 h))
+
+pub byte-large : (n : ℕ) → 256 ≤ n → 255 ≡ byte n
+byte-large n h = sym (ap (λ (t : Bool). cond t n 255) (le-ltb n 256 h))
+
+pub two-small : (n : ℕ) → n < 65536 → n ≡ two_bytes n
+two-small n h = sym (ap (λ (t : Bool). cond t n 65535) (lt-ltb n 65536 h))
+
+pub two-large : (n : ℕ) → 65536 ≤ n → 65535 ≡ two_bytes n
+two-large n h = sym (ap (λ (t : Bool). cond t n 65535) (le-ltb n 65536 h))
+
+-- nothing is stored behind the slots
+
+pub stored : (l : List ℕ) (slot p : ℕ) {k : List ℕ} → length l ≡ 40 → 40 ≤ slot → k ≡ l → k ≡ set l slot p
+stored l slot p n h e = e ∙ sym (set_out l slot p (omega arith))

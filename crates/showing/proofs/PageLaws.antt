@@ -4,26 +4,33 @@ use Prim.Native.Nat.{ℕ, zero, suc, ◌+◌, ◌-◌, ◌≤◌, ◌<◌}
 use native.Mathlib.Decide.{dec_lt}
 use native.Mathlib.Omega.{arith}
 use mathlib.Core.Path.{◌≡◌, refl, sym, ap, ◌∙◌}
-use mathlib.Core.Bool.{Bool, true, false, cond}
-use mathlib.Core.List.{List, [], ◌∷◌, ◌++◌}
-use lib.Dec.{eqb}
+use mathlib.Core.Bool.{Bool, true, false, cond, ◌&&◌}
+use mathlib.Core.List.{List, [], ◌∷◌, ◌++◌, append_assoc, append-nil}
+use lib.Dec.{eqb, leb}
 use lib.ListN.{length, get_or, take, drop, length-append}
 use lib.Seq.{slice, length-slice}
 use Rattle.text.specs.Lines.{lines_of}
-use Rattle.text.specs.Inner.{PartEnd}
+use Rattle.text.specs.Inner.{PartEnd, Wrote}
 use Rattle.text.proofs.Fields.{until, part_end}
 use Rattle.text.proofs.Lines.{lines_none, lines_next}
 use Rattle.rules.specs.Answers.{number, values}
 use Rattle.rules.specs.declared.Answer.{Answer}
-use Rattle.rules.specs.declared.Answer.TheVariants.{NotRead}
+use Rattle.rules.specs.declared.Answer.TheVariants.{NotRead, NotAllowed}
 use Rattle.following.proofs.Fifteen.{not-fifteen}
 use Rattle.tables.specs.declared.Outcome.{Outcome}
 use Rattle.tables.specs.Calls.{Result, told}
 use Rattle.transcripts.proofs.LineLaws.{part-taken}
 use Rattle.reader.specs.Reading.{reading}
-use Rattle.transcripts.specs.Listing.{Filled}
-use Rattle.showing.specs.Showing.{line_of_number, page_bytes, page_shown}
-use Rattle.showing.specs.Inner.{bad_text, read_shown}
+use Rattle.transcripts.specs.Listing.{Filled, answered}
+use Rattle.showing.specs.Showing.{line_of_number, page_bytes, page_shown, shown_in, longest_name, longest_page, is_taken, page_text}
+use Rattle.showing.specs.Inner.{bad_text, read_shown, page_text_room}
+use borrow.Author.Tests.{le-leb, lt-leb}
+use Rattle.lists.specs.Lists.{join}
+use Rattle.lists.proofs.Tests.{and, not-both}
+use Rattle.text.specs.Text.{text}
+use Rattle.page.proofs.Writing.{wrote_as}
+use Rattle.console.specs.Sheet.{answer_of}
+use Rattle.showing.proofs.ShownLaws.{answer-most}
 
 -- LINE n OF A TEXT
 none-there : (n : ℕ) → line_of_number n [] ≡ []
@@ -101,3 +108,51 @@ unfolding page_bytes page_shown
 page-shown name s out o e g =
     ap (λ (x : Filled). record { read = told o; shown = x }) g
     ∙ ap (λ (r : Result). record { read = r; shown = read_shown name s r.number r.values out }) e
+
+-- Laws of a page as it is shown, for whoever proves about it.
+-- what is written, from a buffer and of bytes under other names
+pub wrote-from : {l₀ l x y l' : List ℕ} {at n : ℕ} → l ≡ l₀ → x ≡ y → Wrote l at y l' n → Wrote l₀ at x l' n
+wrote-from e f w = wrote_as f (rw e at w)
+
+-- its pieces, and the room that they take
+
+abbrev pub page_pieces : List ℕ → List ℕ → ℕ → List ℕ → List (List ℕ)
+page_pieces name s a vs = name ∷ text ": " ∷ answer_of a vs ∷ bad_text s a vs ∷ []
+
+module _ (a b c d : List ℕ) where
+  four : a ++ b ++ c ++ d ≡ join (a ∷ b ∷ c ∷ d ∷ [])
+  four = simp (append_assoc, append-nil)
+
+  four-long : length (a ++ b ++ c ++ d) ≡ length a + length b + length c + length d
+  four-long = simp length-append
+
+pub page-pieces : (name s : List ℕ) (a : ℕ) (vs : List ℕ) → page_text name s a vs ≡ join (page_pieces name s a vs)
+page-pieces name s a vs = four name (text ": ") (answer_of a vs) (bad_text s a vs)
+
+pub page-room : (name s : List ℕ) (a : Answer) → length name ≤ longest_name → length s ≤ longest_page
+    → length (page_text name s (number a) (values a)) ≤ page_text_room
+page-room name s a h k =
+    omega (
+      arith,
+      four-long name (text ": ") (answer_of (number a) (values a)) (bad_text s (number a) (values a)),
+      answer-most a,
+      bad-most s (number a) (values a),
+    )
+
+-- what is handed back for it
+
+module _ (name s : List ℕ) (a : ℕ) (vs out : List ℕ) where
+  by-taken : (b : Bool) → is_taken name s ≡ b
+      → read_shown name s a vs out ≡ cond b (shown_in (page_text name s a vs) out) (answered NotAllowed out)
+  by-taken b e = ap (λ (t : Bool). cond t (shown_in (page_text name s a vs) out) (answered NotAllowed out)) e
+
+  pub long-name : longest_name < length name → answered NotAllowed out ≡ read_shown name s a vs out
+  long-name h = sym (by-taken false (ap (λ (t : Bool). t && leb (length s) longest_page) (lt-leb (length name) longest_name h)))
+
+  pub long-page : longest_page < length s → answered NotAllowed out ≡ read_shown name s a vs out
+  long-page h =
+      sym (by-taken false (not-both (leb (length name) longest_name) (leb (length s) longest_page) (lt-leb (length s) longest_page h)))
+
+  pub page-taken : length name ≤ longest_name → length s ≤ longest_page
+      → shown_in (page_text name s a vs) out ≡ read_shown name s a vs out
+  page-taken h k = sym (by-taken true (and (le-leb (length name) longest_name h) (le-leb (length s) longest_page k)))

@@ -1,6 +1,6 @@
 -- A request as it is shown: its bytes, its refusal, how long its pieces are, and what is handed back for it.
 -- Assumes nothing.
-use Prim.Native.Nat.{ℕ, ◌+◌, ◌-◌, ◌≤◌, ◌<◌, min}
+use Prim.Native.Nat.{ℕ, ◌+◌, ◌-◌, ◌≤◌, ◌<◌, min, zero, suc}
 use native.Mathlib.Decide.{dec_lt}
 use native.Mathlib.Omega.{arith}
 use mathlib.Core.Path.{◌≡◌, refl, sym, ap, ◌∙◌}
@@ -8,12 +8,12 @@ use mathlib.Core.Bool.{Bool, true, false, cond}
 use mathlib.Core.List.{List, [], ◌∷◌, ◌++◌, map, append_assoc, append-nil}
 use lib.Dec.{leb, ltb}
 use lib.ListN.{length, get_or, take, drop, length-append, length-take, length-map, get_or-eq_default, drop_of_length-le}
-use lib.Seq.{length-take-le, take_all}
-use borrow.Author.Tests.{leb-true, lt-ltb, le-ltb, le-leb}
+use lib.Seq.{length-take-le, take_all, get_or-take}
+use borrow.Author.Tests.{leb-true, lt-ltb, le-ltb, le-leb, lt-leb}
 use Rattle.limits.specs.Limits.{longest_line}
 use Rattle.lists.specs.Lists.{join}
 use Rattle.lists.proofs.Tests.{along-in}
-use Rattle.text.specs.Text.{text}
+use Rattle.text.specs.Text.{text, decimal}
 use Rattle.text.proofs.Laws.{decimal-most}
 use Rattle.rules.specs.Answers.{number, values}
 use Rattle.rules.specs.declared.Answer.{Answer}
@@ -29,7 +29,7 @@ use Rattle.console.specs.Console.{keyed}
 use Rattle.console.specs.Sheet.{lent, answer_of}
 use Rattle.showing.specs.Showing.{shown_in, with_tables, shown_byte, shown_request, meanings, refusal, answer_text, request_text}
 use Rattle.showing.specs.Showing.{request_bytes, request_shown}
-use Rattle.showing.specs.Inner.{meant}
+use Rattle.showing.specs.Inner.{meant, request_room}
 use Rattle.showing.proofs.ShownLaws.{answer-some, answer-most, put-front}
 
 -- A LINE'S BYTES
@@ -137,3 +137,43 @@ module _ (t : Tables) (n : ℕ) (l : List ℕ) (o : Outcome) {space : List ℕ} 
       ap (λ (i : ℕ). with_tables t o.tables (answered (Done i) after)) e
       ∙ shown-as out (answered (Done (length shown_text)) after)
       (filled-long (length shown_text) shown_text out after (omega arith) (put-front shown_text out m e h w))
+
+-- Laws of a request as it is shown, for whoever proves about it: its bytes one by one, and what stands behind a long line.
+map_at : (f : ℕ → ℕ) (xs : List ℕ) (i : ℕ) → i < length xs → get_or (map f xs) i 0 ≡ f (get_or xs i 0)
+map_at f [] i h = absurd (omega arith)
+map_at f (x ∷ xs) zero h = refl
+map_at f (x ∷ xs) (suc i) h = map_at f xs i (omega arith)
+
+pub byte_at : (l : List ℕ) (i : ℕ) → i < length (line_bytes l) → get_or (line_bytes l) i 0 ≡ shown_byte (get_or l i 0)
+byte_at l i h =
+    map_at shown_byte (take longest_line l) i (omega (arith, length-map (take longest_line l) shown_byte))
+    ∙ ap shown_byte (get_or-take longest_line l i 0 (omega (arith, bytes-long l)))
+
+pub tail-dots : (l : List ℕ) → longest_line < length l → line_tail l ≡ text ".."
+tail-dots l h = ap tail (lt-leb (length l) longest_line h)
+
+-- its pieces, and the room that they take
+
+abbrev pub request_pieces : ℕ → List ℕ → ℕ → List ℕ → List (List ℕ)
+request_pieces n l a vs = decimal n ∷ text ": " ∷ shown_request l ∷ text " -> " ∷ answer_text a vs ∷ refusal a ∷ (10 ∷ []) ∷ []
+
+module _ (a b c d e f g : List ℕ) where
+  seven : a ++ b ++ c ++ d ++ e ++ f ++ g ≡ join (a ∷ b ∷ c ∷ d ∷ e ∷ f ∷ g ∷ [])
+  seven = simp (append_assoc, append-nil)
+
+  seven-long : length (a ++ b ++ c ++ d ++ e ++ f ++ g) ≡ length a + length b + length c + length d + length e + length f + length g
+  seven-long = simp length-append
+
+pub request-pieces : (n : ℕ) (l : List ℕ) (a : ℕ) (vs : List ℕ) → request_text n l a vs ≡ join (request_pieces n l a vs)
+request-pieces n l a vs = seven (decimal n) (text ": ") (shown_request l) (text " -> ") (answer_text a vs) (refusal a) (10 ∷ [])
+
+pub request-room : (n : ℕ) (l : List ℕ) (a : Answer) → length (request_text n l (number a) (values a)) ≤ request_room
+request-room n l a =
+    omega (
+      arith,
+      seven-long (decimal n) (text ": ") (shown_request l) (text " -> ") (answer_text (number a) (values a)) (refusal (number a)) (10 ∷ []),
+      decimal-most n,
+      shown-most l,
+      text-most a,
+      refusal-most (number a),
+    )

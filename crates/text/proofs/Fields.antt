@@ -5,7 +5,7 @@ use Prim.Native.Nat.{ℕ, zero, suc, ◌+◌, ◌-◌, ◌<◌, ◌≤◌}
 use native.Mathlib.Nat.{suc-add, zero-add}
 use native.Mathlib.Numerals.{add-one}
 use native.Mathlib.Omega.{arith}
-use mathlib.Core.Path.{◌≡◌, refl, sym, ap, subst, ◌∙◌}
+use mathlib.Core.Path.{◌≡◌, refl, sym, ap, subst, ◌∙◌, ap₂}
 use mathlib.Core.Logic.{◌≢◌}
 use mathlib.Core.Bool.{Bool, true, false, cond, ◌&&◌}
 use mathlib.Core.List.{List, [], ◌∷◌, ◌++◌}
@@ -150,3 +150,24 @@ alike-not a b n = go (alike a b) refl
     go : (t : Bool) → alike a b ≡ t → t ≡ false
     go true e = absurd (n (alike-true a b e))
     go false e = refl
+
+-- Laws of `until` and `alike`, a byte at a time, for whoever proves about them.
+pub until-hit : (d : ℕ) (s : List ℕ) (i : ℕ) → i < length s → get_or s i 0 ≡ d → until d (drop i s) ≡ 0
+unfolding until
+until-hit d s i h e = ap (until d) (drop-cons s i 0 h) ∙ simp (eq-eqb (get_or s i 0) d e)
+
+pub until-miss : (d : ℕ) (s : List ℕ) (i : ℕ) → i < length s → (get_or s i 0 ≡ d → ⊥) → until d (drop i s) ≡ suc (until d (drop (i + 1) s))
+unfolding until
+until-miss d s i h e = rw (add-one i) (ap (until d) (drop-cons s i 0 h) ∙ simp (ne_eqb (get_or s i 0) d e))
+
+-- two texts, from o and from i on
+module _ (s w : List ℕ) (o i t : ℕ) (h : o < t) (k : t ≤ length s) (l : i < length w) where
+  alike_next : (b : Bool) → eqb (get_or s o 0) (get_or w i 0) ≡ b
+      → alike (slice o t s) (drop i w) ≡ (b && alike (slice (o + 1) t s) (drop (i + 1) w))
+  alike_next b e = ap₂ alike (slice-next s o t h k) (drop-next w i l) ∙ ap (λ (c : Bool). c && alike (slice (o + 1) t s) (drop (i + 1) w)) e
+
+  pub alike-on : get_or s o 0 ≡ get_or w i 0 → alike (slice o t s) (drop i w) ≡ alike (slice (o + 1) t s) (drop (i + 1) w)
+  alike-on e = alike_next true (eq-eqb (get_or s o 0) (get_or w i 0) e)
+
+  pub alike-differ : (get_or s o 0 ≡ get_or w i 0 → ⊥) → alike (slice o t s) (drop i w) ≡ false
+  alike-differ n = alike_next false (ne_eqb (get_or s o 0) (get_or w i 0) n)

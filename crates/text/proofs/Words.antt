@@ -1,15 +1,15 @@
 -- Laws of a word that a text begins with, and of a line that a text begins with.
 -- Assumes nothing.
-use Prim.Native.Nat.{ℕ, ◌+◌, ◌-◌, ◌≤◌}
+use Prim.Native.Nat.{ℕ, ◌+◌, ◌-◌, ◌≤◌, ◌<◌}
 use native.Mathlib.Omega.{arith}
 use mathlib.Core.Path.{◌≡◌, refl, sym, ap, ap₂, subst, ◌∙◌}
 use mathlib.Core.Bool.{Bool, true, false, cond, not}
 use mathlib.Core.List.{List, [], ◌∷◌, ◌++◌}
 use mathlib.Core.Option.{Option, none, some}
 use lib.Dec.{eqb}
-use lib.ListN.{length, take, drop, length-take, take-append-drop}
+use lib.ListN.{length, take, drop, length-take, take-append-drop, get_or}
 use lib.Seq.{slice, take_at, drop-drop, length-slice}
-use borrow.Author.Tests.{eq-eqb, eqb-true, not-true}
+use borrow.Author.Tests.{eq-eqb, eqb-true, not-true, ne_eqb}
 use Rattle.lists.specs.Lists.{every}
 use Rattle.lists.proofs.Tests.{both}
 use Rattle.std.specs.Prelude.{Some, None}
@@ -18,7 +18,7 @@ use Rattle.std.proofs.Common.{nat_eq}
 use lib.Pointwise.{pointwise}
 use Rattle.text.specs.Text.{on_first, parts, behind}
 use Rattle.text.specs.Inner.{Behind, BehindAt}
-use Rattle.text.proofs.Fields.{drop-take}
+use Rattle.text.proofs.Fields.{drop-take, drop-next, slice-next}
 
 -- the next byte of both
 abbrev next : List ℕ → List ℕ → Bool → Option (List ℕ)
@@ -107,3 +107,32 @@ parts_last d (x ∷ l) e =
     let b = both (not (eqb x d)) (every (λ c. not (eqb c d)) l) e in
     ap (λ (t : Bool). cond t ([] ∷ parts d l) (on_first x (parts d l))) (not-true (eqb x d) b.0)
     ∙ ap (on_first x) (parts_last d l b.1)
+
+-- Laws of `behind`, a byte at a time, for whoever proves about it.
+pub behind-short : (w s : List ℕ) → length s < length w → behind w s ≡ none
+unfolding behind
+behind-short [] s h = absurd (omega arith)
+behind-short (x ∷ w) [] h = refl
+behind-short (x ∷ w) (c ∷ s) h = go (eqb x c) (behind-short w s (omega arith))
+  where
+    go : (b : Bool) → behind w s ≡ none → next w s b ≡ none
+    go true ih = ih
+    go false ih = refl
+
+pub behind-nothing : (w s : List ℕ) → w ≡ [] → behind w s ≡ some s
+unfolding behind
+behind-nothing w s e = ap (λ (x : List ℕ). behind x s) e
+
+-- the word from i on, and the text from o on
+module _ (s w : List ℕ) (o i t : ℕ) (h : o < t) (k : t ≤ length s) (l : i < length w) where
+  both-next : (b : Bool) → eqb (get_or w i 0) (get_or s o 0) ≡ b
+      → behind (drop i w) (slice o t s) ≡ next (drop (i + 1) w) (slice (o + 1) t s) b
+  both-next b e =
+      ap₂ behind (drop-next w i l) (slice-next s o t h k)
+      ∙ behind-next (get_or w i 0) (get_or s o 0) (drop (i + 1) w) (slice (o + 1) t s) b e
+
+  pub behind-on : get_or s o 0 ≡ get_or w i 0 → behind (drop i w) (slice o t s) ≡ behind (drop (i + 1) w) (slice (o + 1) t s)
+  behind-on e = both-next true (eq-eqb (get_or w i 0) (get_or s o 0) (sym e))
+
+  pub behind-differ : (get_or s o 0 ≡ get_or w i 0 → ⊥) → behind (drop i w) (slice o t s) ≡ none
+  behind-differ n = both-next false (ne_eqb (get_or w i 0) (get_or s o 0) (λ e. n (sym e)))

@@ -9,7 +9,7 @@ use mathlib.Core.Bool.{Bool, true, false, cond}
 use mathlib.Core.List.{List, [], ◌∷◌, ◌++◌, append-nil, append_assoc}
 use mathlib.Core.Option.{none, some}
 use lib.ListN.{length, get_or, set, take, drop, replicate, drop_of_length-le, replicate-append-replicate}
-use lib.Seq.{take_all, drop-cons, set-get_or, set-append_left, drop_at}
+use lib.Seq.{take_all, drop-cons, set-get_or, set-append_left, drop_at, take_at}
 use lib.Dec.{eqb}
 use native.Mathlib.Decide.{ℕ_discrete}
 use native.Mathlib.Nat.{min-le_left}
@@ -210,3 +210,26 @@ run-count h (suc n) (x ∷ xs) = go (ℕ_discrete x h) (run-count h n xs)
 
 pub run-counted : (h n : ℕ) (xs : List ℕ) → eqb (count_by (λ x. eqb x h) (take n xs)) n ≡ run h n xs
 run-counted h n xs = ap (λ (k : ℕ). eqb k n) (sym (counted h (take n xs))) ∙ run-count h n xs
+
+-- Laws of the tracks that are passed on and of fresh ones, a track at a time, for whoever proves about them.
+pub passed-done : (t : Tracks) → Fit t → length (holders t) ≡ t.count → (p h : ℕ)
+    → passed p h t.count t.holders ≡ replaced p h (holders t) ++ replicate (256 - t.count) nobody
+passed-done t f e p h =
+    ap (passed p h t.count) (laid f)
+    ∙ ap₂ (λ (a b : List ℕ). replaced p h a ++ b)
+    (take_at (holders t) (replicate (256 - t.count) nobody) t.count e)
+    (drop_at (holders t) (replicate (256 - t.count) nobody) t.count e)
+
+-- fresh tracks, zs being the array: those before i are the system's
+fresh_step : (a b i m : ℕ) → set (replicate i a ++ replicate (suc m) b) i a ≡ replicate (suc i) a ++ replicate m b
+fresh_step a b zero m = refl
+fresh_step a b (suc i) m = ap (λ (ys : List ℕ). a ∷ ys) (fresh_step a b i m)
+
+pub fresh-turn : (a b N i : ℕ) (zs : List ℕ) → i < N → zs ≡ replicate i a ++ replicate (N - i) b
+    → set zs i a ≡ replicate (i + 1) a ++ replicate (N - (i + 1)) b
+fresh-turn a b N i zs l z =
+    let e : N - i ≡ suc (N - (i + 1)) = omega arith in
+    ap (λ (ys : List ℕ). set ys i a) z
+    ∙ ap (λ (k : ℕ). set (replicate i a ++ replicate k b) i a) e
+    ∙ fresh_step a b i (N - (i + 1))
+    ∙ ap (λ (k : ℕ). replicate k a ++ replicate (N - (i + 1)) b) (sym (add-one i))
