@@ -11,7 +11,7 @@ use lib.ListN.{length, get_or, take, drop, drop_of_length-le}
 use lib.Seq.{get_or-take, drop-cons}
 use Rattle.std.specs.List.{count_by, filter}
 use Rattle.std.proofs.lemmas.List.Sums.{length-filter}
-use Rattle.limits.specs.Limits.{most_programs}
+use Rattle.limits.specs.Limits.{most_programs, states}
 use Rattle.lists.specs.Lists.{keep, from, join, every, up_to}
 use Rattle.lists.proofs.Tests.{both, up_to-true}
 use Rattle.records.specs.declared.Program.{Program}
@@ -22,7 +22,7 @@ use Rattle.records.proofs.Find.{at_place}
 use Rattle.records.proofs.Search.{span, span-all, span-next, span_none}
 use Rattle.tracks.specs.declared.held.Run.{Run}
 use Rattle.tracks.specs.Inner.{RunFrom}
-use Rattle.tracks.proofs.RunLaws.{runs_from}
+use Rattle.tracks.proofs.RunLaws.{runs_from, runs_past}
 use Rattle.chains.specs.Links.{walk, read}
 use Rattle.chains.proofs.Reading.{get_d_read}
 use Rattle.page.specs.Page.{bytes_of, bytes, chained, used_in, recorded, record_lines, chain_line, chain_lines}
@@ -138,3 +138,16 @@ module _ (n : ℕ) (xs : List Resource) where
       ap numbers_of (span-next (i + 1) n (omega arith))
       ∙ ap (λ (x : Resource). bytes (number_line (i + 1) x) ∷ numbers_from (i + 1))
       (ap (λ (k : ℕ). get_or (take n xs) k free) e ∙ get_or-take n xs i free h)
+
+-- Laws of pieces that are over, and of the states that are shown, for whoever proves about them.
+pub chained-most : (i : ℕ) → i < length chained → get_or chained i 0 < states
+chained-most i h = omega (arith, up_to-true 1 6 (get_or chained i 0) (state-at chained refl i h))
+
+pub chains-past : (l : List ℕ) (i : ℕ) → length chained ≤ i → chains_from l i ≡ []
+chains-past l i h = ap (map (λ s. bytes_of (chain_line s (get_or (read l) s [])))) (drop_of_length-le chained {i = i} h)
+
+pub held-past : (hs : List ℕ) (i : ℕ) → length hs ≤ i → i ≤ length hs → held_from hs i ≡ []
+held-past hs i h l = ap (pieces held_line) (runs_past hs i h l)
+
+pub numbers-past : (n : ℕ) (xs : List Resource) (i : ℕ) → n ≤ i → numbers_from n xs i ≡ []
+numbers-past n xs i h = ap (numbers_of n xs) (span_none (i + 1) n (omega arith))

@@ -2,7 +2,6 @@
 -- its blanks, numbers joined by commas.
 -- Assumes nothing.
 use Prim.Native.Nat.{ℕ, suc, ◌+◌, ◌≤◌, ◌<◌}
-use native.Mathlib.Nat.{zero-add}
 use native.Mathlib.Numerals.{add-one}
 use native.Mathlib.Omega.{arith}
 use mathlib.Core.Path.{◌≡◌, refl, sym, ap, ap₂, ◌∙◌}
@@ -11,13 +10,13 @@ use mathlib.Core.Bool.{Bool, true, false, cond, not, ◌||◌}
 use mathlib.Core.List.{List, [], ◌∷◌, ◌++◌, map, append_assoc, append-nil}
 use lib.Dec.{eqb, ltb}
 use lib.ListN.{length, get_or, take, drop, set, drop_of_length-le, length-append}
-use lib.Seq.{sets-eq, drop-cons}
+use lib.Seq.{slice, slice-cons, length-take-le, drop-cons}
 use borrow.Author.Tests.{eq-eqb, ne_eqb}
 use Rattle.limits.specs.Limits.{usual_year}
 use Rattle.lists.specs.Lists.{join}
 use Rattle.text.specs.Text.{text, decimal, between, entry}
 use Rattle.text.specs.Inner.{Wrote}
-use Rattle.text.proofs.Laws.{Left}
+use Rattle.text.proofs.Laws.{Left, left_step}
 use Rattle.records.specs.declared.Resource.{Resource}
 use Rattle.records.specs.Names.{bare}
 use Rattle.records.specs.Numbers.{globally}
@@ -36,13 +35,6 @@ use Rattle.page.specs.Page.{held_line, number_line, parts, lines, page}
 -- what is written at a place, under another name
 pub wrote_as : {l x y l' : List ℕ} {at n : ℕ} → x ≡ y → Wrote l at y l' n → Wrote l at x l' n
 wrote_as e w = rw e w
-
--- a copy to the front
-pub wrote_front : (l x l' : List ℕ) (n : ℕ) → l' ≡ x → n ≡ length x → length x ≤ length l → Wrote l 0 x (l' ++ drop n l) n
-wrote_front l x l' n same e room = rw (same, e) (record {
-  buffer = sym (sets-eq x l 0 (omega arith) ∙ ap (λ (k : ℕ). x ++ drop k l) (zero-add (length x)));
-  place = sym (zero-add (length x));
-})
 
 pub left_as : {l₀ all l x y : List ℕ} {at₀ at : ℕ} → x ≡ y → Left l₀ at₀ all l at x → Left l₀ at₀ all l at y
 left_as e h = rw e at h
@@ -168,6 +160,36 @@ joined_cons x (y ∷ ys) = ap (λ (r : List ℕ). decimal x ++ (44 ∷ r)) (join
 pub others-here : (xs : List ℕ) (i : ℕ) → i < length xs
     → others (drop i xs) ≡ (44 ∷ decimal (get_or xs i 0)) ++ others (drop (i + 1) xs)
 others-here xs i h = rw (add-one i) (ap others (drop-cons xs i 0 h))
+
+-- Laws of values and lines, for whoever proves about them: one byte that is stored, the lines of a page, a blank of a name, numbers joined by
+-- commas.
+pub left-store : {l₀ all l rest : List ℕ} {at₀ at x : ℕ} → Left l₀ at₀ all l at (x ∷ rest) → Left l₀ at₀ all (set l at x) (at + 1) rest
+left-store {x = x} h = left_step (x ∷ []) h (record { buffer = refl; place = refl })
+
+pub bytes-lines : (ls : List Line) → bytes ls ≡ join (map bytes_of ls)
+unfolding bytes
+bytes-lines ls = refl
+
+pub bare-skip : (nm : List ℕ) (i : ℕ) → i < length nm → get_or nm i 0 ≡ 32 → bare (drop i nm) ≡ bare (drop (i + 1) nm)
+bare-skip nm i h e = bare-cons nm i true h (eq-eqb (get_or nm i 0) 32 e)
+
+pub joined-none : (xs : List ℕ) (n : ℕ) → n ≡ 0 → between 44 (map decimal (take n xs)) ≡ []
+joined-none xs n e = rw e refl
+
+pub joined-first : (xs : List ℕ) (n : ℕ) → 0 < n → n ≤ length xs
+    → between 44 (map decimal (take n xs)) ≡ decimal (get_or xs 0 0) ++ others (slice 1 n xs)
+joined-first xs n h k = ap (λ (r : List ℕ). between 44 (map decimal r)) (slice-cons 0 n xs 0 h k) ∙ joined_cons (get_or xs 0 0) (slice 1 n xs)
+
+-- the others from the one at i on, a piece for each
+abbrev pub others_from : List ℕ → ℕ → ℕ → List (List ℕ)
+others_from xs n i = map (λ x. 44 ∷ decimal x) (slice i n xs)
+
+pub others_next : (xs : List ℕ) (i n : ℕ) → i < n → n ≤ length xs
+    → others_from xs n i ≡ (44 ∷ decimal (get_or xs i 0)) ∷ others_from xs n (i + 1)
+others_next xs i n h k = rw (add-one i) (ap (map (λ x. 44 ∷ decimal x)) (slice-cons i n xs 0 h k))
+
+pub others-past : (xs : List ℕ) (i n : ℕ) → n ≤ i → n ≤ length xs → others_from xs n i ≡ []
+others-past xs i n h k = ap (map (λ x. 44 ∷ decimal x)) (drop_of_length-le (take n xs) {i = i} (omega (arith, length-take-le n xs k)))
 
 -- PIECES, as they are put one after the other: the head's, a record's, the page's
 pub head_put : (clock T S R Y n : ℕ) → bytes (head_lines clock T S R Y n)

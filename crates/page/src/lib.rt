@@ -65,9 +65,7 @@ pub fn put_page(buf: &mut [u8], tables: Tables) -> usize
 {
     let mut whole = ArrayVec::<u8, WIDEST>::new();
     put_lines(&mut whole, &tables);
-    let length = whole.len();
-    buf[..length].copy_from_slice(whole.as_slice());
-    length
+    text::put_bytes(buf, 0, whole.as_slice())
 }
 
 // PAGE: the page at the front of the lent buffer, the rest of it untouched; where it is too short, nothing is written.
