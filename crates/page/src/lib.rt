@@ -24,8 +24,8 @@ use tables::{Outcome, Tables};
 // Room for the page of any tables that have no more tracks and numbers than there can be, sound or not.
 const WIDEST: usize = 32768;
 
-// Puts the lines of a page.
-fn put_lines<const N: usize>(out: &mut ArrayVec<u8, N>, tables: &Tables)
+// Puts the lines of the page of tables, sound or not.
+pub fn put_lines<const N: usize>(out: &mut ArrayVec<u8, N>, tables: &Tables)
     requires tracks { tables.now.ledger.tracks.count ≤ most_tracks }
     requires numbers { tables.now.ledger.numbers.count ≤ most_numbers }
     requires room { length out.old.items + length (page (plain tables.now)) ≤ N }

@@ -23,6 +23,7 @@ pub(crate) fn put_name<const N: usize>(out: &mut ArrayVec<u8, N>, name: [u8; 5])
 }
 
 // A word and a number.
+#[inline(always)]
 pub(crate) fn put_coded<const N: usize>(out: &mut ArrayVec<u8, N>, word: &[u8], n: u64)
     requires { length out.old.items + length (word.now ++ decimal n) ≤ N }
     ensures { out.new.items ≡ out.old.items ++ (word.now ++ decimal n) }
@@ -32,6 +33,7 @@ pub(crate) fn put_coded<const N: usize>(out: &mut ArrayVec<u8, N>, word: &[u8], 
 }
 
 // A number and a byte.
+#[inline(always)]
 pub(crate) fn put_marked<const N: usize>(out: &mut ArrayVec<u8, N>, n: u64, mark: u8)
     requires { length out.old.items + length (decimal n ++ (mark ∷ [])) ≤ N }
     ensures { out.new.items ≡ out.old.items ++ (decimal n ++ (mark ∷ [])) }
@@ -41,6 +43,7 @@ pub(crate) fn put_marked<const N: usize>(out: &mut ArrayVec<u8, N>, n: u64, mark
 }
 
 // Why a program waits: a word, and for most a number.
+#[inline(always)]
 pub(crate) fn put_reason<const N: usize>(out: &mut ArrayVec<u8, N>, why: Why)
     requires { length out.old.items + length (reason why) ≤ N }
     ensures { out.new.items ≡ out.old.items ++ reason why }
@@ -55,6 +58,7 @@ pub(crate) fn put_reason<const N: usize>(out: &mut ArrayVec<u8, N>, why: Why)
 }
 
 // A number, or a dash where there is none.
+#[inline(always)]
 pub(crate) fn put_or_dash<const N: usize>(out: &mut ArrayVec<u8, N>, n: Option<u64>)
     requires { length out.old.items + length (or_none n) ≤ N }
     ensures { out.new.items ≡ out.old.items ++ or_none n }
@@ -66,6 +70,7 @@ pub(crate) fn put_or_dash<const N: usize>(out: &mut ArrayVec<u8, N>, n: Option<u
 }
 
 // A holder or an owner.
+#[inline(always)]
 pub(crate) fn put_party<const N: usize>(out: &mut ArrayVec<u8, N>, h: u8)
     requires { length out.old.items + length (party h) ≤ N }
     ensures { out.new.items ≡ out.old.items ++ party h }

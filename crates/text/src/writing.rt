@@ -5,6 +5,7 @@ ghost use Rattle.text.specs.Inner.{three_digits};
 
 use arrayvec::ArrayVec;
 
+#[inline(always)]
 pub fn put_bytes<const N: usize>(out: &mut ArrayVec<u8, N>, s: &[u8])
     requires { length out.old.items + length s.now ≤ N }
     ensures { out.new.items ≡ out.old.items ++ s.now }
@@ -13,6 +14,7 @@ pub fn put_bytes<const N: usize>(out: &mut ArrayVec<u8, N>, s: &[u8])
 }
 
 // The three digits of a number below 1,000, zeros in front of it too.
+#[inline(always)]
 fn put_three<const N: usize>(out: &mut ArrayVec<u8, N>, n: u64)
     requires n_bound { n < 1000 }
     requires room { length out.old.items + 3 ≤ N }
@@ -25,6 +27,7 @@ fn put_three<const N: usize>(out: &mut ArrayVec<u8, N>, n: u64)
 
 // A number below 1,000 in decimal.
 #[tactic(auto, using(crate::proofs::Laws::few_digits))]
+#[inline(always)]
 fn put_small<const N: usize>(out: &mut ArrayVec<u8, N>, n: u64)
     requires n_bound { n < 1000 }
     requires room { length out.old.items + length (decimal n) ≤ N }
@@ -60,6 +63,7 @@ fn put_large(out: &mut ArrayVec<u8, 20>, n: u64)
 
 // n in decimal. Most numbers of a page are small, and go to their place at once.
 #[tactic(auto, using(crate::proofs::Laws::all_digits))]
+#[inline(always)]
 pub fn put_number<const N: usize>(out: &mut ArrayVec<u8, N>, n: u64)
     requires { length out.old.items + length (decimal n) ≤ N }
     ensures { out.new.items ≡ out.old.items ++ decimal n }
@@ -74,6 +78,7 @@ pub fn put_number<const N: usize>(out: &mut ArrayVec<u8, N>, n: u64)
 }
 
 // The beginning of a line: a key, and `=`.
+#[inline(always)]
 pub fn put_key<const N: usize>(out: &mut ArrayVec<u8, N>, key: &[u8])
     requires { length out.old.items + length key.now + 1 ≤ N }
     ensures { out.new.items ≡ out.old.items ++ (key.now ++ (61 ∷ [])) }
@@ -84,6 +89,7 @@ pub fn put_key<const N: usize>(out: &mut ArrayVec<u8, N>, key: &[u8])
 
 // The line key=value.
 #[tactic(auto, unfolding(crate::specs::Text::entry))]
+#[inline(always)]
 pub fn put_entry<const N: usize>(out: &mut ArrayVec<u8, N>, key: &[u8], value: &[u8])
     requires { length out.old.items + length (entry key.now value.now) ≤ N }
     ensures { out.new.items ≡ out.old.items ++ entry key.now value.now }
@@ -95,6 +101,7 @@ pub fn put_entry<const N: usize>(out: &mut ArrayVec<u8, N>, key: &[u8], value: &
 
 // The line key=n.
 #[tactic(auto, unfolding(crate::specs::Text::entry))]
+#[inline(always)]
 pub fn put_figure<const N: usize>(out: &mut ArrayVec<u8, N>, key: &[u8], n: u64)
     requires { length out.old.items + length (entry key.now (decimal n)) ≤ N }
     ensures { out.new.items ≡ out.old.items ++ entry key.now (decimal n) }
