@@ -71,6 +71,7 @@ fn put_why_line<const N: usize>(out: &mut ArrayVec<u8, N>, key: &[u8], why: Why)
 
 // The line of a number that may be absent.
 #[tactic(auto, unfolding(text::specs::Text::entry))]
+#[inline(always)]
 fn put_or_dash_line<const N: usize>(out: &mut ArrayVec<u8, N>, key: &[u8], n: Option<u64>)
     requires { length out.old.items + length (entry key.now (or_none n)) ≤ N }
     ensures { out.new.items ≡ out.old.items ++ entry key.now (or_none n) }
