@@ -124,6 +124,7 @@ pub fn tables_at(s: &[u8]) -> Tables
 
 // Puts a number in two bytes, the lowest first.
 #[tactic(auto, using(crate::proofs::Figures::in_two))]
+#[inline(always)]
 fn put_pair<const N: usize>(out: &mut ArrayVec<u8, N>, n: u16)
     requires { length out.old.items + 2 ≤ N }
     ensures { out.new.items ≡ out.old.items ++ in_bytes 2 n }
@@ -141,6 +142,7 @@ pub fn put_long(buf: &mut [u8], at: usize, n: u64) -> usize
 
 // The same behind what a vector holds.
 #[tactic(auto, using(crate::proofs::Figures::in_eight))]
+#[inline(always)]
 pub fn push_long<const N: usize>(out: &mut ArrayVec<u8, N>, n: u64)
     requires { length out.old.items + 8 ≤ N }
     ensures { out.new.items ≡ out.old.items ++ in_bytes 8 n }
@@ -172,6 +174,7 @@ fn count_of(why: Why) -> u16
 }
 
 #[tactic(auto, unfolding(crate::specs::Packed::pack_program))]
+#[inline(always)]
 fn put_program<const N: usize>(out: &mut ArrayVec<u8, N>, r: &Program)
     requires { length out.old.items + 29 ≤ N }
     ensures items { out.new.items ≡ out.old.items ++ pack_program r.now }
@@ -210,6 +213,7 @@ fn put_resources<const N: usize>(out: &mut ArrayVec<u8, N>, resources: &[Resourc
 
 // The tables in 1,271 bytes.
 #[tactic(auto, unfolding(crate::specs::Packed::packed))]
+#[inline(always)]
 pub fn pack(tables: &Tables) -> ArrayVec<u8, PACKED_LENGTH>
     ensures items { result.items ≡ packed tables.now }
     ensures len { length result.items ≡ packed_length }
