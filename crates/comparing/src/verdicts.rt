@@ -14,6 +14,7 @@ ghost use Rattle.comparing.specs.Inner.{follows_text, parts_text};
 use super::differing;
 use super::sink::{Count, Lent};
 use arrayvec::ArrayVec;
+use limits::PAGE_ROOM;
 use rules::Answer;
 use showing::{LONGEST_NAME, LONGEST_PAGE};
 use tables::{Outcome, Tables};
@@ -60,11 +61,12 @@ fn show_held(tables: Tables, name: &[u8], next: &[u8], out: &mut [u8]) -> Answer
     ensures { answered result out.new
         ≡ shown_in (verdict_text name.now (held_against tables next.now)) out.old }
 {
-    let page = page::page_of(tables);
-    if text::rest_is(next, 0, page.as_slice()) {
+    let mut written = ArrayVec::<u8, PAGE_ROOM>::new();
+    page::put_lines(&mut written, &tables);
+    if text::rest_is(next, 0, written.as_slice()) {
         return show_follows(name, out);
     }
-    show_parts(name, next, page.as_slice(), out)
+    show_parts(name, next, written.as_slice(), out)
 }
 
 // Holds what tables write against the next page, and puts the verdict at the front of `out`: 0 and how many bytes, or 12 and how many are

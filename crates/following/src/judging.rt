@@ -6,6 +6,7 @@ ghost use Rattle.tables.specs.Sound.{sound};
 ghost use Rattle.blocks.specs.Blocks.{tables_after};
 ghost use Rattle.following.specs.Following.{held_against, verdict, briefly};
 
+use arrayvec::ArrayVec;
 use limits::PAGE_ROOM;
 use rules::Answer;
 use tables::Tables;
@@ -53,8 +54,9 @@ pub(crate) fn hold(tables: Tables, next: &[u8]) -> Verdict
     if console::number_of(given.answer) != 0 {
         return Verdict::NoNext(bad_line(given.answer));
     }
-    let page = page::page_of(tables);
-    if text::rest_is(next, 0, page.as_slice()) {
+    let mut written = ArrayVec::<u8, PAGE_ROOM>::new();
+    page::put_lines(&mut written, &tables);
+    if text::rest_is(next, 0, written.as_slice()) {
         return Verdict::Follows;
     }
     Verdict::DoesNotFollow

@@ -9,10 +9,11 @@ ghost use Rattle.tables.specs.Calls.{told};
 ghost use Rattle.reader.specs.Reading.{not_read, judged, reading};
 ghost use Rattle.reader.specs.Walks.{PageRead};
 
+use arrayvec::ArrayVec;
 use clock::Clock;
 pub use holding::{Reader, moved, open, read, read_page};
 use ledger::Ledger;
-use limits::USUAL_YEAR;
+use limits::{PAGE_ROOM, USUAL_YEAR};
 use parts::BadLine;
 use rules::Answer;
 use tables::{Outcome, Tables};
@@ -35,8 +36,9 @@ fn judge(s: &[u8], at: usize, tables: Tables) -> Outcome
     if !tables.is_sound() {
         return not_read(0);
     }
-    let page = page::page_of(tables);
-    if !text::rest_is(s, at, page.as_slice()) {
+    let mut written = ArrayVec::<u8, PAGE_ROOM>::new();
+    page::put_lines(&mut written, &tables);
+    if !text::rest_is(s, at, written.as_slice()) {
         return not_read(0);
     }
     Outcome {

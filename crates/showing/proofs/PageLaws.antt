@@ -129,6 +129,10 @@ module _ (a b c d : List ℕ) where
 pub page-pieces : (name s : List ℕ) (a : ℕ) (vs : List ℕ) → page_text name s a vs ≡ join (page_pieces name s a vs)
 page-pieces name s a vs = four name (text ": ") (answer_of a vs) (bad_text s a vs)
 
+pub page-long : (name s : List ℕ) (a : ℕ) (vs : List ℕ) → length (page_text name s a vs)
+    ≡ length name + 2 + length (answer_of a vs) + length (bad_text s a vs)
+page-long name s a vs = four-long name (text ": ") (answer_of a vs) (bad_text s a vs)
+
 pub page-room : (name s : List ℕ) (a : Answer) → length name ≤ longest_name → length s ≤ longest_page
     → length (page_text name s (number a) (values a)) ≤ page_text_room
 page-room name s a h k =

@@ -167,6 +167,12 @@ module _ (a b c d e f g : List ℕ) where
 pub request-pieces : (n : ℕ) (l : List ℕ) (a : ℕ) (vs : List ℕ) → request_text n l a vs ≡ join (request_pieces n l a vs)
 request-pieces n l a vs = seven (decimal n) (text ": ") (shown_request l) (text " -> ") (answer_text a vs) (refusal a) (10 ∷ [])
 
+pub request-long : (n : ℕ) (l : List ℕ) (a : ℕ) (vs : List ℕ) → length (request_text n l a vs)
+    ≡ length (decimal n) + 2 + length (shown_request l) + 4 + length (answer_text a vs) + length (refusal a) + 1
+request-long n l a vs = seven-long (decimal n) (text ": ") (shown_request l) (text " -> ") (answer_text a vs) (refusal a) (10 ∷ [])
+
+pub ruleset request_put = (request-long, append_assoc, length-append)
+
 pub request-room : (n : ℕ) (l : List ℕ) (a : Answer) → length (request_text n l (number a) (values a)) ≤ request_room
 request-room n l a =
     omega (

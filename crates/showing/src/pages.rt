@@ -4,7 +4,7 @@ ghost use Rattle.text.specs.Lines.{lines_of};
 ghost use Rattle.rules.specs.Answers.{number, values};
 ghost use Rattle.tables.specs.Calls.{told};
 ghost use Rattle.transcripts.specs.Listing.{answered};
-ghost use Rattle.showing.specs.Showing.{line_of_number, page_text, page_shown, longest_name, longest_page};
+ghost use Rattle.showing.specs.Showing.{line_of_number, page_text, page_shown};
 ghost use Rattle.showing.specs.Inner.{bad_text, read_shown, page_text_room};
 
 use super::hand_over;
@@ -55,19 +55,16 @@ fn put_bad(out: &mut ArrayVec<u8, PAGE_TEXT>, s: &[u8], answer: Answer)
 }
 
 // `NAME: answer=a,value=v`, and behind 15 the line.
-fn page_bytes(name: &[u8], s: &[u8], answer: Answer) -> ArrayVec<u8, PAGE_TEXT>
-    requires name_len_bound { length name.now ≤ longest_name }
-    requires s_len_bound { length s.now ≤ longest_page }
-    ensures { result.items ≡ page_text name.now s.now (number answer) (values answer) }
+fn put_page_text(out: &mut ArrayVec<u8, PAGE_TEXT>, name: &[u8], s: &[u8], answer: Answer)
+    requires { length out.old.items + length (page_text name.now s.now (number answer) (values answer)) ≤ page_text_room }
+    ensures { out.new.items ≡ out.old.items ++ page_text name.now s.now (number answer) (values answer) }
 {
-    let mut out = ArrayVec::new();
-    put_bytes(&mut out, name);
-    put_bytes(&mut out, b": ");
+    put_bytes(out, name);
+    put_bytes(out, b": ");
     let mut printed = [0u8; LONGEST_ANSWER];
     let n = console::print_answer(answer, &mut printed);
-    put_bytes(&mut out, &printed[..n]);
-    put_bad(&mut out, s, answer);
-    out
+    put_bytes(out, &printed[..n]);
+    put_bad(out, s, answer);
 }
 
 // A page that was read: what its reading comes to, and the answer of what is shown of it.
@@ -85,7 +82,8 @@ fn show_read(name: &[u8], page: &[u8], read: Answer, out: &mut [u8]) -> Answer
     if LONGEST_NAME < name.len() || LONGEST_PAGE < page.len() {
         return Answer::NotAllowed;
     }
-    let shown = page_bytes(name, page, read);
+    let mut shown = ArrayVec::<u8, PAGE_TEXT>::new();
+    put_page_text(&mut shown, name, page, read);
     hand_over(shown.as_slice(), out)
 }
 

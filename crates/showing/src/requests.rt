@@ -87,19 +87,18 @@ fn put_answer(out: &mut ArrayVec<u8, REQUEST_ROOM>, answer: Answer)
 }
 
 // `N: LINE -> answer=a,value=v`
-#[tactic(auto, using(crate::proofs::RequestLaws::request))]
-fn request_line(count: u64, line: &[u8], answer: Answer) -> ArrayVec<u8, REQUEST_ROOM>
-    ensures { result.items ≡ request_text count line.now (number answer) (values answer) }
+#[tactic(auto, using(crate::proofs::RequestLaws::request_put))]
+fn put_request(out: &mut ArrayVec<u8, REQUEST_ROOM>, count: u64, line: &[u8], answer: Answer)
+    requires { length out.old.items + length (request_text count line.now (number answer) (values answer)) ≤ request_room }
+    ensures { out.new.items ≡ out.old.items ++ request_text count line.now (number answer) (values answer) }
 {
-    let mut out = ArrayVec::new();
-    put_number(&mut out, count);
-    put_bytes(&mut out, b": ");
-    put_line(&mut out, line);
-    put_bytes(&mut out, b" -> ");
-    put_answer(&mut out, answer);
-    put_refusal(&mut out, answer);
+    put_number(out, count);
+    put_bytes(out, b": ");
+    put_line(out, line);
+    put_bytes(out, b" -> ");
+    put_answer(out, answer);
+    put_refusal(out, answer);
     out.push(b'\n');
-    out
 }
 
 // Obeys a request line, and puts what is shown for it at the front of `out`: 0 and how many bytes, or 12 and how many are needed. Then
@@ -109,7 +108,8 @@ pub fn show_request(tables: Tables, count: u64, line: &[u8], out: &mut [u8]) -> 
 {
     let mut space = [0u8; PAGE_ROOM];
     let outcome = console::key_line(tables, line, &mut space);
-    let shown = request_line(count, line, outcome.answer);
+    let mut shown = ArrayVec::<u8, REQUEST_ROOM>::new();
+    put_request(&mut shown, count, line, outcome.answer);
     let n = shown.len();
     if out.len() < n {
         return Outcome {

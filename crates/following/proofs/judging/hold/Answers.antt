@@ -4,6 +4,7 @@ use mathlib.Core.Path.{◌≡◌, sym, ap, ◌∙◌}
 use mathlib.Core.Logic.{◌≢◌}
 use mathlib.Core.Bool.{true, false}
 use borrow.Author.Rules.{rules}
+use lib.ListN.{length}
 use Rattle.tables.specs.Tables.{plain}
 use Rattle.tables.specs.Calls.{Result}
 use Rattle.page.specs.Page.{page}
@@ -24,17 +25,20 @@ returns-then-number_of-ne0 c =
     (ap (λ (x : Result). x.values) told))
     ∙ sym (ap briefly (held-not c.args.tables next n))
 
-pub page_of-page-requires : goal.page_of-page-requires
-page_of-page-requires c =
+pub put_lines-requires : goal.put_lines-requires
+put_lines-requires c =
+    let fits =
     can-page c.args.tables (record { programs = search rules; links = search rules; holders = search rules; resources = search rules })
     c.requires
+    in
+    (omega arith, (fits.tracks, (fits.numbers, omega (arith, fits.room, ap length c.new-written.ensures))))
 
 pub returns-then-rest_is : goal.returns-then-rest_is
 returns-then-rest_is c =
     let t = c.args.tables in
     let next = c.args.next.now in
     let number : (reading next).number ≡ c.number_of.result = sym (c.number_of.ensures ∙ ap (λ (r : Result). r.number) c.read_page-given.ensures) in
-    let same = page_alike t next _ _ true (c.as_slice.ensures.value ∙ c.page_of-page.ensures) c.rest_is.ensures c.if-rest_is.true in
+    let same = page_alike t next _ _ true (c.as_slice.ensures.value ∙ (rw c.new-written.ensures at c.put_lines.ensures)) c.rest_is.ensures c.if-rest_is.true in
     sym (ap briefly (held-is t next (omega (arith, number, c.if-number_of-ne0.false)) ∙ compared_same (page (plain t)) next same))
 
 pub returns : goal.returns
@@ -42,5 +46,5 @@ returns c =
     let t = c.args.tables in
     let next = c.args.next.now in
     let number : (reading next).number ≡ c.number_of.result = sym (c.number_of.ensures ∙ ap (λ (r : Result). r.number) c.read_page-given.ensures) in
-    let same = page_alike t next _ _ false (c.as_slice.ensures.value ∙ c.page_of-page.ensures) c.rest_is.ensures c.if-rest_is.false in
+    let same = page_alike t next _ _ false (c.as_slice.ensures.value ∙ (rw c.new-written.ensures at c.put_lines.ensures)) c.rest_is.ensures c.if-rest_is.false in
     sym (ap briefly (held-is t next (omega (arith, number, c.if-number_of-ne0.false)) ∙ compared-other (page (plain t)) next same))
