@@ -1,6 +1,7 @@
 // What the program shows, on standard output.
-ghost use Rattle.std.specs.Prelude.{◌≡◌, OnOk};
+ghost use Rattle.std.specs.Prelude.{◌≡◌, [], false, OnOk};
 ghost use Rattle.rules.specs.Answers.{number};
+ghost use Rattle.streams.specs.Gathered.{waits};
 
 use super::arguments::{Source, Unread};
 use rules::Answer;
@@ -53,10 +54,14 @@ impl Screen {
         self.output.put(&self.shown[..n])
     }
 
-    fn stop(&self) -> Stopped {
+    // Says so. What waits is given up.
+    fn stop(&mut self) -> Stopped
+        ensures empty { waits self.new.output ≡ [] }
+        ensures closed { self.new.output.outlet.is_open ≡ false }
+    {
         let rt = self.rt();
         let _ = eprintln!(rt; "follow: output stopped: it does not fit its room");
-        Stopped
+        self.output.stop()
     }
 
     /// The name of a file, and what is said of it.
