@@ -65,13 +65,14 @@ impl Screen {
     }
 
     /// The name of a file, and what is said of it.
-    pub fn put_of(&mut self, source: &Source, what: &[u8]) -> Result<(), Stopped> {
-        self.output.put(source.name())?;
+    pub fn put_of(&mut self, source: Source, what: &[u8]) -> Result<(), Stopped> {
+        let name = source.name(&self.rt());
+        self.output.put(name.as_slice())?;
         self.output.put(what)
     }
 
     /// That a file is not read, and why.
-    pub fn put_unread(&mut self, source: &Source, why: &Unread) -> Result<(), Stopped> {
+    pub fn put_unread(&mut self, source: Source, why: &Unread) -> Result<(), Stopped> {
         if let Unread::LongPage = why {
             return self.put_of(source, b": longer than 65536 bytes\n");
         }
