@@ -39,7 +39,7 @@ fn read_argument(
     let name = take_argument(rt, i, called)?;
     match read_file(rt, &name, room) {
         Ok(n) => Ok(n),
-        Err(reason) => Err(refuse(rt, name.into_shown().as_slice(), &reason)),
+        Err(reason) => Err(refuse(rt, name.as_slice(), &reason)),
     }
 }
 

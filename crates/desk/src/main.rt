@@ -17,6 +17,7 @@ fn list_lines(rt: &HostRuntime, original: &mut [u8], copy: &mut [u8]) -> Result<
 }
 
 // The occurrence that is asked for, from argument 4. More than 19 digits may not fit a u64.
+#[inline(never)]
 fn take_occurrence(rt: &HostRuntime) -> Result<u64, Stopped> {
     let argument = files::take_argument(rt, 4, "OCCURRENCE")?;
     match text::read_number(argument.as_slice(), 19) {

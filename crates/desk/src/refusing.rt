@@ -1,7 +1,11 @@
 // One line on standard error, where nothing is printed.
+use arrayvec::ArrayVec;
 use std::io::Write;
 use std::{fmt, io};
-use streams::{ReadError, Stopped};
+use streams::{LONGEST_ARGUMENT, ReadError, Stopped};
+
+// The bytes of `desk: `, of the longest name, and of what is said of it.
+const LINE: usize = 6 + LONGEST_ARGUMENT + 64;
 
 /// What is wrong with an argument, or with the file that it names.
 #[derive(Drop)]
@@ -44,14 +48,21 @@ impl fmt::Display for Reason {
     }
 }
 
-/// Says what is wrong with what is shown by this name.
+/// Says what is wrong with what this names, in one write; why a call of the system failed, in a second.
 pub fn refuse(rt: &HostRuntime, name: &[u8], reason: &Reason) -> Stopped {
-    let _ = eprint!(rt; "desk: ");
-    let _ = rt.stderr().write_all(name);
+    let mut line = ArrayVec::<u8, LINE>::new();
+    let _ = line.write_all(b"desk: ");
+    for b in name {
+        let _ = line.write_all(&[streams::shown(*b)]);
+    }
     match reason {
-        Reason::Failed(error) => streams::say_why(rt, error),
+        Reason::Failed(error) => {
+            let _ = rt.stderr().write_all(line.as_slice());
+            streams::say_why(rt, &"", error);
+        }
         other => {
-            let _ = eprintln!(rt; ": {other}");
+            let _ = writeln!(line, ": {other}");
+            let _ = rt.stderr().write_all(line.as_slice());
         }
     }
     Stopped

@@ -1,7 +1,8 @@
 // What is printed: the lines that are listed, or the line that was found.
-ghost use Rattle.std.specs.Prelude.{◌≡◌, ◌≤◌, length};
+ghost use Rattle.std.specs.Prelude.{◌≡◌, ◌≤◌, [], false, length};
 ghost use Rattle.std.proofs.Math.Seq.{slice};
 ghost use Rattle.console.specs.Sheet.{line_end};
+ghost use Rattle.streams.specs.Gathered.{waits};
 
 use super::refusing::stop;
 use console::LONGEST_ANSWER;
@@ -66,11 +67,20 @@ fn put_listed(
     put_pair(output, number, bytes, line_at(copy, other))
 }
 
-fn wrong_list(output: &Output<Stdout>) -> Stopped {
-    stop(
-        &output.outlet.rt,
-        "the list of lines that differ is not right",
-    )
+// Says why no more lines are printed. Those that wait are given up.
+fn stop_list(output: &mut Output<Stdout>, why: &str) -> Stopped
+    ensures empty { waits output.new ≡ [] }
+    ensures closed { output.new.outlet.is_open ≡ false }
+{
+    stop(&output.outlet.rt, why);
+    output.stop()
+}
+
+fn wrong_list(output: &mut Output<Stdout>) -> Stopped
+    ensures empty { waits output.new ≡ [] }
+    ensures closed { output.new.outlet.is_open ≡ false }
+{
+    stop_list(output, "the list of lines that differ is not right")
 }
 
 /// Prints the lines of the original whose counterpart in the copy differs or is missing, and how many they are. By the list's contract it
@@ -83,7 +93,7 @@ pub fn show_list(
 ) -> Result<(), Stopped> {
     let answer = transcripts::list_figures(original, copy, list);
     let Answer::Done(many) = answer else {
-        return Err(stop(&output.outlet.rt, "more than 65536 lines differ"));
+        return Err(stop_list(output, "more than 65536 lines differ"));
     };
     let Some(listed) = list.get(..(many as usize).saturating_mul(3)) else {
         return Err(wrong_list(output));

@@ -1,7 +1,5 @@
 // The files that arguments name. The system gets a name as it was given; it is shown with no byte that would end the line, or move about
 // on the terminal.
-ghost use Rattle.std.specs.Prelude.{◌≤◌, length};
-
 use arrayvec::ArrayVec;
 use std::fs::File;
 use std::io;
@@ -34,32 +32,24 @@ impl From<ReadError> for Unread {
     }
 }
 
-/// A file that an argument names, and the name as it is shown.
-#[derive(Drop)]
+/// The file that an argument names. Callers know that the argument is there, so it can only be too long. Its name is taken where it is
+/// used: kept beside the buffers, it would be room on the stack all the while.
+#[derive(Clone, Copy)]
 pub struct Source {
-    index: usize,
-    shown: Argument,
+    pub argument: usize,
 }
 
 impl Source {
-    /// The file that argument i names. Callers know that the argument is there, so it can only be too long.
-    pub fn new(rt: &HostRuntime, i: usize) -> Source {
-        let shown = match Argument::take(rt, i) {
-            Some(name) => name.into_shown(),
-            None => place_of(i),
-        };
-        Source { index: i, shown }
-    }
-
     /// The name as it is shown; of one that is too long, which argument it is.
-    pub fn name(&self) -> &[u8]
-        ensures { length result.now ≤ 4095 }
-    {
-        self.shown.as_slice()
+    pub fn name(self, rt: &HostRuntime) -> Argument {
+        match Argument::take(rt, self.argument) {
+            Some(name) => name.into_shown(),
+            None => place_of(self.argument),
+        }
     }
 
-    pub fn open(&self, rt: &HostRuntime) -> Result<File, Unread> {
-        let Some(name) = Argument::take(rt, self.index) else {
+    pub fn open(self, rt: &HostRuntime) -> Result<File, Unread> {
+        let Some(name) = Argument::take(rt, self.argument) else {
             return Err(Unread::LongName);
         };
         let Ok(path) = str::from_utf8(name.as_slice()) else {

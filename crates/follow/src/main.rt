@@ -15,12 +15,8 @@ use streams::Stopped;
 use tables::Tables;
 
 // Shows the page that argument 1 names, and answers its tables, if it is one.
-fn show_first(
-    rt: &HostRuntime,
-    screen: &mut Screen,
-    room: &mut [u8],
-) -> Result<Option<Tables>, Stopped> {
-    let page = pages::show(screen, &Source::new(rt, 1), room)?;
+fn show_first(screen: &mut Screen, room: &mut [u8]) -> Result<Option<Tables>, Stopped> {
+    let page = pages::show(screen, Source { argument: 1 }, room)?;
     Ok(page.map(|page| page.tables))
 }
 
@@ -33,11 +29,13 @@ fn run(rt: &HostRuntime, screen: &mut Screen, room: &mut [u8; pages::ROOM]) -> R
             .put(b"usage: follow FIRST.page [REQUESTS NEXT.page ...]\n")?;
         return screen.output.finish();
     }
-    let mut tables = show_first(rt, screen, room)?;
+    let mut tables = show_first(screen, room)?;
     for step in 1..count / 2 {
-        let requests = Source::new(rt, 2 * step);
-        let next = Source::new(rt, 2 * step + 1);
-        tables = steps::take_step(screen, &requests, &next, tables, room)?;
+        let requests = Source { argument: 2 * step };
+        let next = Source {
+            argument: 2 * step + 1,
+        };
+        tables = steps::take_step(screen, requests, next, &tables, room)?;
     }
     screen.output.finish()
 }

@@ -30,13 +30,13 @@ pub struct Passed {
 }
 
 // Says at a terminal how far a file is keyed in.
-fn tell_progress(rt: &HostRuntime, source: &Source, count: u64) {
+fn tell_progress(rt: &HostRuntime, source: Source, count: u64) {
     let mut terminal = rt.stderr();
     if count % MANY != 0 || !terminal.is_terminal() {
         return;
     }
     let _ = eprint!(rt; "follow: ");
-    let _ = terminal.write_all(source.name());
+    let _ = terminal.write_all(source.name(rt).as_slice());
     let _ = eprintln!(rt; ": {count} lines");
 }
 
@@ -44,7 +44,7 @@ fn tell_progress(rt: &HostRuntime, source: &Source, count: u64) {
 // the output stops, too.
 fn key_line(
     screen: &mut Screen,
-    source: &Source,
+    source: Source,
     keying: Keying,
     line: &[u8],
 ) -> Result<Keying, Stopped>
@@ -64,7 +64,7 @@ fn key_line(
 // Keys in the lines that end in the block.
 fn key_block(
     screen: &mut Screen,
-    source: &Source,
+    source: Source,
     begun: Keying,
     block: &[u8],
 ) -> Result<Passed, Stopped>
@@ -87,7 +87,7 @@ fn key_block(
 // Keys in the lines that end in the first `end` bytes of the block. What is left of these goes to the front.
 fn pass_block(
     screen: &mut Screen,
-    source: &Source,
+    source: Source,
     begun: Keying,
     end: usize,
     block: &mut [u8],
@@ -106,7 +106,7 @@ fn pass_block(
 // run does.
 fn key_file(
     screen: &mut Screen,
-    source: &Source,
+    source: Source,
     file: &mut File,
     tables: Tables,
     block: &mut [u8],
@@ -139,13 +139,14 @@ fn key_file(
 
 /// Keys in a file, from the tables of the page before it, and answers the tables behind its last line; or says why it could not be keyed in
 /// whole.
+#[inline(never)]
 pub fn key_in(
     screen: &mut Screen,
-    source: &Source,
-    first: Option<Tables>,
+    source: Source,
+    first: &Option<Tables>,
     room: &mut [u8; ROOM],
 ) -> Result<Option<Tables>, Stopped> {
-    let Some(tables) = first else {
+    let Some(tables) = *first else {
         screen.put_of(source, b": not keyed in, without a first page\n")?;
         return Ok(None);
     };

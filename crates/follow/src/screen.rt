@@ -1,6 +1,7 @@
 // What the program shows, on standard output.
-ghost use Rattle.std.specs.Prelude.{◌≡◌, OnOk};
+ghost use Rattle.std.specs.Prelude.{◌≡◌, [], false, OnOk};
 ghost use Rattle.rules.specs.Answers.{number};
+ghost use Rattle.streams.specs.Gathered.{waits};
 
 use super::arguments::{Source, Unread};
 use rules::Answer;
@@ -53,20 +54,25 @@ impl Screen {
         self.output.put(&self.shown[..n])
     }
 
-    fn stop(&self) -> Stopped {
+    // Says so. What waits is given up.
+    fn stop(&mut self) -> Stopped
+        ensures empty { waits self.new.output ≡ [] }
+        ensures closed { self.new.output.outlet.is_open ≡ false }
+    {
         let rt = self.rt();
         let _ = eprintln!(rt; "follow: output stopped: it does not fit its room");
-        Stopped
+        self.output.stop()
     }
 
     /// The name of a file, and what is said of it.
-    pub fn put_of(&mut self, source: &Source, what: &[u8]) -> Result<(), Stopped> {
-        self.output.put(source.name())?;
+    pub fn put_of(&mut self, source: Source, what: &[u8]) -> Result<(), Stopped> {
+        let name = source.name(&self.rt());
+        self.output.put(name.as_slice())?;
         self.output.put(what)
     }
 
     /// That a file is not read, and why.
-    pub fn put_unread(&mut self, source: &Source, why: &Unread) -> Result<(), Stopped> {
+    pub fn put_unread(&mut self, source: Source, why: &Unread) -> Result<(), Stopped> {
         if let Unread::LongPage = why {
             return self.put_of(source, b": longer than 65536 bytes\n");
         }

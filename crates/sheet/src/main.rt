@@ -69,8 +69,7 @@ fn read_input(rt: &HostRuntime, block: &mut [u8]) -> Result<usize, Stopped>
     match streams::read_some(rt, &mut rt.stdin(), block) {
         Ok(n) => Ok(n),
         Err(error) => {
-            let _ = eprint!(rt; "sheet: input stopped");
-            streams::say_why(rt, &error);
+            streams::say_why(rt, &"sheet: input stopped", &error);
             Err(Stopped)
         }
     }

@@ -70,12 +70,13 @@ impl<W: Write> Outlet<W> {
 }
 
 fn say_stopped(rt: &HostRuntime, program: &str, error: &WriteError) {
-    let _ = eprint!(rt; "{program}: output stopped");
     match error {
         WriteError::NoByte => {
-            let _ = eprintln!(rt; ": a write took no byte");
+            let _ = eprintln!(rt; "{program}: output stopped: a write took no byte");
         }
-        WriteError::Failed(error) => say_why(rt, error),
+        WriteError::Failed(error) => {
+            say_why(rt, &format_args!("{program}: output stopped"), error)
+        }
     }
 }
 
@@ -150,7 +151,26 @@ impl<W: Write> Output<W> {
         ensures closed { self.old.outlet.is_open ≡ false → IsErr result × (self.new.outlet.to ≡ self.old.outlet.to) }
     {
         self.outlet.write(&self.buffer[..self.count])?;
-        self.count = 0;
+        self.clear();
         Ok(())
+    }
+
+    /// Gives up what waits: nothing goes out any more.
+    pub fn stop(&mut self) -> Stopped
+        ensures empty { waits self.new ≡ [] }
+        ensures closed { self.new.outlet.is_open ≡ false }
+        ensures to { self.new.outlet.to ≡ self.old.outlet.to }
+    {
+        self.clear();
+        self.outlet.is_open = false;
+        Stopped
+    }
+
+    // Nothing waits any more.
+    fn clear(&mut self)
+        ensures empty { waits self.new ≡ [] }
+        ensures outlet { self.new.outlet ≡ self.old.outlet }
+    {
+        self.count = 0;
     }
 }

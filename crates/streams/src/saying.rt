@@ -2,7 +2,7 @@
 ghost use Rattle.std.specs.Prelude.{length};
 ghost use Rattle.std.specs.Io.{StartsWith};
 
-use std::io;
+use std::{fmt, io};
 
 /// What is said of an error, without the number that the library puts behind the system's words.
 pub fn without_number(said: &str) -> &str
@@ -14,12 +14,12 @@ pub fn without_number(said: &str) -> &str
     }
 }
 
-/// Ends a line of standard error with why something failed.
-pub fn say_why(rt: &HostRuntime, error: &io::Error) {
+/// Says on standard error what failed, and behind it why: both go out in one write.
+pub fn say_why(rt: &HostRuntime, what: &impl fmt::Display, error: &io::Error) {
     let Ok(said) = format!(in rt.alloc(); "{error}") else {
-        let _ = eprintln!(rt; ": {error}");
+        let _ = eprintln!(rt; "{what}: {error}");
         return;
     };
     let why = without_number(said.as_str());
-    let _ = eprintln!(rt; ": {why}");
+    let _ = eprintln!(rt; "{what}: {why}");
 }

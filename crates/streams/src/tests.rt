@@ -179,6 +179,16 @@ fn nothing_is_written_after_a_write_that_failed(rt: HostRuntime) {
 }
 
 #[test]
+fn what_waits_is_given_up(rt: HostRuntime) {
+    let mut output = Output::new(Outlet::new(&rt, "test", Narrow::new(9, Full::Fails)));
+    assert!(rt; output.put(&[1, 2]).is_ok());
+    assert!(rt; output.stop() == Stopped);
+    assert!(rt; output.put(&[4]).is_err());
+    assert!(rt; output.finish().is_err());
+    assert!(rt; output.outlet.to.turn == 0);
+}
+
+#[test]
 fn a_piece_that_is_longer_than_the_buffer_goes_out(rt: HostRuntime) {
     let mut output = Output::new(Outlet::new(&rt, "test", Narrow::new(3, Full::TakesNone)));
     assert!(rt; output.put(&[5]).is_ok());
@@ -197,8 +207,7 @@ fn the_number_of_an_error_is_left_out(rt: HostRuntime) {
 
 #[test]
 fn an_error_is_said(rt: HostRuntime) {
-    let _ = eprint!(rt; "test");
-    say_why(&rt, &io::Error::from_raw_os_error(2));
+    say_why(&rt, &"test", &io::Error::from_raw_os_error(2));
 }
 
 #[test]
