@@ -174,7 +174,6 @@ fn count_of(why: Why) -> u16
 }
 
 #[tactic(auto, unfolding(crate::specs::Packed::pack_program))]
-#[inline(always)]
 fn put_program<const N: usize>(out: &mut ArrayVec<u8, N>, r: &Program)
     requires { length out.old.items + 29 ≤ N }
     ensures items { out.new.items ≡ out.old.items ++ pack_program r.now }
@@ -213,7 +212,6 @@ fn put_resources<const N: usize>(out: &mut ArrayVec<u8, N>, resources: &[Resourc
 
 // The tables in 1,271 bytes.
 #[tactic(auto, unfolding(crate::specs::Packed::packed))]
-#[inline(always)]
 pub fn pack(tables: &Tables) -> ArrayVec<u8, PACKED_LENGTH>
     ensures items { result.items ≡ packed tables.now }
     ensures len { length result.items ≡ packed_length }
